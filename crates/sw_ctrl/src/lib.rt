@@ -1,0 +1,37 @@
+//! Control bytes: one byte for each slot of a hash table, compared sixteen at a time.
+//!
+//! The bytes of a table stand in one row, apart from its slots, so that a look-up reads sixteen of
+//! them before it reads any key:
+//!
+//! ```text
+//! group 0             group 1             ..
+//! byte 0 .. byte 15   byte 16 .. byte 31  ..
+//! ```
+//!
+//! | Byte | The slot |
+//! |---|---|
+//! | `1000_0000` | is empty, and no look-up goes past its group ([`EMPTY`]) |
+//! | `1111_1110` | is deleted: free, but look-ups go on past it ([`DELETED`]) |
+//! | `0hhh_hhhh` | is full, and `hhh_hhhh` are the seven low bits of its key's hash |
+//!
+//! The top bit alone tells full from free, so a comparison with a byte of seven bits never takes a
+//! free slot for a match.
+//!
+//! - [`Ctrl`] is the row: contracts see it as the list of its bytes. Its length is a multiple of
+//!   sixteen, and each of its bytes is one of the three forms above.
+//! - [`Group`] is sixteen bytes in a register: contracts see it as the list of these bytes.
+//! - [`Mask16`] is the answer of a comparison: contracts see it as a list of sixteen truth values,
+//!   the one of the first byte first.
+//!
+//! The contract above the crate: a mask is set exactly where the byte is what was asked for.
+#![tactic(auto)]
+
+mod control;
+mod group;
+mod mask;
+mod row;
+
+pub use control::{DELETED, EMPTY};
+pub use group::Group;
+pub use mask::Mask16;
+pub use row::Ctrl;

@@ -1,0 +1,34 @@
+-- Which group comes when.
+use Rattle.std.specs.Prelude.{◌≡◌, ◌≢◌, ℕ, ◌+◌, ◌*◌, ◌/◌, ◌%◌, ◌^◌, ◌<◌}
+
+-- a power of two, at most 2 ^ 24: these are the numbers that divide 2 ^ 24
+abbrev pub IsGroupCount : ℕ → Type 0
+IsGroupCount groups = 2 ^ 24 % groups ≡ 0
+
+-- 0, 1, 3, 6, 10, ..: the sum of the numbers up to i
+unfoldable pub triangle : ℕ → ℕ
+triangle i = i * (i + 1) / 2
+
+-- the group at step i of a walk
+unfoldable pub group_number : ℕ → ℕ → ℕ → ℕ
+group_number start groups i = (start + triangle i) % groups
+
+-- a walk that stands at its step `index`
+pub record Walk : Type 0 where
+  pub start : ℕ
+  pub groups : ℕ
+  pub index : ℕ
+
+abbrev pub group_of : Walk → ℕ
+group_of w = group_number w.start w.groups w.index
+
+abbrev pub moved : Walk → Walk
+moved w = record w { index = w.index + 1 }
+
+-- two different steps have different groups
+abbrev pub VisitsOnce : ℕ → ℕ → Type 0
+VisitsOnce start groups = (i j : ℕ) → i < groups → j < groups → i ≢ j → group_number start groups i ≢ group_number start groups j
+
+-- each group is that of some step
+abbrev pub VisitsAll : ℕ → ℕ → Type 0
+VisitsAll start groups = (group : ℕ) → group < groups → (i : ℕ) × (i < groups) × (group_number start groups i ≡ group)

@@ -1,0 +1,63 @@
+//! Keys by their classes, the values that name them, and their hashes.
+ghost use Rattle.std.specs.Prelude.{◌≡◌, ◌↔◌, ℕ, IsTrue, List, fold};
+
+/// A step of a fold over bytes: a function of its own value, what was folded so far and a byte.
+pub trait Step {
+    ghost next: { Self → ℕ → ℕ → ℕ };
+
+    fn step(&self, acc: u64, byte: u8) -> u64
+        ensures { result ≡ next self.now acc byte };
+}
+
+/// A type of keys. Two keys are the same where their classes are equal.
+///
+/// `class` writes the class of a key as a list of numbers, and `bytes` are the bytes to hash of a
+/// class.
+pub trait Keyed {
+    ghost class: { Self → List ℕ };
+
+    ghost bytes: { List ℕ → List ℕ };
+
+    /// Whether the two keys are the same.
+    fn same_key(&self, key: &Self) -> bool
+        ensures { IsTrue result ↔ (class self.now ≡ class key.now) };
+
+    /// Folds the step over the key's bytes, the first byte first.
+    fn fold_key<F: Step>(&self, start: u64, f: &F) -> u64
+        ensures { result ≡ fold (F.next f.now) start (bytes (class self.now)) };
+}
+
+/// A value that names a class of keys: a key, or a borrowed form of one.
+pub trait Names<K: Keyed> {
+    ghost named: { Self → List ℕ };
+
+    /// Whether the key belongs to the class that is named.
+    fn same(&self, key: &K) -> bool
+        ensures { IsTrue result ↔ (named self.now ≡ K.class key.now) };
+
+    /// Folds the step over the bytes of the class, the first byte first.
+    fn fold<F: Step>(&self, start: u64, f: &F) -> u64
+        ensures { result ≡ fold (F.next f.now) start (K.bytes (named self.now)) };
+}
+
+impl<K: Keyed> Names<K> for K {
+    ghost named = { K.class };
+
+    #[inline]
+    fn same(&self, key: &K) -> bool {
+        self.same_key(key)
+    }
+
+    #[inline]
+    fn fold<F: Step>(&self, start: u64, f: &F) -> u64 {
+        self.fold_key(start, f)
+    }
+}
+
+/// A hash of keys: a function of the hasher's value and of the bytes of the class.
+pub trait KeyHash<K: Keyed> {
+    ghost hash_of: { Self → List ℕ → ℕ };
+
+    fn hash<Q: Names<K>>(&self, key: &Q) -> u64
+        ensures { result ≡ hash_of self.now (K.bytes (Q.named key.now)) };
+}

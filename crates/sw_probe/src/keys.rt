@@ -1,0 +1,68 @@
+//! Numbers and byte strings as keys.
+ghost use Rattle.std.specs.Prelude.{◌≡◌, ℕ, List, fold};
+ghost use Rattle.std.specs.Int.{bytes_high_first};
+
+use crate::keyed::{Keyed, Names, Step};
+
+/// A number is the key of its eight bytes, the highest first.
+impl Keyed for u64 {
+    ghost class = { bytes_high_first 8 };
+
+    ghost bytes = { λ bytes. bytes };
+
+    #[inline]
+    fn same_key(&self, key: &u64) -> bool {
+        *self == *key
+    }
+
+    #[inline]
+    fn fold_key<F: Step>(&self, start: u64, f: &F) -> u64 {
+        fold_bytes(&self.to_be_bytes(), start, f)
+    }
+}
+
+/// A byte string is the key of its bytes.
+impl Keyed for Vec<u8> {
+    ghost class = { λ key. key.items };
+
+    ghost bytes = { λ bytes. bytes };
+
+    #[inline]
+    fn same_key(&self, key: &Vec<u8>) -> bool {
+        self.as_slice() == key.as_slice()
+    }
+
+    #[inline]
+    fn fold_key<F: Step>(&self, start: u64, f: &F) -> u64 {
+        fold_bytes(self.as_slice(), start, f)
+    }
+}
+
+/// A byte string as a borrowed key: it names the same class as the `Vec<u8>` of these bytes.
+#[derive(Clone, Copy)]
+pub struct ByteKey<'a>(pub &'a [u8]);
+
+impl Names<Vec<u8>> for ByteKey<'_> {
+    ghost named = { λ key. key.0.now };
+
+    #[inline]
+    fn same(&self, key: &Vec<u8>) -> bool {
+        self.0 == key.as_slice()
+    }
+
+    #[inline]
+    fn fold<F: Step>(&self, start: u64, f: &F) -> u64 {
+        fold_bytes(self.0, start, f)
+    }
+}
+
+#[inline]
+fn fold_bytes<F: Step>(bytes: &[u8], start: u64, f: &F) -> u64
+    ensures { result ≡ fold (F.next f.now) start bytes.now }
+{
+    let mut acc = start;
+    for byte in bytes {
+        acc = f.step(acc, *byte);
+    }
+    acc
+}
