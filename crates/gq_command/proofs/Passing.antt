@@ -1,0 +1,155 @@
+-- Lines that are passed, and the first that isn't.
+use Rattle.std.proofs.Common.{◌≡◌, ℕ, ◌+◌, Bool, true, false, cond, List, [], ◌∷◌, ◌++◌, length, Option, Some, None, refl, sym, ap, subst, ◌∙◌, arith, length-append, append_assoc}
+use Rattle.std.specs.Prelude.{IfSome}
+use Rattle.std.proofs.lemmas.List.{append-nil}
+use Rattle.std.specs.Str.{bytes_eq}
+use Rattle.std.specs.Io.KnownBytes.{Consumes, IsAtEnd}
+use Rattle.gq_row.specs.declared.limits.Bounds.{Bounds}
+use Rattle.gq_command.specs.declared.reader.Item.{Item}
+use Rattle.gq_command.specs.declared.gather.OpenLine.{OpenLine}
+use Rattle.gq_command.specs.Commands.{Bytes}
+use Rattle.gq_command.specs.Script.{Stream, Takes, raw_lines, content, is_skipped, first_entry, Passed, Counts, Plain, Entry, Loading, first_entry_by, entries_by, InOrder, payload_of, items_left, takes_payload}
+use Rattle.gq_command.specs.Gathering.{TookLine}
+use Rattle.gq_command.specs.Items.{Gave, IsReadAs}
+use Rattle.gq_command.proofs.Front.{Known}
+
+some_is : {A : Type 0} (x y : A) → Some x ≡ Some y → x ≡ y
+some_is x y e = cc
+
+-- the entries come in order
+abbrev Next : (Bytes → Bool) → List Entry → Option (Entry × List Bytes) → Type 0
+Next loads es o = elim o [ None ↦ es ≡ [] | Some x ↦ es ≡ x.0 ∷ entries_by loads None x.1 ]
+
+-- a payload that began, and what follows it
+abbrev Closed : (Bytes → Bool) → Bytes → Bytes → List Entry → Option (Bytes × List Bytes) → Type 0
+Closed loads line begun es o = elim o [ None ↦ es ≡ Loading line None ∷ [] | Some x ↦ es ≡ Loading line (Some (begun ++ x.0)) ∷ entries_by loads None x.1 ]
+
+closed : (loads : Bytes → Bool) (line begun : Bytes) (ls : List Bytes) → Closed loads line begun (entries_by loads (Some (line, begun)) ls) (payload_of ls)
+unfolding entries_by
+closed loads line begun [] = refl
+closed loads line begun (l ∷ ls) = by_mark (bytes_eq (content l) (92 ∷ 46 ∷ [])) refl (closed loads line (begun ++ l) ls)
+  where
+    by_rest : (o : Option (Bytes × List Bytes)) (es : List Entry) → Closed loads line (begun ++ l) es o → Closed loads line begun es (elim o [ None ↦ None | Some x ↦ Some (l ++ x.0, x.1) ])
+    by_rest None es h = h
+    by_rest (Some x) es h = h ∙ ap (λ (p : Bytes). Loading line (Some p) ∷ entries_by loads None x.1) (append_assoc begun l x.0)
+
+    by_mark : (b : Bool) → bytes_eq (content l) (92 ∷ 46 ∷ []) ≡ b → Closed loads line (begun ++ l) (entries_by loads (Some (line, begun ++ l)) ls) (payload_of ls)
+        → Closed loads line begun (entries_by loads (Some (line, begun)) (l ∷ ls)) (payload_of (l ∷ ls))
+    by_mark true e next =
+        let es : entries_by loads (Some (line, begun)) (l ∷ ls) ≡ Loading line (Some begun) ∷ entries_by loads None ls = ap (λ (b : Bool). cond b (Loading line (Some begun) ∷ entries_by loads None ls) (entries_by loads (Some (line, begun ++ l)) ls)) e in
+        let o : payload_of (l ∷ ls) ≡ Some ([], ls) = ap (λ (b : Bool). cond b (Some ([], ls)) (elim (payload_of ls) [ None ↦ None | Some x ↦ Some (l ++ x.0, x.1) ])) e in
+        subst (Closed loads line begun (entries_by loads (Some (line, begun)) (l ∷ ls))) (sym o) (es ∙ ap (λ (p : Bytes). Loading line (Some p) ∷ entries_by loads None ls) (sym (append-nil begun)))
+    by_mark false e next =
+        let es : entries_by loads (Some (line, begun)) (l ∷ ls) ≡ entries_by loads (Some (line, begun ++ l)) ls = ap (λ (b : Bool). cond b (Loading line (Some begun) ∷ entries_by loads None ls) (entries_by loads (Some (line, begun ++ l)) ls)) e in
+        let o : payload_of (l ∷ ls) ≡ elim (payload_of ls) [ None ↦ None | Some x ↦ Some (l ++ x.0, x.1) ] = ap (λ (b : Bool). cond b (Some ([], ls)) (elim (payload_of ls) [ None ↦ None | Some x ↦ Some (l ++ x.0, x.1) ])) e in
+        subst (Closed loads line begun (entries_by loads (Some (line, begun)) (l ∷ ls))) (sym o) (subst (λ (es : List Entry). Closed loads line begun es (elim (payload_of ls) [ None ↦ None | Some x ↦ Some (l ++ x.0, x.1) ])) (sym es) (by_rest (payload_of ls) (entries_by loads (Some (line, begun ++ l)) ls) next))
+
+abbrev firsts : (Bytes → Bool) → Bytes → List Bytes → Bool → Bool → Option (Entry × List Bytes)
+firsts loads l ls a b = cond a (first_entry_by loads ls) (cond b (elim (payload_of ls) [ None ↦ Some (Loading (content l) None, []) | Some x ↦ Some (Loading (content l) (Some x.0), x.1) ]) (Some (Plain (content l), ls)))
+
+pub in_order : InOrder
+unfolding entries_by
+in_order loads [] = refl
+in_order loads (l ∷ ls) = by_skip (is_skipped (content l)) refl (in_order loads ls)
+  where
+    by_payload : (o : Option (Bytes × List Bytes)) (es : List Entry) → Closed loads (content l) [] es o → Next loads es (elim o [ None ↦ Some (Loading (content l) None, []) | Some x ↦ Some (Loading (content l) (Some x.0), x.1) ])
+    by_payload None es h = h
+    by_payload (Some x) es h = h
+
+    by_load : (b : Bool) → loads (content l) ≡ b → is_skipped (content l) ≡ false → Next loads (entries_by loads None (l ∷ ls)) (first_entry_by loads (l ∷ ls))
+    by_load true e f =
+        let told : entries_by loads None (l ∷ ls) ≡ entries_by loads (Some (content l, [])) ls =
+        ap (λ (b : Bool). cond b (entries_by loads None ls) (cond (loads (content l)) (entries_by loads (Some (content l, [])) ls) (Plain (content l) ∷ entries_by loads None ls))) f ∙ ap (λ (b : Bool). cond b (entries_by loads (Some (content l, [])) ls) (Plain (content l) ∷ entries_by loads None ls)) e in
+        let o : first_entry_by loads (l ∷ ls) ≡ elim (payload_of ls) [ None ↦ Some (Loading (content l) None, []) | Some x ↦ Some (Loading (content l) (Some x.0), x.1) ] = ap (λ (a : Bool). firsts loads l ls a (loads (content l))) f ∙ ap (firsts loads l ls false) e in
+        subst (Next loads (entries_by loads None (l ∷ ls))) (sym o) (by_payload (payload_of ls) (entries_by loads None (l ∷ ls)) (subst (λ (es : List Entry). Closed loads (content l) [] es (payload_of ls)) (sym told) (closed loads (content l) [] ls)))
+    by_load false e f =
+        let told : entries_by loads None (l ∷ ls) ≡ Plain (content l) ∷ entries_by loads None ls =
+        ap (λ (b : Bool). cond b (entries_by loads None ls) (cond (loads (content l)) (entries_by loads (Some (content l, [])) ls) (Plain (content l) ∷ entries_by loads None ls))) f ∙ ap (λ (b : Bool). cond b (entries_by loads (Some (content l, [])) ls) (Plain (content l) ∷ entries_by loads None ls)) e in
+        let o : first_entry_by loads (l ∷ ls) ≡ Some (Plain (content l), ls) = ap (λ (a : Bool). firsts loads l ls a (loads (content l))) f ∙ ap (firsts loads l ls false) e in
+        subst (Next loads (entries_by loads None (l ∷ ls))) (sym o) told
+
+    by_skip : (b : Bool) → is_skipped (content l) ≡ b → Next loads (entries_by loads None ls) (first_entry_by loads ls) → Next loads (entries_by loads None (l ∷ ls)) (first_entry_by loads (l ∷ ls))
+    by_skip true e next =
+        let told : entries_by loads None (l ∷ ls) ≡ entries_by loads None ls = ap (λ (b : Bool). cond b (entries_by loads None ls) (cond (loads (content l)) (entries_by loads (Some (content l, [])) ls) (Plain (content l) ∷ entries_by loads None ls))) e in
+        let o : first_entry_by loads (l ∷ ls) ≡ first_entry_by loads ls = ap (λ (a : Bool). firsts loads l ls a (loads (content l))) e in
+        subst (λ (es : List Entry). Next loads es (first_entry_by loads (l ∷ ls))) (sym told) (subst (Next loads (entries_by loads None ls)) (sym o) next)
+    by_skip false e next = by_load (loads (content l)) refl e
+
+none_left : (bounds : Bounds) (ls : List Bytes) → first_entry bounds ls ≡ None → entries_by (takes_payload bounds) None ls ≡ []
+none_left bounds ls e = subst (Next (takes_payload bounds) (entries_by (takes_payload bounds) None ls)) e (in_order (takes_payload bounds) ls)
+
+next_left : (bounds : Bounds) (ls : List Bytes) (e : Entry) (rest : List Bytes) → first_entry bounds ls ≡ Some (e, rest) → entries_by (takes_payload bounds) None ls ≡ e ∷ entries_by (takes_payload bounds) None rest
+next_left bounds ls e rest h = subst (Next (takes_payload bounds) (entries_by (takes_payload bounds) None ls)) h (in_order (takes_payload bounds) ls)
+
+-- the loop that passes blank lines and comments
+
+first_skipped : (bounds : Bounds) (raw : Bytes) (ls : List Bytes) → is_skipped (content raw) ≡ true → first_entry bounds (raw ∷ ls) ≡ first_entry bounds ls
+first_skipped bounds raw ls e = ap (λ (b : Bool). cond b (first_entry bounds ls) (Some (Plain (content raw), ls))) e
+
+first_plain : (bounds : Bounds) (raw : Bytes) (ls : List Bytes) → is_skipped (content raw) ≡ false → first_entry bounds (raw ∷ ls) ≡ Some (Plain (content raw), ls)
+first_plain bounds raw ls e = ap (λ (b : Bool). cond b (first_entry bounds ls) (Some (Plain (content raw), ls))) e
+
+abbrev pub PassedBy : Bounds → Known → Known → ℕ → ℕ → Type 0
+PassedBy bounds k m g0 g1 = IfSome k (λ xs. (ys : Bytes) × (m ≡ Some ys) × (first_entry bounds (raw_lines xs) ≡ first_entry bounds (raw_lines ys)) × (g1 + length ys ≡ g0 + length xs))
+
+by_none : (bounds : Bounds) (k : Known) (g : ℕ) → PassedBy bounds k k g g
+by_none bounds None g = tt
+by_none bounds (Some xs) g = (xs, refl, refl, refl)
+
+pub passed_none : (bounds : Bounds) (s : Stream) → Passed bounds s s
+passed_none bounds s = by_none bounds s.left s.given
+
+by_line : (bounds : Bounds) (k m n : Known) (g0 g1 g2 : ℕ) (raw : Bytes) → PassedBy bounds k m g0 g1 → Consumes m n raw → g2 ≡ g1 + length raw → IfSome m (λ xs. IfSome n (λ ys. raw_lines xs ≡ raw ∷ raw_lines ys)) → is_skipped (content raw) ≡ true
+    → PassedBy bounds k n g0 g2
+by_line bounds None m n g0 g1 g2 raw h c g f e = tt
+by_line bounds (Some xs) None n g0 g1 g2 raw h c g f e = let q = h.1 in absurd cc
+by_line bounds (Some xs) (Some zs) None g0 g1 g2 raw h c g f e = absurd c
+by_line bounds (Some xs) (Some zs) (Some ws) g0 g1 g2 raw h c g f e =
+    let same : zs ≡ h.0 = some_is zs h.0 h.1 in
+    let len : length zs ≡ length raw + length ws = ap length c ∙ length-append raw ws in
+    let len1 : length zs ≡ length h.0 = ap length same in
+    let len2 : g1 + length h.0 ≡ g0 + length xs = h.3 in
+    (ws, refl, h.2 ∙ ap (λ (l : Bytes). first_entry bounds (raw_lines l)) (sym same) ∙ ap (first_entry bounds) f ∙ first_skipped bounds raw (raw_lines ws) e, omega arith)
+
+pub passed_line : (bounds : Bounds) (a b c : Stream) (line : OpenLine) (t : TookLine bounds b c line) → Passed bounds a b → is_skipped (content t.raw) ≡ true → Passed bounds a c
+passed_line bounds a b c line t h e = by_line bounds a.left b.left c.left a.given b.given c.given t.raw h t.taken.bytes_are t.taken.counted t.first e
+
+by_end : (bounds : Bounds) (k m n : Known) (g0 g1 g2 : ℕ) → PassedBy bounds k m g0 g1 → Consumes m n [] → IsAtEnd m → g2 ≡ g1 + 0 → IfSome k (λ xs. (items_left bounds xs ≡ []) × (n ≡ Some [])) × IfSome k (λ xs. IfSome n (λ ys. g2 + length ys ≡ g0 + length xs))
+by_end bounds None m n g0 g1 g2 h c e g = (tt, tt)
+by_end bounds (Some xs) None n g0 g1 g2 h c e g = let q = h.1 in absurd cc
+by_end bounds (Some xs) (Some zs) None g0 g1 g2 h c e g = absurd c
+by_end bounds (Some xs) (Some zs) (Some ws) g0 g1 g2 h c e g =
+    let same : zs ≡ h.0 = some_is zs h.0 h.1 in
+    let none : h.0 ≡ [] = sym same ∙ e in
+    let none1 : ws ≡ [] = sym c ∙ e in
+    let len1 : length ws ≡ length h.0 = ap length (sym c ∙ same) in
+    let len2 : g1 + length h.0 ≡ g0 + length xs = h.3 in
+    ((none_left bounds (raw_lines xs) (h.2 ∙ ap (λ (l : Bytes). first_entry bounds (raw_lines l)) none), ap Some none1), omega arith)
+
+pub passed_all : (bounds : Bounds) (a b c : Stream) → Passed bounds a b → Takes b c [] → IsAtEnd b.left → IfSome a.left (λ xs. (items_left bounds xs ≡ []) × (c.left ≡ Some [])) × Counts a c
+passed_all bounds a b c h t e = by_end bounds a.left b.left c.left a.given b.given c.given h t.bytes_are e t.counted
+
+by_item : (bounds : Bounds) (k m n : Known) (g0 g1 g2 : ℕ) (raw : Bytes) (it : Item) → PassedBy bounds k m g0 g1 → Consumes m n raw → g2 ≡ g1 + length raw → IfSome m (λ xs. IfSome n (λ ys. raw_lines xs ≡ raw ∷ raw_lines ys)) → is_skipped (content raw) ≡ false
+    → IsReadAs bounds (Plain (content raw)) it → IfSome k (λ xs. Gave bounds xs n it) × IfSome k (λ xs. IfSome n (λ ys. g2 + length ys ≡ g0 + length xs))
+by_item bounds None m n g0 g1 g2 raw it h c g f e i = (tt, tt)
+by_item bounds (Some xs) None n g0 g1 g2 raw it h c g f e i = let q = h.1 in absurd cc
+by_item bounds (Some xs) (Some zs) None g0 g1 g2 raw it h c g f e i = absurd c
+by_item bounds (Some xs) (Some zs) (Some ws) g0 g1 g2 raw it h c g f e i =
+    let same : zs ≡ h.0 = some_is zs h.0 h.1 in
+    let len : length zs ≡ length raw + length ws = ap length c ∙ length-append raw ws in
+    let len1 : length zs ≡ length h.0 = ap length same in
+    let len2 : g1 + length h.0 ≡ g0 + length xs = h.3 in
+    let told : first_entry bounds (raw_lines xs) ≡ Some (Plain (content raw), raw_lines ws) = h.2 ∙ ap (λ (y : Bytes). first_entry bounds (raw_lines y)) (sym same) ∙ ap (first_entry bounds) f ∙ first_plain bounds raw (raw_lines ws) e in (
+      record {
+        entry = Plain (content raw);
+        rest = ws;
+        first = told;
+        left_is = refl;
+        order = next_left bounds (raw_lines xs) (Plain (content raw)) (raw_lines ws) told;
+        reads = i;
+      },
+      omega arith,
+    )
+
+pub passed_to : (bounds : Bounds) (a b c : Stream) (line : OpenLine) (t : TookLine bounds b c line) (it : Item) → Passed bounds a b → is_skipped (content t.raw) ≡ false → IsReadAs bounds (Plain (content t.raw)) it → IfSome a.left (λ xs. Gave bounds xs c.left it) × Counts a c
+passed_to bounds a b c line t it h e i = by_item bounds a.left b.left c.left a.given b.given c.given t.raw it h t.taken.bytes_are t.taken.counted t.first e i

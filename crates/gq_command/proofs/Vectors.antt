@@ -1,0 +1,136 @@
+-- Worked lines and scripts, which the checker computes.
+use Rattle.std.proofs.Common.{◌≡◌, ℕ, zero, suc, ◌<◌, Bool, true, false, cond, List, [], ◌∷◌, ◌++◌, Option, Some, None, refl, ap, ◌∙◌, arith}
+use Rattle.std.proofs.lemmas.Bool.{ltb-true}
+use Rattle.std.proofs.lemmas.Str.{IsUtf8-from_ascii, is_utf8-from_IsUtf8}
+use Rattle.std.specs.Prelude.{codes, nat_lt, pos, neg_ℤ}
+use Rattle.std.specs.List.{list_all, slice_index}
+use Rattle.gq_row.specs.Limits.{GREATEST}
+use Rattle.gq_row.specs.declared.schema.Kind.TheVariants as kind
+use Rattle.gq_row.specs.declared.value.Value.TheVariants as value
+use Rattle.gq_command.specs.declared.token.Terminal.TheVariants as terminal
+use Rattle.gq_command.specs.declared.token.Token.{Token}
+use Rattle.gq_command.specs.declared.token.Token.TheVariants.{Fixed, Name, Number, Text}
+use Rattle.gq_command.specs.declared.command.Aggregate.TheVariants.{CountAll}
+use Rattle.gq_command.specs.declared.command.Command.{Command}
+use Rattle.gq_command.specs.declared.command.Command.TheVariants.{Create, Drop, Upsert, Group}
+use Rattle.gq_command.specs.Commands.{Bytes, phrase, is_command, fits}
+use Rattle.gq_command.specs.Lexing.{tokens, lexed, tokens_within, token_at, word_at, word, sign_at, digits_at, name_in_quotes, text_in_quotes}
+use Rattle.gq_command.specs.Lines.{Says}
+use Rattle.gq_command.specs.Script.{Plain, items, entries_by}
+use Rattle.gq_command.proofs.Again.{both_true}
+
+-- a line of ASCII is text, so its tokens are computed
+
+abbrev is_ascii : Bytes → Bool
+is_ascii = list_all (λ b. nat_lt b 128)
+
+ascii : (line : Bytes) → is_ascii line ≡ true → (i : ℕ) → slice_index line i < 128
+ascii [] h i = omega arith
+ascii (b ∷ bs) h zero = ltb-true b 128 (both_true (nat_lt b 128) (is_ascii bs) h).0
+ascii (b ∷ bs) h (suc i) = ascii bs (both_true (nat_lt b 128) (is_ascii bs) h).1 i
+
+cut : (line : Bytes) (ts : Option (List Token)) → is_ascii line ≡ true → lexed line ≡ ts → tokens line ≡ ts
+unfolding tokens
+cut line ts plain e = ap (λ (t : Bool). cond t (lexed line) None) (is_utf8-from_IsUtf8 line (IsUtf8-from_ascii line (ascii line plain))) ∙ e
+
+said : (line : Bytes) (c : Command) → is_ascii line ≡ true → lexed line ≡ Some (phrase c) → is_command c ≡ true → Says line c
+said line c plain e h = record { written = cut line (Some (phrase c)) plain e; command = h }
+
+-- commands
+
+create_line : Says (codes "create s (id int, city text, key (id))") (Create (codes "s") (record { name = codes "id"; kind = kind.Int } ∷ record { name = codes "city"; kind = kind.Text } ∷ []) (codes "id" ∷ []))
+unfolding phrase lexed tokens_within token_at word_at word sign_at digits_at name_in_quotes text_in_quotes
+create_line = said (codes "create s (id int, city text, key (id))") _ refl refl refl
+
+no_key : Says (codes "Create l(a INT)") (Create (codes "l") (record { name = codes "a"; kind = kind.Int } ∷ []) [])
+unfolding phrase lexed tokens_within token_at word_at word sign_at digits_at name_in_quotes text_in_quotes
+no_key = said (codes "Create l(a INT)") _ refl refl refl
+
+upsert_line : Says (codes "upsert s (1, 'Oslo')") (Upsert (codes "s") (value.Int (pos 1) ∷ value.Text (codes "Oslo") ∷ []))
+unfolding phrase lexed tokens_within token_at word_at word sign_at digits_at name_in_quotes text_in_quotes
+upsert_line = said (codes "upsert s (1, 'Oslo')") _ refl refl refl
+
+null_line : Says (codes "upsert s (null, 'x')") (Upsert (codes "s") (value.Null ∷ value.Text (codes "x") ∷ []))
+unfolding phrase lexed tokens_within token_at word_at word sign_at digits_at name_in_quotes text_in_quotes
+null_line = said (codes "upsert s (null, 'x')") _ refl refl refl
+
+empty_text : Says (codes "upsert t (4, '')") (Upsert (codes "t") (value.Int (pos 4) ∷ value.Text [] ∷ []))
+unfolding phrase lexed tokens_within token_at word_at word sign_at digits_at name_in_quotes text_in_quotes
+empty_text = said (codes "upsert t (4, '')") _ refl refl refl
+
+group_line : Says (codes "group s by city show count(*)") (Group (codes "s") (codes "city" ∷ []) (CountAll ∷ []) [] None [])
+unfolding phrase lexed tokens_within token_at word_at word sign_at digits_at name_in_quotes text_in_quotes
+group_line = said (codes "group s by city show count(*)") _ refl refl refl
+
+-- forms that come later say nothing yet
+not_yet : is_command (Drop (codes "s")) ≡ false
+not_yet = refl
+
+-- tokens
+
+quoted : tokens (34 ∷ codes "a" ++ (34 ∷ 34 ∷ codes "b" ++ 34 ∷ [])) ≡ Some (Name (codes "a" ++ (34 ∷ codes "b")) ∷ [])
+unfolding lexed tokens_within token_at word_at word sign_at digits_at name_in_quotes text_in_quotes
+quoted = cut (34 ∷ codes "a" ++ (34 ∷ 34 ∷ codes "b" ++ 34 ∷ [])) _ refl refl
+
+doubled : tokens (codes "'it''s'") ≡ Some (Text (codes "it's") ∷ [])
+unfolding lexed tokens_within token_at word_at word sign_at digits_at name_in_quotes text_in_quotes
+doubled = cut (codes "'it''s'") _ refl refl
+
+-- a quoted keyword is a name, a bare one in any case is reserved
+keyword : tokens (codes "DROP " ++ (34 ∷ codes "drop" ++ 34 ∷ [])) ≡ Some (Fixed terminal.Drop ∷ Name (codes "drop") ∷ [])
+unfolding lexed tokens_within token_at word_at word sign_at digits_at name_in_quotes text_in_quotes
+keyword = cut (codes "DROP " ++ (34 ∷ codes "drop" ++ 34 ∷ [])) _ refl refl
+
+no_name : tokens (34 ∷ 34 ∷ []) ≡ None
+unfolding lexed tokens_within token_at word_at word sign_at digits_at name_in_quotes text_in_quotes
+no_name = cut (34 ∷ 34 ∷ []) _ refl refl
+
+plus : tokens (codes "+7") ≡ Some (Number (pos 7) ∷ [])
+unfolding lexed tokens_within token_at word_at word sign_at digits_at name_in_quotes text_in_quotes
+plus = cut (codes "+7") _ refl refl
+
+least : tokens (codes "-9223372036854775808") ≡ Some (Number (neg_ℤ (pos 9223372036854775808)) ∷ [])
+unfolding lexed tokens_within token_at word_at word sign_at digits_at name_in_quotes text_in_quotes
+least = cut (codes "-9223372036854775808") _ refl refl
+
+too_large : tokens (codes "9223372036854775808") ≡ None
+unfolding lexed tokens_within token_at word_at word sign_at digits_at name_in_quotes text_in_quotes
+too_large = cut (codes "9223372036854775808") _ refl refl
+
+letter_behind : tokens (codes "1a") ≡ None
+unfolding lexed tokens_within token_at word_at word sign_at digits_at name_in_quotes text_in_quotes
+letter_behind = cut (codes "1a") _ refl refl
+
+sign_apart : tokens (codes "- 1") ≡ None
+unfolding lexed tokens_within token_at word_at word sign_at digits_at name_in_quotes text_in_quotes
+sign_apart = cut (codes "- 1") _ refl refl
+
+longest_sign : tokens (codes "<>=<=") ≡ Some (Fixed terminal.NotEqual ∷ Fixed terminal.Equal ∷ Fixed terminal.LessEqual ∷ [])
+unfolding lexed tokens_within token_at word_at word sign_at digits_at name_in_quotes text_in_quotes
+longest_sign = cut (codes "<>=<=") _ refl refl
+
+-- a name of 64 letters is past the limit, one of 63 is not
+long_name : fits GREATEST (Create (codes "aaaaaaaaaaaaaaaaaaaaaaaaaaaaaaaaaaaaaaaaaaaaaaaaaaaaaaaaaaaaaaaa") (record { name = codes "a"; kind = kind.Int } ∷ []) []) ≡ false
+long_name = refl
+
+name_at_limit : fits GREATEST (Create (codes "aaaaaaaaaaaaaaaaaaaaaaaaaaaaaaaaaaaaaaaaaaaaaaaaaaaaaaaaaaaaaaa") (record { name = codes "a"; kind = kind.Int } ∷ []) []) ≡ true
+name_at_limit = refl
+
+-- a byte-order mark, a blank line, a comment, LF and CR LF, and a last line without an end
+mixed : items GREATEST (239 ∷ 187 ∷ 191 ∷ 32 ∷ 9 ∷ 13 ∷ 10 ∷ (codes "-- note" ++ (10 ∷ (codes " show s" ++ (13 ∷ 10 ∷ 45 ∷ 10 ∷ codes "load s"))))) ≡ Plain (codes " show s") ∷ Plain (codes "-") ∷ Plain (codes "load s") ∷ []
+unfolding entries_by
+mixed = refl
+
+empty_script : items GREATEST [] ≡ []
+unfolding entries_by
+empty_script = refl
+
+-- a CR at the very end belongs to the line, and one before a CR LF does
+kept_cr : items GREATEST (97 ∷ 13 ∷ 13 ∷ 10 ∷ 98 ∷ 13 ∷ []) ≡ Plain (97 ∷ 13 ∷ []) ∷ Plain (98 ∷ 13 ∷ []) ∷ []
+unfolding entries_by
+kept_cr = refl
+
+-- the mark is dropped once
+one_mark : items GREATEST (239 ∷ 187 ∷ 191 ∷ 239 ∷ 187 ∷ 191 ∷ 10 ∷ []) ≡ Plain (239 ∷ 187 ∷ 191 ∷ []) ∷ []
+unfolding entries_by
+one_mark = refl

@@ -1,0 +1,7 @@
+use Rattle.std.proofs.Common.{◌≡◌, ◌-◌, length}
+use Rattle.gq_command.specs.Reading.{items_within, items_at, column_at, column_comma}
+use Rattle.gq_command.proofs.Loop.{with_front}
+use Rattle.gq_command.proofs.parsing.columns_of.Given as goal
+
+abbrev pub invariant-loop : goal.invariant-loop
+invariant-loop l = with_front l.columns.items (items_within column_at column_comma (length l.fn.tokens - l.counter) l.tokens) ≡ items_at column_at column_comma l.fn.tokens

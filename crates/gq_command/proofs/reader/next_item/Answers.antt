@@ -1,0 +1,31 @@
+use Rattle.std.proofs.Common.{◌≡◌, ◌∙◌, sym, true, false}
+use Rattle.gq_command.specs.Script.{content, is_skipped}
+use Rattle.gq_command.specs.Gathering.{TookLine}
+use Rattle.gq_command.proofs.Passing.{passed_line, passed_to, passed_all}
+use Rattle.gq_command.proofs.reader.next_item.Goals as goal
+
+pub returns-then-not-is_skipped-clause-item : goal.returns-then-not-is_skipped-clause-item
+returns-then-not-is_skipped-clause-item g c =
+    let l = c.args.limits.now.bounds in
+    let t : TookLine l c.loop.source c.take_line.new.source c.in-Some.line = rw c.in-Some.is at c.in_ok-line.ensures.line in
+    let e : is_skipped (content t.raw) ≡ false = sym (c.is_skipped.ensures l.line (content t.raw) t.gathers) ∙ c.if-not-is_skipped.true in
+    (passed_to l c.args.source.now c.loop.source c.take_line.new.source c.in-Some.line t c.item_of.result c.loop.invariant e (c.item_of.ensures.reads (content t.raw) t.gathers e)).0
+
+pub returns-then-not-is_skipped-clause-counted : goal.returns-then-not-is_skipped-clause-counted
+returns-then-not-is_skipped-clause-counted g c =
+    let l = c.args.limits.now.bounds in
+    let t : TookLine l c.loop.source c.take_line.new.source c.in-Some.line = rw c.in-Some.is at c.in_ok-line.ensures.line in
+    let e : is_skipped (content t.raw) ≡ false = sym (c.is_skipped.ensures l.line (content t.raw) t.gathers) ∙ c.if-not-is_skipped.true in
+    (passed_to l c.args.source.now c.loop.source c.take_line.new.source c.in-Some.line t c.item_of.result c.loop.invariant e (c.item_of.ensures.reads (content t.raw) t.gathers e)).1
+
+pub loop-preserved : goal.loop-preserved
+loop-preserved g c =
+    let l = c.args.limits.now.bounds in
+    let t : TookLine l c.loop.source c.take_line.new.source c.in-Some.line = rw c.in-Some.is at c.in_ok-line.ensures.line in
+    let e : is_skipped (content t.raw) ≡ true = sym (c.is_skipped.ensures l.line (content t.raw) t.gathers) ∙ c.if-not-is_skipped.false in
+    passed_line l c.args.source.now c.loop.source c.take_line.new.source c.in-Some.line t c.loop.invariant e
+
+pub returns-in_default-clause-end : goal.returns-in_default-clause-end
+returns-in_default-clause-end g c =
+    let h = rw c.in_default.is at c.in_ok-line.ensures.end in
+    (passed_all c.args.limits.now.bounds c.args.source.now c.loop.source c.take_line.new.source c.loop.invariant h.0 h.1).0

@@ -1,0 +1,62 @@
+-- What a reader of commands answers.
+use Rattle.std.specs.Prelude.{◌≡◌, ℕ, ◌<◌, ◌≤◌, Bool, true, false, ◌∷◌, length, Option, Some, None, ◌⊎◌}
+use Rattle.gq_row.specs.declared.limits.Bounds.{Bounds}
+use Rattle.gq_command.specs.declared.lines.LineRefusal.{LineRefusal}
+use Rattle.gq_command.specs.declared.lines.LineRefusal.TheVariants as refusal
+use Rattle.gq_command.specs.declared.reader.Item.{Item}
+use Rattle.gq_command.specs.declared.reader.Item.TheVariants as item
+use Rattle.gq_command.specs.declared.command.Payload.{Payload}
+use Rattle.gq_command.specs.declared.command.Payload.TheVariants as payload
+use Rattle.gq_command.specs.declared.command.Command.{Command}
+use Rattle.gq_command.specs.declared.command.Command.TheVariants.{Load}
+use Rattle.gq_command.specs.Commands.{Bytes, is_command, fits}
+use Rattle.gq_command.specs.Lines.{Says}
+use Rattle.gq_command.specs.Script.{Entry, Plain, Loading, line_of, raw_lines, first_entry, items_left}
+
+-- what stands for the payload told, which is None where it is open
+abbrev pub StandsFor : ℕ → Option Bytes → Payload → Type 0
+StandsFor most told (payload.Bytes bytes) = (told ≡ Some bytes) × (length bytes ≤ most)
+StandsFor most told payload.Open = told ≡ None
+StandsFor most told payload.TooLong = (bytes : Bytes) × (told ≡ Some bytes) × (most < length bytes)
+StandsFor most told payload.NoMemory = ⊥
+
+-- the entry is the command, which is within the limits
+abbrev pub IsCommandOf : Bounds → Entry → Command → Type 0
+IsCommandOf b (Plain line) c = Says line c × (fits b c ≡ true)
+IsCommandOf b (Loading line told) c = (table : Bytes) × (carried : Payload) × (c ≡ Load table carried) × Says line (Load table payload.Open) × (fits b (Load table payload.Open) ≡ true) × StandsFor b.payload told carried
+
+-- the line is refused so: for its length, which comes first; where it says no command; or where it says one past a limit
+abbrev pub IsRefusalOf : Bounds → Bytes → LineRefusal → Type 0
+IsRefusalOf b line refusal.LineTooLong = b.line < length line
+IsRefusalOf b line refusal.Syntax = (length line ≤ b.line) × ((c : Command) → Says line c → ⊥)
+IsRefusalOf b line refusal.Limit = (length line ≤ b.line) × ((c : Command) × Says line c × (fits b c ≡ false))
+IsRefusalOf b line refusal.Memory = ⊥
+
+-- what the entry is read as where memory isn't wanting
+abbrev pub ReadsAs : Bounds → Entry → Item → Type 0
+ReadsAs b e (item.Command c) = (length (line_of e) ≤ b.line) × IsCommandOf b e c
+ReadsAs b e (item.Refused r) = IsRefusalOf b (line_of e) r
+
+-- the entry is read so; want of memory may stand in the place of each item
+abbrev pub IsReadAs : Bounds → Entry → Item → Type 0
+IsReadAs b e it = ReadsAs b e it ⊎ (it ≡ item.Refused refusal.Memory)
+
+-- a command of the item is one that a line can say, and within the limits of a line
+abbrev pub IsReady : Bounds → Item → Type 0
+IsReady b (item.Command c) = (is_command c ≡ true) × (fits b c ≡ true)
+IsReady b (item.Refused r) = Unit {0}
+
+-- of the bytes that were left the first entry was taken, with the blank lines and comments before it and nothing behind it, and this item was read from it
+pub record Gave (b : Bounds) (bytes : Bytes) (left : Option Bytes) (it : Item) : Type 0 where
+  pub entry : Entry
+  pub rest : Bytes
+  pub first : first_entry b (raw_lines bytes) ≡ Some (entry, raw_lines rest)
+  pub left_is : left ≡ Some rest
+  pub order : items_left b bytes ≡ entry ∷ items_left b rest
+  pub reads : IsReadAs b entry it
+
+-- a reader, by the bytes that it has left, how many it gave, and whether a read failed
+pub record Pending : Type 0 where
+  pub left : Option Bytes
+  pub given : ℕ
+  pub failed : Bool

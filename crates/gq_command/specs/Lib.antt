@@ -1,0 +1,9 @@
+pub mod Commands
+pub mod Gathering
+pub mod Items
+pub mod Lexing
+pub mod Lines
+pub mod Reading
+pub mod Script
+pub mod Spelling
+pub mod Tokens

@@ -1,0 +1,158 @@
+-- Reading tokens from left to right.
+use Rattle.std.specs.Prelude.{◌≡◌, ℕ, zero, suc, Bool, true, false, List, [], ◌∷◌, length, Option, Some, None, Result, Ok, Err, if◌then◌else◌}
+use Rattle.gq_command.specs.declared.token.Terminal.{Terminal}
+use Rattle.gq_command.specs.declared.token.Terminal.TheVariants as terminal
+use Rattle.gq_row.specs.declared.schema.Kind.{Kind}
+use Rattle.gq_row.specs.declared.schema.Kind.TheVariants as kind
+use Rattle.gq_command.specs.declared.parsing.Fault.{Fault}
+use Rattle.gq_command.specs.declared.parsing.Fault.TheVariants as fault
+use Rattle.gq_command.specs.Tokens.{same}
+use Rattle.gq_command.specs.declared.token.Token.{Token}
+use Rattle.gq_command.specs.declared.token.Token.TheVariants.{Fixed, Name, Number, Text}
+use Rattle.gq_command.specs.Commands.{Bytes, keeps_rules}
+use Rattle.gq_command.specs.declared.command.Command.{Command}
+use Rattle.gq_command.specs.declared.command.Command.TheVariants.{Create, Upsert, Group}
+use Rattle.gq_command.specs.declared.command.Aggregate.TheVariants.{CountAll}
+use Rattle.gq_row.specs.declared.value.Value.{Value}
+use Rattle.gq_row.specs.declared.value.Value.TheVariants as value
+use Rattle.gq_row.specs.declared.schema.Column.{Column}
+
+infixl 10 ◌>>=◌
+abbrev pub ◌>>=◌ : {A B : Type 0} → Option A → (A → Option B) → Option B
+(Some x) >>= f = f x
+None >>= f = None
+
+-- what a function returned, seen by view, is what reading gives, unless memory ran out
+abbrev pub Fails : {Y : Type 0} → Fault → Option Y → Type 0
+Fails fault.Memory read = Unit {0}
+Fails fault.Syntax read = read ≡ None
+
+abbrev pub Gives : {X Y : Type 0} → (X → Y) → Result X Fault → Option Y → Type 0
+Gives view (Ok x) read = read ≡ Some (view x)
+Gives view (Err e) read = Fails e read
+
+abbrev pub skip : Terminal → List Token → Option (List Token)
+skip t [] = None
+skip t (Fixed u ∷ rest) = if same u t then Some rest else None
+skip t (Name n ∷ rest) = None
+skip t (Number z ∷ rest) = None
+skip t (Text s ∷ rest) = None
+
+-- whether the first token is the terminal
+abbrev pub leads : Terminal → List Token → Bool
+leads t [] = false
+leads t (Fixed u ∷ rest) = same u t
+leads t (Name n ∷ rest) = false
+leads t (Number z ∷ rest) = false
+leads t (Text s ∷ rest) = false
+
+-- what a function that passes a token told, and the tokens that it left
+abbrev pub Skips : Option (List Token) → Bool → List Token → List Token → Type 0
+Skips read true old new = read ≡ Some new
+Skips read false old new = (read ≡ None) × (new ≡ old)
+
+unfoldable pub name_at : List Token → Option (Bytes × List Token)
+name_at [] = None
+name_at (Fixed u ∷ rest) = None
+name_at (Name n ∷ rest) = Some (n, rest)
+name_at (Number z ∷ rest) = None
+name_at (Text s ∷ rest) = None
+
+unfoldable pub literal_at : List Token → Option (Value × List Token)
+literal_at [] = None
+literal_at (Fixed u ∷ rest) = if same u terminal.Null then Some (value.Null, rest) else None
+literal_at (Name n ∷ rest) = None
+literal_at (Number z ∷ rest) = Some (value.Int z, rest)
+literal_at (Text s ∷ rest) = Some (value.Text s, rest)
+
+unfoldable pub kind_at : List Token → Option (Kind × List Token)
+kind_at [] = None
+kind_at (Fixed u ∷ rest) = if same u terminal.Int then Some (kind.Int, rest) else (if same u terminal.Text then Some (kind.Text, rest) else None)
+kind_at (Name n ∷ rest) = None
+kind_at (Number z ∷ rest) = None
+kind_at (Text s ∷ rest) = None
+
+unfoldable pub column_at : List Token → Option (Column × List Token)
+column_at ts = do
+  name ← name_at ts
+  kind ← kind_at name.1
+  Some (record { name = name.0; kind = kind.0 }, kind.1)
+
+-- items with separators between them, as far as they go, at most n
+unfoldable pub items_within : {A : Type 0} → (List Token → Option (A × List Token)) → (List Token → Option (List Token)) → ℕ → List Token → Option (List A × List Token)
+items_within item next zero ts = None
+items_within item next (suc n) ts = item ts >>= λ x. elim (next x.1) [ None ↦ Some (x.0 ∷ [], x.1) | Some after ↦ items_within item next n after >>= λ y. Some (x.0 ∷ y.0, y.1) ]
+
+abbrev pub items_at : {A : Type 0} → (List Token → Option (A × List Token)) → (List Token → Option (List Token)) → List Token → Option (List A × List Token)
+items_at item next ts = items_within item next (length ts) ts
+
+abbrev pub names_at : List Token → Option (List Bytes × List Token)
+names_at ts = items_at name_at (skip terminal.Comma) ts
+
+abbrev pub literals_at : List Token → Option (List Value × List Token)
+literals_at ts = items_at literal_at (skip terminal.Comma) ts
+
+-- a comma that leads to another column, and not to the key
+unfoldable pub column_comma : List Token → Option (List Token)
+column_comma ts = skip terminal.Comma ts >>= λ after. elim (skip terminal.Key after) [ None ↦ Some after | Some rest ↦ None ]
+
+abbrev pub columns_at : List Token → Option (List Column × List Token)
+columns_at ts = items_at column_at column_comma ts
+
+unfoldable pub in_parentheses : {A : Type 0} → (List Token → Option (A × List Token)) → List Token → Option (A × List Token)
+in_parentheses inner ts = do
+  opened ← skip terminal.Open ts
+  x ← inner opened
+  closed ← skip terminal.Close x.1
+  Some (x.0, closed)
+
+-- the key behind a comma, or none
+unfoldable pub key_at : List Token → Option (List Bytes × List Token)
+key_at ts = elim (skip terminal.Comma ts) [ None ↦ Some ([], ts) | Some after ↦ skip terminal.Key after >>= λ rest. in_parentheses names_at rest ]
+
+unfoldable pub ended : {A : Type 0} → A × List Token → Option A
+ended (x, []) = Some x
+ended (x, t ∷ ts) = None
+
+unfoldable pub create_at : List Token → Option (Command × List Token)
+create_at ts = do
+  table ← name_at ts
+  opened ← skip terminal.Open table.1
+  columns ← columns_at opened
+  key ← key_at columns.1
+  closed ← skip terminal.Close key.1
+  Some (Create table.0 columns.0 key.0, closed)
+
+unfoldable pub upsert_at : List Token → Option (Command × List Token)
+upsert_at ts = do
+  table ← name_at ts
+  values ← in_parentheses literals_at table.1
+  Some (Upsert table.0 values.0, values.1)
+
+unfoldable pub group_at : List Token → Option (Command × List Token)
+group_at ts = do
+  table ← name_at ts
+  by ← skip terminal.By table.1
+  names ← names_at by
+  shown ← skip terminal.Show names.1
+  counted ← skip terminal.Count shown
+  opened ← skip terminal.Open counted
+  star ← skip terminal.Star opened
+  closed ← skip terminal.Close star
+  Some (Group table.0 names.0 (CountAll ∷ []) [] None [], closed)
+
+unfoldable pub form_at : List Token → Option (Command × List Token)
+form_at ts = elim (skip terminal.Create ts) [
+  | Some rest ↦ create_at rest
+  | None ↦ elim (skip terminal.Upsert ts) [
+    | Some rest ↦ upsert_at rest
+    | None ↦ elim (skip terminal.Group ts) [ Some rest ↦ group_at rest | None ↦ None ]
+  ]
+]
+
+-- the command that all of the tokens say, if they say one
+unfoldable pub command_of : List Token → Option Command
+command_of ts = do
+  form ← form_at ts
+  command ← ended form
+  if keeps_rules command then Some command else None

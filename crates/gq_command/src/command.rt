@@ -1,0 +1,125 @@
+//! Commands, as data.
+use gq_row::{Column, Row, Sequence, Text, Value};
+
+/// What is computed of a group.
+#[derive(Debug, Drop)]
+pub enum Aggregate {
+    /// `count(*)`: the number of rows.
+    CountAll,
+    /// `count(x)`: the number of rows where x isn't null.
+    Count(Text),
+    /// `count(distinct x)`: the number of different values of x that aren't null.
+    CountDistinct(Text),
+    /// `sum(x)`
+    Sum(Text),
+    /// `min(x)`
+    Min(Text),
+    /// `max(x)`
+    Max(Text),
+}
+
+/// What a test compares.
+#[derive(Debug, Drop)]
+pub enum Operand {
+    /// A column, by its name.
+    Column(Text),
+    Literal(Value),
+    Aggregate(Aggregate),
+}
+
+/// How a test compares: `=`, `<>`, `<`, `<=`, `>` or `>=`.
+#[derive(Clone, Copy, Debug, PartialEq, Eq)]
+pub enum Comparison {
+    Equal,
+    NotEqual,
+    Less,
+    LessEqual,
+    Greater,
+    GreaterEqual,
+}
+
+/// A condition on one row.
+#[derive(Debug, Drop)]
+pub enum Test {
+    Compare(Operand, Comparison, Operand),
+    /// `x is null`
+    IsNull(Operand),
+    /// `x is not null`
+    IsNotNull(Operand),
+}
+
+/// `exists table (theirs) = (ours)`: whether a row of the other table has the values of this
+/// table's row, column by column.
+#[derive(Debug, Drop)]
+pub struct Exists {
+    /// Whether `not` stands before it.
+    pub negated: bool,
+    /// The other table.
+    pub table: Text,
+    /// Columns of the other table.
+    pub theirs: Sequence<Text>,
+    /// Columns of the table that is grouped.
+    pub ours: Sequence<Text>,
+}
+
+/// The payload of a load, or the mark in its place.
+#[derive(Debug, Drop)]
+pub enum Payload {
+    Bytes(Sequence<u8>),
+    /// The script ends before the payload does. A line alone always gives this.
+    Open,
+    /// The payload passes the limit on its bytes.
+    TooLong,
+    /// There was no memory for the payload.
+    NoMemory,
+}
+
+/// A command. Names and literals are told by their values: quotes undone, keywords gone.
+#[derive(Debug, Drop)]
+pub enum Command {
+    /// `create table (column kind, .., key (columns))`
+    Create {
+        table: Text,
+        columns: Sequence<Column>,
+        /// Names of key columns, none where the table has no key.
+        key: Sequence<Text>,
+    },
+    /// `drop table`
+    Drop {
+        table: Text,
+    },
+    /// `load table`
+    Load {
+        table: Text,
+        payload: Payload,
+    },
+    /// `upsert table (literals)`
+    Upsert {
+        table: Text,
+        values: Row,
+    },
+    /// `delete table (literals)`, one for each key column
+    Delete {
+        table: Text,
+        values: Row,
+    },
+    /// `show table`
+    Show {
+        table: Text,
+    },
+    /// `group table by columns show aggregates where tests exists .. having tests`
+    Group {
+        table: Text,
+        by: Sequence<Text>,
+        shown: Sequence<Aggregate>,
+        tests: Sequence<Test>,
+        exists: Option<Exists>,
+        having: Sequence<Test>,
+    },
+    /// `distinct table on columns where tests`
+    Distinct {
+        table: Text,
+        on: Sequence<Text>,
+        tests: Sequence<Test>,
+    },
+}

@@ -1,0 +1,50 @@
+//! Lines as commands, and scripts as items.
+//!
+//! A script is cut into lines at LF; one CR before the LF belongs to the line's end. A line of
+//! spaces and tabs, and one whose first bytes behind these are `--`, is nothing. Each other line is
+//! an item: the command that it says, or why it says none.
+//!
+//! A line is cut into tokens, the longest each time, with spaces and tabs between them. Braces
+//! repeat, square brackets are optional:
+//!
+//! ```text
+//! command = "create" name "(" column { "," column } [ "," "key" "(" names ")" ] ")"
+//!         | "upsert" name "(" literal { "," literal } ")"
+//!         | "group" name "by" names "show" "count" "(" "*" ")"
+//! column  = name ( "int" | "text" )
+//! names   = name { "," name }
+//! literal = int | string | "null"
+//! ```
+//!
+//! Keywords are in any ASCII case, and reserved: none is a bare name. A bare name is an ASCII
+//! letter or an underscore, and then letters, digits and underscores. A quoted name stands in
+//! double quotes and isn't empty, a string in single quotes; a quote in either is doubled. Names
+//! are the same where their bytes are, quoted or not. An int is an optional `+` or `-` directly
+//! before its digits, within 64 bits, with no letter, digit or underscore right behind it. No name
+//! stands twice among the columns of a table, in a key, or behind `by`. `drop`, `load`, `delete`,
+//! `show`, `distinct` and the other parts of `group` have their places in [`Command`] and in the
+//! grammar of `specs/`; no line says one of them yet.
+//!
+//! The one contract above this crate: [`CommandReader::next`] gives the items of a reader's bytes
+//! in order, in whatever pieces the bytes come. A command is one that its line says, within the
+//! limits; [`LineRefusal::Syntax`] comes only where the line says none, [`LineRefusal::Limit`] only
+//! where it says one past a limit, [`LineRefusal::LineTooLong`] by the line's length alone, before
+//! all else. The laws in [`laws`] say what that rests on: no line says two commands, and each token
+//! is the longest that the text spells.
+#![tactic(auto)]
+
+mod command;
+mod gather;
+pub mod laws;
+mod lexing;
+mod lines;
+mod parsing;
+mod queue;
+mod reader;
+mod source;
+mod token;
+
+pub use command::{Aggregate, Command, Comparison, Exists, Operand, Payload, Test};
+pub use lines::{LineRefusal, parse_line};
+pub use reader::{CommandReader, Item};
+pub use source::ReadFault;

@@ -1,0 +1,296 @@
+//! Tokens as commands: one function for each rule of the grammar, which takes the tokens that it
+//! reads from the front of those that are left.
+ghost use Rattle.std.specs.Prelude.{◌≡◌, IfOk, IfErr, None, [], ◌∷◌, bytes_eq};
+ghost use Rattle.gq_row.specs.Repeats.{no_repeats};
+ghost use Rattle.gq_command.specs.Commands.{column_names, keeps_rules};
+ghost use Rattle.gq_command.specs.Reading.{Gives, skip, name_at, literal_at, kind_at, column_at, names_at, literals_at, column_comma, columns_at, key_at, create_at, upsert_at, group_at, form_at, command_of};
+ghost use Rattle.gq_command.specs.declared.command.Aggregate.TheVariants.{CountAll};
+ghost use Rattle.gq_command.specs.declared.command.Command.TheVariants.{Group};
+ghost use Rattle.gq_command.specs.declared.parsing.Fault.TheVariants.{Memory};
+
+use crate::command::{Aggregate, Command, Payload};
+use crate::queue::Tokens;
+use crate::token::{Terminal, Token};
+use gq_row::{Column, Kind, Row, Sequence, Text, Value};
+use std::alloc::{AllocError, AllocFailed, Global};
+use std::collections::BTreeSet;
+
+/// Why tokens could not be read.
+#[derive(Debug, Drop)]
+pub enum Fault {
+    Memory,
+    Syntax,
+}
+
+impl From<AllocError> for Fault {
+    ghost from_gives = { λ _ e. e ≡ Memory };
+
+    fn from(_e: AllocError) -> Fault {
+        Fault::Memory
+    }
+}
+
+impl<T: Drop> From<AllocFailed<T>> for Fault {
+    ghost from_gives = { λ _ e. e ≡ Memory };
+
+    fn from(_e: AllocFailed<T>) -> Fault {
+        Fault::Memory
+    }
+}
+
+/// Passes this word or sign, which must be the first token.
+fn expect(tokens: &mut Tokens, terminal: Terminal) -> Result<(), Fault>
+    ensures { Gives (λ _. tokens.new) result (skip terminal tokens.old) }
+{
+    if tokens.skip(terminal) {
+        Ok(())
+    } else {
+        Err(Fault::Syntax)
+    }
+}
+
+#[tactic(auto, unfolding(crate::specs::Reading::name_at))]
+fn name_of(tokens: &mut Tokens) -> Result<Text, Fault>
+    ensures { Gives (λ name. (name, tokens.new)) result (name_at tokens.old) }
+{
+    match tokens.take() {
+        Some(Token::Name(name)) => Ok(name),
+        _ => Err(Fault::Syntax),
+    }
+}
+
+#[tactic(auto, unfolding(crate::specs::Reading::literal_at))]
+fn literal_of(tokens: &mut Tokens) -> Result<Value, Fault>
+    ensures { Gives (λ value. (value, tokens.new)) result (literal_at tokens.old) }
+{
+    match tokens.take() {
+        Some(Token::Fixed(Terminal::Null)) => Ok(Value::Null),
+        Some(Token::Number(number)) => Ok(Value::Int(number)),
+        Some(Token::Text(text)) => Ok(Value::Text(text)),
+        _ => Err(Fault::Syntax),
+    }
+}
+
+#[tactic(auto, unfolding(crate::specs::Reading::kind_at))]
+fn kind_of(tokens: &mut Tokens) -> Result<Kind, Fault>
+    ensures { Gives (λ kind. (kind, tokens.new)) result (kind_at tokens.old) }
+{
+    if tokens.skip(Terminal::Int) {
+        Ok(Kind::Int)
+    } else if tokens.skip(Terminal::Text) {
+        Ok(Kind::Text)
+    } else {
+        Err(Fault::Syntax)
+    }
+}
+
+#[tactic(auto, unfolding(crate::specs::Reading::column_at))]
+fn column_of(tokens: &mut Tokens) -> Result<Column, Fault>
+    ensures { Gives (λ column. (column, tokens.new)) result (column_at tokens.old) }
+{
+    let name = name_of(tokens)?;
+    let kind = kind_of(tokens)?;
+    Ok(Column { name, kind })
+}
+
+fn names_of(alloc: Global, tokens: &mut Tokens) -> Result<Vec<Text>, Fault>
+    ensures { Gives (λ names. (names.items, tokens.new)) result (names_at tokens.old) }
+{
+    let mut names = Vec::new(alloc);
+    for _ in 0..tokens.len() {
+        let name = name_of(tokens)?;
+        names.push(name)?;
+        if !tokens.skip(Terminal::Comma) {
+            return Ok(names);
+        }
+    }
+    Err(Fault::Syntax)
+}
+
+fn literals_of(alloc: Global, tokens: &mut Tokens) -> Result<Vec<Value>, Fault>
+    ensures { Gives (λ values. (values.items, tokens.new)) result (literals_at tokens.old) }
+{
+    let mut values = Vec::new(alloc);
+    for _ in 0..tokens.len() {
+        let value = literal_of(tokens)?;
+        values.push(value)?;
+        if !tokens.skip(Terminal::Comma) {
+            return Ok(values);
+        }
+    }
+    Err(Fault::Syntax)
+}
+
+fn columns_of(alloc: Global, tokens: &mut Tokens) -> Result<Vec<Column>, Fault>
+    ensures { Gives (λ columns. (columns.items, tokens.new)) result (columns_at tokens.old) }
+{
+    let mut columns = Vec::new(alloc);
+    for _ in 0..tokens.len() {
+        let column = column_of(tokens)?;
+        columns.push(column)?;
+        if !tokens.skip_to_column() {
+            return Ok(columns);
+        }
+    }
+    Err(Fault::Syntax)
+}
+
+#[tactic(auto, unfolding(crate::specs::Reading::key_at, crate::specs::Reading::in_parentheses))]
+fn key_of(alloc: Global, tokens: &mut Tokens) -> Result<Vec<Text>, Fault>
+    ensures { Gives (λ key. (key.items, tokens.new)) result (key_at tokens.old) }
+{
+    if !tokens.skip(Terminal::Comma) {
+        return Ok(Vec::new(alloc));
+    }
+    expect(tokens, Terminal::Key)?;
+    expect(tokens, Terminal::Open)?;
+    let names = names_of(alloc, tokens)?;
+    expect(tokens, Terminal::Close)?;
+    Ok(names)
+}
+
+#[tactic(auto, unfolding(crate::specs::Reading::create_at))]
+fn create_of(alloc: Global, tokens: &mut Tokens) -> Result<Command, Fault>
+    ensures { Gives (λ command. (command, tokens.new)) result (create_at tokens.old) }
+{
+    let table = name_of(tokens)?;
+    expect(tokens, Terminal::Open)?;
+    let columns = columns_of(alloc, tokens)?;
+    let key = key_of(alloc, tokens)?;
+    expect(tokens, Terminal::Close)?;
+    Ok(Command::Create {
+        table,
+        columns: Sequence::new(columns),
+        key: Sequence::new(key),
+    })
+}
+
+#[tactic(auto, unfolding(crate::specs::Reading::upsert_at, crate::specs::Reading::in_parentheses))]
+fn upsert_of(alloc: Global, tokens: &mut Tokens) -> Result<Command, Fault>
+    ensures { Gives (λ command. (command, tokens.new)) result (upsert_at tokens.old) }
+{
+    let table = name_of(tokens)?;
+    expect(tokens, Terminal::Open)?;
+    let values = literals_of(alloc, tokens)?;
+    expect(tokens, Terminal::Close)?;
+    Ok(Command::Upsert {
+        table,
+        values: Row::new(values),
+    })
+}
+
+#[tactic(auto, unfolding(crate::specs::Reading::group_at))]
+fn group_of(alloc: Global, tokens: &mut Tokens) -> Result<Command, Fault>
+    ensures { Gives (λ command. (command, tokens.new)) result (group_at tokens.old) }
+{
+    let table = name_of(tokens)?;
+    expect(tokens, Terminal::By)?;
+    let by = names_of(alloc, tokens)?;
+    expect(tokens, Terminal::Show)?;
+    expect(tokens, Terminal::Count)?;
+    expect(tokens, Terminal::Open)?;
+    expect(tokens, Terminal::Star)?;
+    expect(tokens, Terminal::Close)?;
+    counted(alloc, table, by)
+}
+
+/// `group table by names show count(*)`.
+fn counted(alloc: Global, table: Text, by: Vec<Text>) -> Result<Command, Fault>
+    ensures ok { IfOk result (λ c. c ≡ Group table by.items (CountAll ∷ []) [] None []) }
+    ensures err { IfErr result (λ e. e ≡ Memory) }
+{
+    let mut shown = Vec::new(alloc);
+    shown.push(Aggregate::CountAll)?;
+    Ok(Command::Group {
+        table,
+        by: Sequence::new(by),
+        shown: Sequence::new(shown),
+        tests: Sequence::new(Vec::new(alloc)),
+        exists: None,
+        having: Sequence::new(Vec::new(alloc)),
+    })
+}
+
+#[tactic(auto, unfolding(crate::specs::Reading::form_at))]
+fn form_of(alloc: Global, tokens: &mut Tokens) -> Result<Command, Fault>
+    ensures { Gives (λ command. (command, tokens.new)) result (form_at tokens.old) }
+{
+    if tokens.skip(Terminal::Create) {
+        create_of(alloc, tokens)
+    } else if tokens.skip(Terminal::Upsert) {
+        upsert_of(alloc, tokens)
+    } else if tokens.skip(Terminal::Group) {
+        group_of(alloc, tokens)
+    } else {
+        Err(Fault::Syntax)
+    }
+}
+
+/// Whether no name stands twice among these.
+fn names_differ(alloc: Global, names: &[Text]) -> Result<bool, Fault>
+    ensures ok { IfOk result (λ differ. differ ≡ no_repeats bytes_eq names.now) }
+    ensures err { IfErr result (λ e. e ≡ Memory) }
+{
+    let mut seen = BTreeSet::new(alloc);
+    for name in names {
+        if !seen.insert(name.as_str())? {
+            return Ok(false);
+        }
+    }
+    Ok(true)
+}
+
+/// Whether no two of these columns have one name.
+fn columns_differ(alloc: Global, columns: &[Column]) -> Result<bool, Fault>
+    ensures ok { IfOk result (λ differ. differ ≡ no_repeats bytes_eq (column_names columns.now)) }
+    ensures err { IfErr result (λ e. e ≡ Memory) }
+{
+    let mut seen = BTreeSet::new(alloc);
+    for column in columns {
+        if !seen.insert(column.name.as_str())? {
+            return Ok(false);
+        }
+    }
+    Ok(true)
+}
+
+/// Whether a command keeps the rules beside the grammar.
+fn keeps_rules(alloc: Global, command: &Command) -> Result<bool, Fault>
+    ensures ok { IfOk result (λ kept. kept ≡ keeps_rules command.now) }
+    ensures err { IfErr result (λ e. e ≡ Memory) }
+{
+    match command {
+        Command::Create { columns, key, .. } => Ok(
+            columns_differ(alloc, columns.as_slice())? && names_differ(alloc, key.as_slice())?,
+        ),
+        Command::Load { payload, .. } => Ok(matches!(payload, Payload::Open)),
+        Command::Group { by, exists, .. } => {
+            let same_length = match exists {
+                Some(exists) => exists.theirs.len() == exists.ours.len(),
+                None => true,
+            };
+            Ok(names_differ(alloc, by.as_slice())? && same_length)
+        }
+        Command::Distinct { on, .. } => names_differ(alloc, on.as_slice()),
+        Command::Drop { .. }
+        | Command::Upsert { .. }
+        | Command::Delete { .. }
+        | Command::Show { .. } => Ok(true),
+    }
+}
+
+/// The command that all of these tokens say.
+#[tactic(auto, unfolding(crate::specs::Reading::command_of, crate::specs::Reading::ended))]
+pub fn command_in(alloc: Global, mut tokens: Tokens) -> Result<Command, Fault>
+    ensures { Gives (λ c. c) result (command_of tokens) }
+{
+    let command = form_of(alloc, &mut tokens)?;
+    if !tokens.is_empty() {
+        return Err(Fault::Syntax);
+    }
+    if keeps_rules(alloc, &command)? {
+        Ok(command)
+    } else {
+        Err(Fault::Syntax)
+    }
+}

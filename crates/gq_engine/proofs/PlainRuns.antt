@@ -1,0 +1,49 @@
+-- Legal runs where the run store neither failed nor lied.
+use Rattle.std.proofs.Common.{◌≡◌, ◌+◌, ◌≤◌, ◌⊎◌, inl, inr, ℕ, Bool, true, false, cond, [], ◌∷◌, refl, sym, ap, ◌∙◌, arith}
+use Rattle.std.specs.Prelude.{count_by}
+use Rattle.gq_command.specs.declared.reader.Item.{Item}
+use Rattle.gq_command.specs.Script.{Entry}
+use Rattle.gq_engine.specs.declared.refusal.Refusal.TheVariants.{Memory}
+use Rattle.gq_engine.specs.declared.reply.Reply.{Reply}
+use Rattle.gq_engine.specs.Databases.{Database}
+use Rattle.gq_engine.specs.Steps.{step, refused}
+use Rattle.gq_engine.specs.Runs.{Setting, LegalAnswer, LegalStep, PlainStep, is_store_fault, OnlyMemoryRefuses}
+use Rattle.gq_engine.proofs.RunLemmas.{count_by-first}
+
+-- an answer that tells no failure of an honest store
+plain_answer : (setting : Setting) (old : Database) (it : Item) (answer : Reply) (new : Database) → setting.honest ≡ true → is_store_fault answer ≡ false → LegalAnswer setting old it answer new
+    → ((new, answer) ≡ step setting.limits old it) ⊎ ((new ≡ old) × (answer ≡ refused Memory))
+plain_answer setting old it answer new honest no_fault h =
+    elim h as (λ _. ((new, answer) ≡ step setting.limits old it) ⊎ ((new ≡ old) × (answer ≡ refused Memory))) [
+      | inl p ↦ inl p
+      | inr k ↦
+          elim k as (λ _. ((new, answer) ≡ step setting.limits old it) ⊎ ((new ≡ old) × (answer ≡ refused Memory))) [
+            | inl p ↦ inr p
+            | inr j ↦
+                elim j as (λ _. ((new, answer) ≡ step setting.limits old it) ⊎ ((new ≡ old) × (answer ≡ refused Memory))) [
+                  | inl p ↦ let none : ⊥ = cc (sym (ap is_store_fault p.2) ∙ no_fault) in absurd none
+                  | inr p ↦ let none : ⊥ = cc (sym p.2 ∙ honest) in absurd none
+                ]
+          ]
+    ]
+
+plain_step : (setting : Setting) (old : Database) (entry : Entry) (answer : Reply) (new : Database) → setting.honest ≡ true → is_store_fault answer ≡ false → LegalStep setting old entry answer new → PlainStep setting.limits old entry answer new
+plain_step setting old entry answer new honest no_fault h =
+    elim h as (λ _. PlainStep setting.limits old entry answer new) [
+      | inr p ↦ inr p
+      | inl p ↦
+          elim (plain_answer setting old p.0 answer new honest no_fault p.2) as (λ _. PlainStep setting.limits old entry answer new) [ inl q ↦ inl (p.0, p.1, q) | inr q ↦ inr q ]
+    ]
+
+-- no more failures were told than none
+none_told : (b : Bool) (n failures : ℕ) → failures + cond b (n + 1) n ≤ failures → (b ≡ false) × (failures + n ≤ failures)
+none_told true n failures h = absurd (omega arith)
+none_told false n failures h = (refl, h)
+
+pub only_memory_refuses : OnlyMemoryRefuses
+only_memory_refuses setting old [] [] new failures honest faults h = h
+only_memory_refuses setting old [] (answer ∷ answers) new failures honest faults h = absurd h
+only_memory_refuses setting old (entry ∷ entries) [] new failures honest faults h = absurd h
+only_memory_refuses setting old (entry ∷ entries) (answer ∷ answers) new failures honest faults h =
+    let told = none_told (is_store_fault answer) (count_by is_store_fault answers) failures (rw (count_by-first is_store_fault answers answer) at faults) in
+    (h.0, plain_step setting old entry answer h.0 honest told.0 h.1, only_memory_refuses setting h.0 entries answers new failures honest told.1 h.2)

@@ -1,0 +1,14 @@
+-- The rows that a query gives.
+use Rattle.std.specs.Prelude.{ℕ, pos, List, [], ◌∷◌, ◌++◌, length, map}
+use Rattle.gq_row.specs.declared.value.Value.{Value}
+use Rattle.gq_row.specs.declared.value.Value.TheVariants.{Int}
+use Rattle.gq_row.specs.Ordered.{in_order}
+use Rattle.gq_row.specs.Tables.{keys, of_key}
+
+-- a result row: the key, and then how many rows have it
+abbrev pub count_row : List Value → ℕ → List Value
+count_row key rows = key ++ Int (pos rows) ∷ []
+
+-- the result rows of a `group` that shows the count of rows: one for each different key, in the order of the keys
+abbrev pub counted_groups : List ℕ → List (List Value) → List (List Value)
+counted_groups by rows = map (λ key. count_row key (length (of_key by rows key))) (in_order (λ key. key) (keys by rows))

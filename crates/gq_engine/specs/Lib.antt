@@ -1,0 +1,12 @@
+pub mod Answers
+pub mod Databases
+pub mod Engines
+pub mod Fitting
+pub mod Headline
+pub mod Records
+pub mod Refusing
+pub mod Replies
+pub mod Runs
+pub mod Sending
+pub mod Standing
+pub mod Steps

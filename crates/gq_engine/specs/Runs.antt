@@ -1,0 +1,103 @@
+-- Legal runs: how the items of a script may be answered, one after the other.
+use Rattle.std.specs.Prelude.{◌≡◌, ◌⊎◌, ◌+◌, ◌≤◌, ℕ, Bool, true, false, List, [], ◌∷◌, count_by, IsPermutation}
+use Rattle.gq_row.specs.declared.limits.Bounds.{Bounds}
+use Rattle.gq_command.specs.declared.command.Command.TheVariants.{Create, Drop, Load, Upsert, Delete, Show, Group, Distinct}
+use Rattle.gq_command.specs.declared.reader.Item.{Item}
+use Rattle.gq_command.specs.declared.reader.Item.TheVariants as item
+use Rattle.gq_command.specs.Script.{Entry}
+use Rattle.gq_command.specs.Items.{ReadsAs}
+use Rattle.gq_engine.specs.declared.refusal.Refusal.TheVariants.{Memory, SumRange, StoreFault}
+use Rattle.gq_engine.specs.declared.reply.Reply.{Reply}
+use Rattle.gq_engine.specs.declared.reply.Reply.TheVariants as reply
+use Rattle.gq_engine.specs.Databases.{Database}
+use Rattle.gq_engine.specs.Steps.{step, refused}
+
+-- what an engine runs under: its limits, and whether its run store reads back what was written
+pub record Setting : Type 0 where
+  pub limits : Bounds
+  pub honest : Bool
+
+-- the commands that group rows, and so may use the run store
+abbrev pub IsGrouping : Item → Type 0
+IsGrouping (item.Command (Create table columns key)) = ⊥
+IsGrouping (item.Command (Drop table)) = ⊥
+IsGrouping (item.Command (Load table payload)) = ⊥
+IsGrouping (item.Command (Upsert table values)) = ⊥
+IsGrouping (item.Command (Delete table values)) = ⊥
+IsGrouping (item.Command (Show table)) = ⊥
+IsGrouping (item.Command (Group table by shown tests exists having)) = Unit {0}
+IsGrouping (item.Command (Distinct table on tests)) = Unit {0}
+IsGrouping (item.Refused why) = ⊥
+
+-- the replies that only grouping finds
+abbrev pub IsGrouped : Reply → Type 0
+IsGrouped (reply.Done n) = ⊥
+IsGrouped (reply.Rows header rows) = Unit {0}
+IsGrouped (reply.Refused why number) = why ≡ SumRange
+
+-- whether answering the item takes the run store
+abbrev pub UsesStore : Setting → Database → Item → Type 0
+UsesStore setting old it = IsGrouping it × IsGrouped (step setting.limits old it).1
+
+-- From the database old an item may be answered by this reply and leave new:
+-- as plain lists answer it; or for want of memory; or, where it takes the run store, because that failed; or in any way, where that lied. The last three leave the database.
+abbrev pub LegalAnswer : Setting → Database → Item → Reply → Database → Type 0
+LegalAnswer setting old it answer new =
+    ((new, answer) ≡ step setting.limits old it)
+    ⊎ (((new ≡ old) × (answer ≡ refused Memory))
+    ⊎ (((new ≡ old) × UsesStore setting old it × (answer ≡ refused StoreFault))
+    ⊎ ((new ≡ old) × UsesStore setting old it × (setting.honest ≡ false))))
+
+-- The same of an entry of a script, by what it is read as; or for want of memory to read it.
+abbrev pub LegalStep : Setting → Database → Entry → Reply → Database → Type 0
+LegalStep setting old entry answer new =
+    ((it : Item) × ReadsAs setting.limits entry it × LegalAnswer setting old it answer new)
+    ⊎ ((new ≡ old) × (answer ≡ refused Memory))
+
+-- The entries may be answered by these replies, one for each and in their order, from old to new.
+abbrev pub LegalRun : Setting → Database → List Entry → List Reply → Database → Type 0
+LegalRun setting old [] [] new = new ≡ old
+LegalRun setting old [] (answer ∷ answers) new = ⊥
+LegalRun setting old (entry ∷ entries) [] new = ⊥
+LegalRun setting old (entry ∷ entries) (answer ∷ answers) new =
+    (between : Database) × LegalStep setting old entry answer between × LegalRun setting between entries answers new
+
+-- each reply that tells a failure of the run store is one of its failures, by its count before and after
+abbrev pub is_store_fault : Reply → Bool
+is_store_fault (reply.Done n) = false
+is_store_fault (reply.Rows header rows) = false
+is_store_fault (reply.Refused StoreFault number) = true
+is_store_fault (reply.Refused why number) = false
+
+abbrev pub FaultsHappened : List Reply → ℕ → ℕ → Type 0
+FaultsHappened answers before after = before + count_by is_store_fault answers ≤ after
+
+-- databases that differ only in the order of the rows within tables
+abbrev pub SameTables : Database → Database → Type 0
+SameTables [] [] = Unit {0}
+SameTables [] (b ∷ bs) = ⊥
+SameTables (a ∷ rest) [] = ⊥
+SameTables (a ∷ rest) (b ∷ bs) = (a.0 ≡ b.0) × (a.1.heading ≡ b.1.heading) × IsPermutation a.1.rows b.1.rows × SameTables rest bs
+
+-- only a command that was carried out may leave another database
+abbrev pub KeptUnlessDone : Reply → Database → Database → Type 0
+KeptUnlessDone (reply.Done n) old new = Unit {0}
+KeptUnlessDone (reply.Rows header rows) old new = new ≡ old
+KeptUnlessDone (reply.Refused why number) old new = new ≡ old
+
+-- What is left of a legal run where the run store neither failed nor lied: each entry is answered as plain lists answer it, or refused for want of memory.
+abbrev pub PlainStep : Bounds → Database → Entry → Reply → Database → Type 0
+PlainStep limits old entry answer new =
+    ((it : Item) × ReadsAs limits entry it × ((new, answer) ≡ step limits old it))
+    ⊎ ((new ≡ old) × (answer ≡ refused Memory))
+
+abbrev pub PlainRun : Bounds → Database → List Entry → List Reply → Database → Type 0
+PlainRun limits old [] [] new = new ≡ old
+PlainRun limits old [] (answer ∷ answers) new = ⊥
+PlainRun limits old (entry ∷ entries) [] new = ⊥
+PlainRun limits old (entry ∷ entries) (answer ∷ answers) new =
+    (between : Database) × PlainStep limits old entry answer between × PlainRun limits between entries answers new
+
+abbrev pub OnlyMemoryRefuses : Type 0
+OnlyMemoryRefuses = (setting : Setting) (old : Database) (entries : List Entry) (answers : List Reply) (new : Database) (failures : ℕ)
+    → setting.honest ≡ true → FaultsHappened answers failures failures → LegalRun setting old entries answers new → PlainRun setting.limits old entries answers new

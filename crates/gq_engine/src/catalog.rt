@@ -1,0 +1,100 @@
+//! The tables of a database, by their names.
+ghost use Rattle.std.specs.Prelude.{◌≡◌, ◌++◌, ◌∷◌, [], IfOk, OnOk, OnErr, length, option_copied, IsSome, IfSome, MatchOption, None};
+ghost use Rattle.std.specs.Option.{ForSome};
+ghost use Rattle.gq_row.specs.Tables.{put};
+ghost use Rattle.gq_engine.specs.Databases.{table_at, with_table, StandsAt};
+ghost use Rattle.gq_engine.specs.Refusing.{row_refusal};
+
+use crate::table::Table;
+use gq_row::{Limits, Row, Schema, Text};
+use std::alloc::{AllocError, Global};
+use std::marker::Model;
+
+/// Tables by their names, in a list that is searched from its front, since there are few. No name
+/// stands twice.
+#[derive(Drop)]
+pub struct Catalog {
+    alloc: Global,
+    tables: Vec<(Text, Table)>,
+}
+
+impl Model for Catalog {
+    ghost use Rattle.gq_engine.specs.Databases.{Database};
+
+    ghost Value = { Database };
+
+    ghost view = { λ c. c.tables.items };
+
+    ghost use Rattle.std.specs.Prelude.{IsTrue};
+    ghost use Rattle.gq_engine.specs.Databases.{names_differ};
+
+    ghost invariant = { λ c. IsTrue (names_differ c.tables.items) };
+}
+
+impl Catalog {
+    pub fn new(alloc: Global) -> Catalog
+        ensures { result ≡ [] }
+    {
+        Catalog {
+            alloc,
+            tables: Vec::new(alloc),
+        }
+    }
+
+    /// The number of its tables.
+    pub fn len(&self) -> usize
+        ensures { result ≡ length self.now }
+    {
+        self.tables.len()
+    }
+
+    /// The table of a name.
+    pub fn get(&self, name: &str) -> Option<&Table>
+        ensures { option_copied result ≡ table_at self.now name.now }
+    {
+        for entry in &self.tables {
+            if entry.0.as_str() == name {
+                return Some(&entry.1);
+            }
+        }
+        None
+    }
+
+    /// Puts a row into the table of a name, which takes it.
+    pub fn put(&mut self, name: &str, row: Row, limits: &Limits) -> Result<(), AllocError>
+        requires table { IsSome (table_at self.old name.now) }
+        requires taken { ForSome (table_at self.old name.now) (λ table. row_refusal limits.now.bounds table row ≡ None) }
+        ensures ok { OnOk result (IfSome (table_at self.old name.now) (λ table. self.new ≡ with_table self.old name.now (record table { rows = put table.heading.key table.rows row }))) }
+        ensures err { OnErr result (self.new ≡ self.old) }
+    {
+        match find_table(self.tables.as_slice(), name) {
+            Some(i) => {
+                let table = &mut self.tables[i].1;
+                table.put(row, limits)
+            }
+            None => unreachable!(),
+        }
+    }
+
+    /// Adds an empty table under a name that has none.
+    pub fn add(&mut self, name: Text, schema: Schema) -> Result<(), AllocError>
+        requires { table_at self.old name ≡ None }
+        ensures ok { OnOk result (self.new ≡ self.old ++ (name, record { heading = schema; rows = [] }) ∷ []) }
+        ensures err { OnErr result (self.new ≡ self.old) }
+    {
+        let table = Table::new(self.alloc, schema);
+        self.tables.push((name, table))?;
+        Ok(())
+    }
+}
+
+fn find_table(tables: &[(Text, Table)], name: &str) -> Option<usize>
+    ensures { MatchOption result (table_at tables.now name.now ≡ None) (λ i. StandsAt tables.now name.now i) }
+{
+    for (i, entry) in tables.iter().enumerate() {
+        if entry.0.as_str() == name {
+            return Some(i);
+        }
+    }
+    None
+}

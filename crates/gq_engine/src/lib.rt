@@ -1,0 +1,48 @@
+//! A GROUP BY engine: a database of tables in memory, commands on it, and scripts of commands
+//! answered from their bytes to the replies' bytes.
+//!
+//! # A row's way
+//!
+//! ```text
+//! script bytes -> items -> commands -> tables -> replies -> reply bytes
+//!   CommandReader (gq_command)   Engine::execute   reply_text
+//! ```
+//!
+//! - [`Engine::run`] reads the items of a script one after the other, answers each, writes the
+//!   reply's text and flushes. [`Engine::execute`] carries out one command, and [`reply_text`] is
+//!   the text of a reply.
+//! - A table is a list of rows under a schema; a row that is put replaces the row of the same key,
+//!   or is added. Tables are found by linear search, and so are groups: their keys are sorted at
+//!   the end.
+//! - A command is refused by the first reason that applies, and a refused command changes nothing.
+//!   Want of memory may stand in place of any reply.
+//!
+//! # The contract above this crate
+//!
+//! What [`Engine::run`] writes is the text of a *legal run* over the items of the reader's bytes
+//! (`specs/Headline.antt`): item by item, the replies of plain lists of rows with keyed
+//! replacement, each group being the filter of the rows for one distinct key. A read fault leaves
+//! the texts of some first replies, a write fault a front of such texts. The definitions speak of
+//! lists alone (`specs/Steps.antt`, `specs/Runs.antt`); the laws in [`laws`] say that a database is
+//! a finite map, and that only memory refuses what the lists accept.
+#![tactic(auto)]
+
+mod catalog;
+mod cells;
+mod columns;
+mod engine;
+mod grouping;
+pub mod laws;
+mod line;
+mod refusal;
+mod reply;
+mod run;
+mod sending;
+mod table;
+mod text;
+
+pub use engine::Engine;
+pub use refusal::Refusal;
+pub use reply::Reply;
+pub use run::{Fault, Summary};
+pub use text::reply_text;

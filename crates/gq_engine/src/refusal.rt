@@ -1,0 +1,99 @@
+//! Why a command is refused.
+ghost use Rattle.std.specs.Prelude.{◌≡◌, ◌≤◌, length};
+ghost use Rattle.gq_engine.specs.Replies.{code_of, name_of};
+
+/// Why a command was refused. Refused commands change no table.
+#[derive(Clone, Copy, Debug, PartialEq, Eq)]
+pub enum Refusal {
+    /// The line is no command.
+    Syntax,
+    /// The line is longer than the limit.
+    LineTooLong,
+    /// There is no table of that name.
+    NoTable,
+    /// There is a table of that name already.
+    TableExists,
+    /// The table has no column of that name.
+    NoColumn,
+    /// A value is of another kind than its column, or there are too many or too few.
+    TypeMismatch,
+    /// The table has no key.
+    NoKey,
+    /// A key column would hold null.
+    NullKey,
+    /// A payload's header does not name each column once.
+    Header,
+    /// A record has more or fewer fields than the header.
+    FieldCount,
+    /// A field is no whole number of 64 bits.
+    BadInt,
+    /// A field is not UTF-8.
+    BadText,
+    /// A sum is no whole number of 64 bits.
+    SumRange,
+    /// Something is past a limit.
+    Limit,
+    /// A request for memory was refused.
+    Memory,
+    /// The run store failed.
+    StoreFault,
+    /// The run store did not read back what was written.
+    Damaged,
+    /// A payload was not closed.
+    LoadOpen,
+}
+
+impl Refusal {
+    /// Its number, which stays the same from version to version.
+    pub fn code(self) -> u8
+        ensures { result ≡ code_of self }
+    {
+        match self {
+            Refusal::Syntax => 1,
+            Refusal::LineTooLong => 2,
+            Refusal::NoTable => 3,
+            Refusal::TableExists => 4,
+            Refusal::NoColumn => 5,
+            Refusal::TypeMismatch => 6,
+            Refusal::NoKey => 7,
+            Refusal::NullKey => 8,
+            Refusal::Header => 9,
+            Refusal::FieldCount => 10,
+            Refusal::BadInt => 11,
+            Refusal::BadText => 12,
+            Refusal::SumRange => 13,
+            Refusal::Limit => 14,
+            Refusal::Memory => 15,
+            Refusal::StoreFault => 16,
+            Refusal::Damaged => 17,
+            Refusal::LoadOpen => 18,
+        }
+    }
+
+    /// Its name, as replies spell it.
+    pub fn name(self) -> &'static str
+        ensures name { result.now ≡ name_of self }
+        ensures short { length result.now ≤ 12 }
+    {
+        match self {
+            Refusal::Syntax => "Syntax",
+            Refusal::LineTooLong => "LineTooLong",
+            Refusal::NoTable => "NoTable",
+            Refusal::TableExists => "TableExists",
+            Refusal::NoColumn => "NoColumn",
+            Refusal::TypeMismatch => "TypeMismatch",
+            Refusal::NoKey => "NoKey",
+            Refusal::NullKey => "NullKey",
+            Refusal::Header => "Header",
+            Refusal::FieldCount => "FieldCount",
+            Refusal::BadInt => "BadInt",
+            Refusal::BadText => "BadText",
+            Refusal::SumRange => "SumRange",
+            Refusal::Limit => "Limit",
+            Refusal::Memory => "Memory",
+            Refusal::StoreFault => "StoreFault",
+            Refusal::Damaged => "Damaged",
+            Refusal::LoadOpen => "LoadOpen",
+        }
+    }
+}

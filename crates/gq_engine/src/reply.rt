@@ -1,0 +1,32 @@
+//! Replies.
+ghost use Rattle.std.specs.Prelude.{◌≡◌};
+ghost use Rattle.gq_engine.specs.Replies.{is_refusal as refuses};
+
+use crate::refusal::Refusal;
+use gq_row::{Row, Sequence, Text};
+
+/// The reply to a command.
+#[derive(Debug, Drop)]
+pub enum Reply {
+    /// Carried out; the number of rows that it put, or 0 for a new table.
+    Done(u64),
+    /// The rows of a query, under the names of their columns.
+    Rows {
+        header: Sequence<Text>,
+        rows: Sequence<Row>,
+    },
+    /// Refused, and no table changed; `number` is that of the faulty record of a payload.
+    Refused {
+        code: Refusal,
+        number: Option<u64>,
+    },
+}
+
+impl Reply {
+    /// Whether the command was refused.
+    pub fn is_refusal(&self) -> bool
+        ensures { result ≡ refuses self.now }
+    {
+        matches!(self, Reply::Refused { .. })
+    }
+}

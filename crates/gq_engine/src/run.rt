@@ -1,0 +1,134 @@
+//! Runs: the items of a script answered one after the other, and the replies written.
+ghost use Rattle.std.specs.Prelude.{◌≡◌, ◌+◌, ◌<◌, ◌≤◌, ◌∷◌, ◌^◌, [], if◌then◌else◌, IfSome, IfNone};
+ghost use Rattle.gq_command.specs.Items.{IsReady};
+ghost use Rattle.gq_engine.specs.Replies.{text, IsLine, is_refusal};
+ghost use Rattle.gq_engine.specs.Steps.{line_refusal};
+
+use crate::engine::{Engine, refused};
+use crate::line::line_of;
+use crate::refusal::Refusal;
+use crate::reply::Reply;
+use crate::sending::{WriteFault, send};
+use crate::text::rows_text;
+use gq_command::{CommandReader, Item, LineRefusal, ReadFault};
+use std::alloc::AllocError;
+use std::io::{Read, Write};
+
+/// What a run counted.
+#[derive(Clone, Copy, Debug, Default, PartialEq, Eq)]
+pub struct Summary {
+    /// Items of the script.
+    pub commands: u64,
+    /// Replies that are refusals.
+    pub refused: u64,
+}
+
+impl Summary {
+    fn add(&mut self, reply: &Reply)
+        requires commands { self.old.commands + 1 < 2 ^ 64 }
+        requires refused { self.old.refused ≤ self.old.commands }
+        ensures commands { self.new.commands ≡ self.old.commands + 1 }
+        ensures refused { self.new.refused ≡ (if is_refusal reply.now then self.old.refused + 1 else self.old.refused) }
+    {
+        self.commands += 1;
+        if reply.is_refusal() {
+            self.refused += 1;
+        }
+    }
+}
+
+/// Why a run stopped before the script's end.
+#[derive(Clone, Copy, Debug, PartialEq, Eq)]
+pub enum Fault {
+    /// A read failed, or the script has more bytes than the limit.
+    Read,
+    /// A write or a flush failed, or a write took no byte.
+    Write,
+}
+
+impl Engine {
+    ghost use Rattle.std.specs.Prelude.{◌≡◌, ◌∷◌, [], IfSome, IfNone};
+    ghost use Rattle.gq_command.specs.Items.{IsReady};
+    ghost use Rattle.gq_engine.specs.Engines.{database, failures_of, setting_of, state_of};
+    ghost use Rattle.gq_engine.specs.Headline.{Ran, Served};
+    ghost use Rattle.gq_engine.specs.Replies.{text, IsLine};
+    ghost use Rattle.gq_engine.specs.Runs.{LegalAnswer, FaultsHappened};
+
+    /// Answers the items of a script, one after the other, and writes each reply and flushes. A
+    /// reply's whole text is made before its first byte is written, and the lines `ok` and `err`
+    /// are made without memory.
+    pub fn run<R: Read + Drop, W: Write>(
+        &mut self,
+        reader: R,
+        writer: &mut W,
+    ) -> Result<Summary, Fault>
+        // What is written is, command by command, the replies of plain lists of rows.
+        ensures ran { Ran (setting_of self.old) (state_of self.old) (R.remaining reader) (state_of self.new) (W.contents writer.old) (W.contents writer.new) result }
+        ensures setting { setting_of self.new ≡ setting_of self.old }
+    {
+        let mut script = CommandReader::new(reader);
+        let mut summary = Summary {
+            commands: 0,
+            refused: 0,
+        };
+        for _turn in 0..u64::MAX {
+            let item = match script.next(self.alloc(), self.limits()) {
+                Ok(Some(item)) => item,
+                Ok(None) => return Ok(summary),
+                Err(ReadFault) => return Err(Fault::Read),
+            };
+            match self.serve(item, writer) {
+                Ok(reply) => summary.add(&reply),
+                Err(WriteFault) => return Err(Fault::Write),
+            }
+        }
+        Err(Fault::Read)
+    }
+
+    // Answers one item and writes the reply.
+    fn serve<W: Write>(&mut self, item: Item, writer: &mut W) -> Result<Reply, WriteFault>
+        requires { IsReady (setting_of self.old).limits item }
+        ensures served { Served (setting_of self.old) (state_of self.old) item (state_of self.new) (W.contents writer.old) (W.contents writer.new) result }
+        ensures setting { setting_of self.new ≡ setting_of self.old }
+    {
+        let (reply, text) = self.answer(item);
+        match text {
+            Some(text) => send(writer, text.as_slice())?,
+            None => send(writer, line_of(&reply).as_slice())?,
+        }
+        Ok(reply)
+    }
+
+    // The reply to an item, and its text where that needs memory.
+    fn answer(&mut self, item: Item) -> (Reply, Option<Vec<u8>>)
+        requires { IsReady (setting_of self.old).limits item }
+        ensures legal { LegalAnswer (setting_of self.old) (database self.old) item result.0 (database self.new) }
+        ensures faults { FaultsHappened (result.0 ∷ []) (failures_of self.old) (failures_of self.new) }
+        ensures setting { setting_of self.new ≡ setting_of self.old }
+        ensures text { IfSome result.1 (λ bytes. bytes.items ≡ text result.0) }
+        ensures line { IfNone result.1 (IsLine result.0) }
+    {
+        let reply = match item {
+            Item::Command(command) => self.execute(command),
+            Item::Refused(why) => refused(refusal_of(why)),
+        };
+        match &reply {
+            Reply::Rows { header, rows } => match rows_text(self.alloc(), header, rows) {
+                Ok(text) => (reply, Some(text)),
+                Err(AllocError) => (refused(Refusal::Memory), None),
+            },
+            _ => (reply, None),
+        }
+    }
+}
+
+fn refusal_of(why: LineRefusal) -> Refusal
+    ensures { result ≡ line_refusal why }
+{
+    match why {
+        LineRefusal::Syntax => Refusal::Syntax,
+        LineRefusal::LineTooLong => Refusal::LineTooLong,
+        LineRefusal::Limit => Refusal::Limit,
+        LineRefusal::Memory => Refusal::Memory,
+    }
+}

@@ -1,0 +1,31 @@
+//! Bytes sent to a writer.
+ghost use Rattle.std.specs.Prelude.{◌≡◌, IfErr, OnOk};
+ghost use Rattle.std.specs.Io.KnownBytes.{Appends};
+ghost use Rattle.gq_engine.specs.Sending.{AppendsFront};
+
+use std::io::Write;
+
+/// A write or a flush that failed, or a write that took no byte.
+#[derive(Clone, Copy, Debug, PartialEq, Eq)]
+pub struct WriteFault;
+
+/// Writes all the bytes, and flushes. Any error is a fault, an interrupted call too; then a front
+/// of the bytes was written.
+pub fn send<W: Write>(writer: &mut W, bytes: &[u8]) -> Result<(), WriteFault>
+    ensures ok { OnOk result (Appends (W.contents writer.old) (W.contents writer.new) bytes.now) }
+    ensures err { IfErr result (λ _. AppendsFront (W.contents writer.old) (W.contents writer.new) bytes.now) }
+{
+    let mut at = 0;
+    while at < bytes.len() {
+        let (_sent, rest) = bytes.split_at(at);
+        match writer.write(rest) {
+            Ok(0) => return Err(WriteFault),
+            Ok(n) => at += n,
+            Err(_e) => return Err(WriteFault),
+        }
+    }
+    match writer.flush() {
+        Ok(()) => Ok(()),
+        Err(_e) => Err(WriteFault),
+    }
+}

@@ -1,0 +1,93 @@
+//! The text of replies, rows as CSV records.
+ghost use Rattle.std.specs.Prelude.{◌≡◌, ◌∷◌, ◌++◌, [], ℕ, List, IfOk, OnOk, map};
+ghost use Rattle.csv.specs.Records.{fields_of, partial_of};
+ghost use Rattle.gq_engine.specs.Records.{Wrote};
+ghost use Rattle.gq_engine.specs.Replies.{text, cell_text, record_text};
+
+use crate::line::{accepted_line, line_of};
+use crate::reply::Reply;
+use csv::{ByteRecord, Writer, WriterBuilder};
+use gq_row::{Row, Sequence, Text, Value};
+use itoa::Buffer;
+use std::alloc::{AllocError, Global};
+
+/// The bytes of a reply, each of its lines ended by LF.
+pub fn reply_text(alloc: Global, reply: &Reply) -> Result<Vec<u8>, AllocError>
+    ensures { IfOk result (λ bytes. bytes.items ≡ text reply.now) }
+{
+    match reply {
+        Reply::Done(_) => Vec::from_slice(alloc, line_of(reply).as_slice()),
+        Reply::Rows { header, rows } => rows_text(alloc, header, rows),
+        Reply::Refused { code: _, number: _ } => Vec::from_slice(alloc, line_of(reply).as_slice()),
+    }
+}
+
+/// The text of a query's reply: `ok` with the number of rows, the header, and the rows.
+pub fn rows_text(
+    alloc: Global,
+    header: &Sequence<Text>,
+    rows: &Sequence<Row>,
+) -> Result<Vec<u8>, AllocError>
+    ensures { IfOk result (λ bytes. bytes.items ≡ text (Reply.Rows header.now rows.now)) }
+{
+    let front = Vec::from_slice(alloc, accepted_line(rows.len() as u64).as_slice())?;
+    let mut writer = WriterBuilder::new().from_writer(front);
+    let mut line = ByteRecord::new(alloc);
+    fill_header(&mut line, header.as_slice())?;
+    write_record(&mut writer, &line)?;
+    for row in rows.as_slice() {
+        fill_row(&mut line, row.cells())?;
+        write_record(&mut writer, &line)?;
+    }
+    match writer.into_inner() {
+        Ok(text) => Ok(text),
+        Err(_e) => Err(AllocError),
+    }
+}
+
+// Puts names into a record, in place of what it held.
+fn fill_header(line: &mut ByteRecord, names: &[Text]) -> Result<(), AllocError>
+    ensures { OnOk result (fields_of line.new ≡ names.now) }
+{
+    line.clear();
+    for name in names {
+        line.push_field(name.as_str().as_bytes())?;
+    }
+    Ok(())
+}
+
+// Puts the cells of a row into a record, in place of what it held.
+fn fill_row(line: &mut ByteRecord, cells: &[Value]) -> Result<(), AllocError>
+    ensures { OnOk result (fields_of line.new ≡ map cell_text cells.now) }
+{
+    line.clear();
+    for cell in cells {
+        push_cell(line, cell)?;
+    }
+    Ok(())
+}
+
+fn push_cell(line: &mut ByteRecord, cell: &Value) -> Result<(), AllocError>
+    requires { partial_of line.old ≡ [] }
+    ensures fields { OnOk result (fields_of line.new ≡ fields_of line.old ++ cell_text cell.now ∷ []) }
+    ensures partial { OnOk result (partial_of line.new ≡ []) }
+{
+    match cell {
+        Value::Null => line.push_field(b"\\N"),
+        Value::Int(n) => {
+            let mut digits = Buffer::new();
+            line.push_field(digits.format(*n).as_bytes())
+        }
+        Value::Text(text) => line.push_field(text.as_str().as_bytes()),
+    }
+}
+
+// Writes one record, with its end.
+fn write_record(writer: &mut Writer<Vec<u8>>, line: &ByteRecord) -> Result<(), AllocError>
+    ensures { (bytes : List ℕ) → Wrote writer.old bytes → OnOk result (Wrote writer.new (bytes ++ record_text (fields_of line.now))) }
+{
+    match writer.write_byte_record(line) {
+        Ok(()) => Ok(()),
+        Err(_e) => Err(AllocError),
+    }
+}
