@@ -1,0 +1,49 @@
+-- Command lines of any words.
+use Rattle.std.proofs.Common.{refl, codes, ℕ, Some, None, [], ◌∷◌, ◌≡◌, ◌==◌, false}
+use Rattle.clap.specs.Words.{Text}
+use Rattle.clap.specs.Lexer.{strip_byte}
+use Rattle.clap.specs.declared.error.kind.ErrorKind.TheVariants.{DisplayHelp, UnknownArgument}
+use Rattle.clap.proofs.OnLiterals.{clap_on_literals}
+use Rattle.gq_shell.specs.CommandLine.{TakesOnePath, faults_of, has_dash, script_of}
+
+no-dash : (c : ℕ) (cs : Text) → (c == 45) ≡ false → strip_byte 45 (c ∷ cs) ≡ None
+no-dash c cs plain = rw plain refl
+
+path-accepted : (name path : Text) → has_dash path ≡ false → faults_of (name ∷ path ∷ []) ≡ []
+unfolding clap_on_literals
+path-accepted name [] plain = refl
+path-accepted name (c ∷ cs) plain = rw plain (rw (no-dash c cs plain) refl)
+
+path-named : (name path : Text) → has_dash path ≡ false → script_of (name ∷ path ∷ []) ≡ Some path
+unfolding clap_on_literals
+path-named name [] plain = refl
+path-named name (c ∷ cs) plain = rw plain (rw (no-dash c cs plain) refl)
+
+helped-late : (name path : Text) → has_dash path ≡ false → faults_of (name ∷ path ∷ codes "--help" ∷ []) ≡ DisplayHelp ∷ []
+unfolding clap_on_literals
+helped-late name [] plain = refl
+helped-late name (c ∷ cs) plain = rw plain (rw (no-dash c cs plain) refl)
+
+second-refused : (name one two : Text) → has_dash one ≡ false → has_dash two ≡ false → faults_of (name ∷ one ∷ two ∷ []) ≡ UnknownArgument ∷ []
+unfolding clap_on_literals
+second-refused name [] [] one_plain two_plain = refl
+second-refused name [] (d ∷ ds) one_plain two_plain = rw two_plain (rw (no-dash d ds two_plain) refl)
+second-refused name (c ∷ cs) [] one_plain two_plain = rw one_plain (rw (no-dash c cs one_plain) refl)
+second-refused name (c ∷ cs) (d ∷ ds) one_plain two_plain =
+    rw one_plain (rw (no-dash c cs one_plain) (rw two_plain (rw (no-dash d ds two_plain) refl)))
+
+pub takes-one-path : TakesOnePath
+unfolding clap_on_literals
+takes-one-path = record {
+  nothing = λ name. (refl, refl);
+  path = λ name path plain. (path-accepted name path plain, path-named name path plain);
+  any_path = λ name path. (refl, refl);
+  help = λ name. refl;
+  short_help = λ name. refl;
+  late_help = helped-late;
+  two_paths = second-refused;
+  budget = λ name more. refl;
+  seed = λ name more. refl;
+  spill = λ name more. refl;
+  stats = λ name more. refl;
+}

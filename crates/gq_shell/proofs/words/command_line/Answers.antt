@@ -1,0 +1,12 @@
+use Rattle.std.proofs.Common.{rules, ap, ap₂, codes, ◌≡◌, ◌∙◌}
+use Rattle.std.proofs.lemmas.Result.{IfOk-weaker}
+use Rattle.clap.specs.Words.{new_rule, rule_of, with_rule}
+use Rattle.clap.specs.Simple.{app_of_fields}
+use Rattle.gq_shell.proofs.words.command_line.Goals as goal
+
+pub returns : goal.returns
+returns c =
+    let rule_is : rule_of c.help-script.result ≡ new_rule (codes "SCRIPT") = search rules in
+    let named = ap app_of_fields c.in_ok-bin_name.ensures.0 ∙ c.new-2.ensures.app in
+    let shown = ap app_of_fields c.after_help.ensures ∙ ap app_of_fields c.about.ensures ∙ named in
+    IfOk-weaker c.arg.result _ _ (λ r h. h.shape (search rules) ∙ ap₂ with_rule shown rule_is) c.arg.ensures

@@ -1,0 +1,4 @@
+pub mod CommandLine
+pub mod Session
+pub mod Statuses
+pub mod Words

@@ -1,0 +1,228 @@
+//! Command lines and what they ask for, and sessions with their statuses.
+use crate::session::session;
+use crate::words::{BadLine, read_words};
+use gq_engine::Engine;
+use gq_row::{Bounds, Limits};
+use std::alloc::{AllocError, Global};
+use std::io::{self, ErrorKind, Read, Write};
+use std::test::Fail;
+
+fn owned(alloc: Global, words: &[&str]) -> Result<Vec<String>, AllocError> {
+    let mut all = Vec::new(alloc);
+    for word in words {
+        all.push(String::from_str(alloc, word)?)?;
+    }
+    Ok(all)
+}
+
+/// Each command line, and the script that it names, if it is one.
+#[test]
+fn command_lines(rt: HostRuntime) -> Result<(), Fail> {
+    let cases: [(&[&str], Option<Option<&str>>); 15] = [
+        (&["groupsh"], Some(None)),
+        (&["groupsh", "a.gq"], Some(Some("a.gq"))),
+        (&["groupsh", ""], Some(Some(""))),
+        (&["groupsh", "-"], Some(Some("-"))),
+        (&["groupsh", "--", "a.gq"], Some(Some("a.gq"))),
+        (&["groupsh", "--", "--help"], Some(Some("--help"))),
+        (&["groupsh", "--"], Some(None)),
+        (&["groupsh", "a.gq", "b.gq"], None),
+        (&["groupsh", "--budget", "7"], None),
+        (&["groupsh", "--budget=7"], None),
+        (&["groupsh", "--seed", "7"], None),
+        (&["groupsh", "--spill", "d"], None),
+        (&["groupsh", "--stats"], None),
+        (&["groupsh", "-x"], None),
+        (&["groupsh", "--version"], None),
+    ];
+    for (words, script) in cases {
+        let words = owned(rt.alloc(), words)?;
+        match read_words(rt.alloc(), words.as_slice()) {
+            Ok(options) => assert!(rt; Some(options.script) == script, "{words:?}"),
+            Err(BadLine::Mistake(text)) => {
+                assert!(rt; script.is_none(), "{words:?}");
+                assert!(rt; text.as_str().starts_with("error: "), "{text}");
+                assert!(rt;
+                    text.as_str().contains("Usage: groupsh [SCRIPT]\n"),
+                    "{text}"
+                );
+            }
+            Err(other) => assert!(rt; false, "{words:?}: {other:?}"),
+        }
+    }
+    Ok(())
+}
+
+#[test]
+fn help(rt: HostRuntime) -> Result<(), Fail> {
+    let lines: [&[&str]; 3] = [
+        &["groupsh", "--help"],
+        &["bin/groupsh", "-h"],
+        &["groupsh", "a.gq", "--help"],
+    ];
+    for words in lines {
+        let words = owned(rt.alloc(), words)?;
+        let Err(BadLine::Help(text)) = read_words(rt.alloc(), words.as_slice()) else {
+            return Err(Fail::new("no help"));
+        };
+        for part in [
+            "Usage: groupsh [SCRIPT]\n",
+            "upsert s (1, 'Oslo')\n",
+            "docs/LANGUAGE.md",
+        ] {
+            assert!(rt; text.as_str().contains(part), "{text}");
+        }
+    }
+    Ok(())
+}
+
+/// Each script, what it writes, and the status.
+#[test]
+fn statuses(rt: HostRuntime) -> Result<(), Fail> {
+    let cases: [(&[u8], &[u8], u8); 4] = [
+        (b"", b"", 0),
+        (
+            b"create s (id int, city text, key (id))\nupsert s (1, 'Oslo')\nupsert s (2, 'Rome')\nupsert s (1, 'Rome')\ngroup s by city show count(*)\n",
+            b"ok 0\nok 1\nok 1\nok 1\nok 1\ncity,count(*)\nRome,2\n",
+            0,
+        ),
+        (b"creat t (a int)\n", b"err 1 Syntax\n", 1),
+        (
+            b"group zz by a show count(*)\ncreate s (a int)\n",
+            b"err 3 NoTable\nok 0\n",
+            1,
+        ),
+    ];
+    for (script, due, status) in cases {
+        let mut engine = Engine::new(rt.alloc(), Limits::greatest());
+        let mut replies = Vec::new(rt.alloc());
+        let mut errors = Vec::new(rt.alloc());
+        let answered = session(&mut engine, script, &mut replies, &mut errors);
+        assert_eq!(rt; answered, status);
+        assert_eq!(rt; replies.as_slice(), due);
+        assert!(rt; errors.is_empty());
+    }
+    Ok(())
+}
+
+/// Gives a script, and then fails.
+#[derive(Drop)]
+struct Broken {
+    bytes: &'static [u8],
+}
+
+impl Read for Broken {
+    fn read(&mut self, buffer: &mut [u8]) -> io::Result<usize> {
+        if self.bytes.is_empty() {
+            return Err(ErrorKind::Other.into());
+        }
+        let count = buffer.len().min(self.bytes.len());
+        buffer[..count].copy_from_slice(&self.bytes[..count]);
+        self.bytes = &self.bytes[count..];
+        Ok(count)
+    }
+}
+
+/// Takes two bytes at each write, as often as it has room, and then none.
+#[derive(Drop)]
+struct Narrow {
+    written: Vec<u8>,
+    room: usize,
+    error: Option<ErrorKind>,
+}
+
+impl Write for Narrow {
+    fn write(&mut self, bytes: &[u8]) -> io::Result<usize> {
+        if self.room == 0 {
+            return match self.error {
+                Some(error) => Err(error.into()),
+                None => Ok(0),
+            };
+        }
+        self.room -= 1;
+        let count = bytes.len().min(2);
+        if self.written.extend_from_slice(&bytes[..count]).is_err() {
+            return Err(ErrorKind::OutOfMemory.into());
+        }
+        Ok(count)
+    }
+
+    fn flush(&mut self) -> io::Result<()> {
+        Ok(())
+    }
+}
+
+impl Narrow {
+    fn new(alloc: Global, room: usize, error: Option<ErrorKind>) -> Narrow {
+        Narrow {
+            written: Vec::new(alloc),
+            room,
+            error,
+        }
+    }
+}
+
+#[test]
+fn read_faults(rt: HostRuntime) -> Result<(), Fail> {
+    // A read that fails, and a script of one byte more than its limit.
+    let Some(short) = Limits::new(Bounds {
+        script: 20,
+        ..Limits::greatest().bounds
+    }) else {
+        return Err(Fail::new("no limits"));
+    };
+    for limits in [Limits::greatest(), short] {
+        let mut engine = Engine::new(rt.alloc(), limits);
+        let mut replies = Vec::new(rt.alloc());
+        let mut errors = Vec::new(rt.alloc());
+        let script = Broken {
+            bytes: b"create s (a int)\nupsert s (1)",
+        };
+        let status = session(&mut engine, script, &mut replies, &mut errors);
+        assert_eq!(rt; status, 3);
+        assert_eq!(rt; replies.as_slice(), b"ok 0\n".as_slice());
+        assert_eq!(rt; errors.as_slice(), b"groupsh: read fault\n".as_slice());
+    }
+    Ok(())
+}
+
+#[test]
+fn write_faults(rt: HostRuntime) -> Result<(), Fail> {
+    for error in [None, Some(ErrorKind::Other), Some(ErrorKind::Interrupted)] {
+        let mut engine = Engine::new(rt.alloc(), Limits::greatest());
+        let mut replies = Narrow::new(rt.alloc(), 4, error);
+        let mut errors = Narrow::new(rt.alloc(), 1000, None);
+        let script: &[u8] = b"create s (a int)\nupsert s (1)\n";
+        let status = session(&mut engine, script, &mut replies, &mut errors);
+        assert_eq!(rt; status, 3);
+        assert_eq!(rt; replies.written.as_slice(), b"ok 0\nok".as_slice());
+        assert_eq!(rt;
+            errors.written.as_slice(),
+            b"groupsh: write fault\n".as_slice()
+        );
+    }
+    Ok(())
+}
+
+/// A fault in telling a fault is passed over.
+#[test]
+fn a_standard_error_that_takes_little(rt: HostRuntime) -> Result<(), Fail> {
+    for error in [None, Some(ErrorKind::Other)] {
+        for room in 0..10usize {
+            let mut engine = Engine::new(rt.alloc(), Limits::greatest());
+            let mut replies = Vec::new(rt.alloc());
+            let mut errors = Narrow::new(rt.alloc(), room, error);
+            let status = session(
+                &mut engine,
+                Broken { bytes: b"" },
+                &mut replies,
+                &mut errors,
+            );
+            assert_eq!(rt; status, 3);
+            let told: &[u8] = b"groupsh: read fault\n";
+            let (front, _rest) = told.split_at((2 * room).min(told.len()));
+            assert_eq!(rt; errors.written.as_slice(), front);
+        }
+    }
+    Ok(())
+}

@@ -1,0 +1,99 @@
+//! The program's command line.
+ghost use Rattle.std.specs.Prelude.{◌≡◌, IfOk, map, string_bytes};
+ghost use Rattle.clap.specs.Words.{app_of, kind_of};
+ghost use Rattle.gq_shell.specs.CommandLine.{LINE};
+ghost use Rattle.gq_shell.specs.Words.{IsToldAs, Reads};
+
+use clap::error::ErrorKind;
+use clap::{Arg, Command, Error};
+use std::alloc::{AllocError, Global};
+
+/// What a command line asks for.
+#[derive(Clone, Copy, Debug)]
+pub struct Options<'a> {
+    /// The path of the script. Without one the script is the standard input.
+    pub script: Option<&'a str>,
+}
+
+/// Why a command line asks for no run.
+#[derive(Debug, Drop)]
+pub enum BadLine {
+    /// Help was asked for; its text, for the standard output.
+    Help(String),
+    /// The words are no command line of the program; what is wrong with them, for the standard
+    /// error.
+    Mistake(String),
+    /// A request for memory was refused.
+    Memory,
+}
+
+const ABOUT: &str = "Keeps rows in tables and counts them by groups.
+
+Each line of the script is a command, and each command gets a reply. Tables are kept in memory until
+the script ends.";
+
+const MORE: &str = "Example script:
+  create s (id int, city text, key (id))
+  upsert s (1, 'Oslo')
+  upsert s (2, 'Rome')
+  upsert s (3, 'Oslo')
+  group s by city show count(*)
+
+Its last reply, as CSV under a line that counts its rows:
+  ok 2
+  city,count(*)
+  Oslo,2
+  Rome,1
+
+A command that is refused is answered `err CODE NAME` and changes nothing.
+docs/LANGUAGE.md has all commands, values, replies and refusals.
+
+Exit status:
+  0  all commands were accepted
+  1  some command was refused
+  2  the command line is wrong
+  3  the script can't be read, a reply can't be written, or there was no memory to begin with";
+
+// The command line that the program takes.
+fn command_line<'a>(alloc: Global) -> Result<Command<'a>, AllocError>
+    ensures { IfOk result (λ c. app_of c ≡ LINE) }
+{
+    let script = Arg::new(alloc, "SCRIPT").help(
+        "File with the script; without it, standard input is read",
+    );
+    Command::new(alloc, "groupsh")
+        .bin_name("groupsh")?
+        .about(ABOUT)
+        .after_help(MORE)
+        .arg(script)
+}
+
+// What clap answers in place of matches.
+fn bad_line(alloc: Global, error: &Error) -> BadLine
+    ensures { IsToldAs (kind_of error.now) result }
+{
+    let kind = error.kind();
+    if kind == ErrorKind::OutOfMemory {
+        return BadLine::Memory;
+    }
+    match error.to_string(alloc) {
+        Err(AllocError) => BadLine::Memory,
+        Ok(text) if kind == ErrorKind::DisplayHelp => BadLine::Help(text),
+        Ok(text) => BadLine::Mistake(text),
+    }
+}
+
+/// Reads a command line, whose first word is the program's name.
+pub fn read_words<'a>(alloc: Global, words: &'a [String]) -> Result<Options<'a>, BadLine>
+    ensures { Reads (map string_bytes words.entry.now) result }
+{
+    let Ok(line) = command_line(alloc) else {
+        return Err(BadLine::Memory);
+    };
+    match line.try_get_matches_from(words) {
+        Ok(matches) => Ok(Options {
+            script: matches.get_str("SCRIPT"),
+        }),
+        Err(error) => Err(bad_line(alloc, &error)),
+    }
+}
