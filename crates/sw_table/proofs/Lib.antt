@@ -1,0 +1,15 @@
+pub mod Bytes
+pub mod Capacities
+pub mod Entries
+pub mod Found
+pub mod FullLanes
+pub mod GroupLanes
+pub mod MaskBits
+pub mod Masks
+pub mod MovedEntries
+pub mod Places
+pub mod Refusals
+pub mod Searches
+pub mod Settling
+pub mod SettlingSteps
+pub mod SlotChanges

@@ -1,0 +1,65 @@
+use Rattle.std.proofs.Common.{◌≡◌, ◌≢◌, ◌+◌, ◌/◌, ◌%◌, ◌<◌, set, get_or, slice_index, bit_and, None, Some, sym, ap, subst, ◌∙◌, arith}
+use native.Mathlib.Nat.{mod-lt}
+use Rattle.std.proofs.lemmas.Nat.{and_mask}
+use Rattle.sw_table.specs.Entries.{entries_in}
+use Rattle.sw_table.specs.Free.{First, deleted_count}
+use Rattle.sw_table.specs.LaidOut.{used_count}
+use Rattle.sw_table.proofs.Settling.{used_turned, deleted_turned}
+use Rattle.sw_table.proofs.SettlingSteps.{stays, turns, turns_entries}
+use Rattle.sw_table.proofs.rehash.settle_one.Goals as goal
+use Rattle.sw_table.proofs.rehash.settle_one.Goals.{then-byte, else-byte}
+
+pub returns-then-at-i-clause-settling : goal.returns-then-at-i-clause-settling
+returns-then-at-i-clause-settling g c =
+    let ps = c.args.slots.now in let bs = c.args.ctrl.now in
+    let hashed = c.hash-hash.ensures in
+    rw (c.set.ensures)
+    (stays _ _ ps bs c.requires.settling c.args.i c.get.result.now c.requires.deleted.0 c.requires.deleted.1 c.get.ensures c.first_free-at.result (bit_and c.hash-hash.result 127)
+    (and_mask c.hash-hash.result 7 ∙ ap (λ x. x % 128) hashed) (subst (λ h. First bs h c.first_free-at.result) hashed c.first_free-at.ensures.first) c.if-at-i.true)
+
+pub returns-clause-settling : goal.returns-clause-settling
+returns-clause-settling g c =
+    let ps = c.args.slots.now in let bs = c.args.ctrl.now in let i = c.args.i in let t = c.first_free-at.result in
+    let hashed = c.hash-hash.ensures in let y = bit_and c.hash-hash.result 127 in
+    let off : t ≢ i = λ e. c.if-at-i.false (ap (λ x. x / 16) e) in
+    let slots : c.if-byte.slots ≡ set (set ps i (get_or ps t None)) t (get_or ps i None) = elim c.if-byte.branch [
+      | then-byte w ↦
+          let none = c.requires.settling.vacant t (sym c.get-byte.ensures.value ∙ w.if-byte.true) in
+          w.slots-is ∙ w.put.ensures ∙ ap (λ s. set s t (Some w.take-pair.result)) w.take-pair.ensures.places ∙ sym (λ j. set (set ps i (none j)) t (w.take-pair.ensures.value j))
+      | else-byte w ↦ w.slots-is ∙ w.swap.ensures
+    ] in
+    let bytes : c.set-3.new.self ≡ set (set bs i (slice_index bs t)) t y = c.set-3.ensures ∙ ap (λ s. set s t y) c.set-2.ensures ∙ ap (λ b. set (set bs i b) t y) c.get-byte.ensures.value in
+    rw (slots, bytes)
+    (turns _ _ ps bs c.requires.settling i c.get.result.now c.requires.deleted.0 c.requires.deleted.1 c.get.ensures t y
+    (and_mask c.hash-hash.result 7 ∙ ap (λ x. x % 128) hashed) (subst (λ h. First bs h t) hashed c.first_free-at.ensures.first) c.first_free-at.ensures.is c.first_free-at.ensures.free.0 off)
+
+pub returns-clause-entries : goal.returns-clause-entries
+returns-clause-entries g c =
+    let ps = c.args.slots.now in let bs = c.args.ctrl.now in let i = c.args.i in let t = c.first_free-at.result in
+    let hashed = c.hash-hash.ensures in let y = bit_and c.hash-hash.result 127 in
+    let off : t ≢ i = λ e. c.if-at-i.false (ap (λ x. x / 16) e) in
+    let slots : c.if-byte.slots ≡ set (set ps i (get_or ps t None)) t (get_or ps i None) = elim c.if-byte.branch [
+      | then-byte w ↦
+          let none = c.requires.settling.vacant t (sym c.get-byte.ensures.value ∙ w.if-byte.true) in
+          w.slots-is ∙ w.put.ensures ∙ ap (λ s. set s t (Some w.take-pair.result)) w.take-pair.ensures.places ∙ sym (λ j. set (set ps i (none j)) t (w.take-pair.ensures.value j))
+      | else-byte w ↦ w.slots-is ∙ w.swap.ensures
+    ] in
+    ap (entries_in g.K.Keyed.class) slots
+    ∙ turns_entries _ _ ps bs c.requires.settling i c.get.result.now c.requires.deleted.0 c.requires.deleted.1 c.get.ensures t y
+    (and_mask c.hash-hash.result 7 ∙ ap (λ x. x % 128) hashed) (subst (λ h. First bs h t) hashed c.first_free-at.ensures.first) c.first_free-at.ensures.is c.first_free-at.ensures.free.0 off
+
+pub returns-clause-used : goal.returns-clause-used
+returns-clause-used g c =
+    let bs = c.args.ctrl.now in let i = c.args.i in let t = c.first_free-at.result in let y = bit_and c.hash-hash.result 127 in
+    let off : t ≢ i = λ e. c.if-at-i.false (ap (λ x. x / 16) e) in
+    let low : y < 128 = omega (arith, and_mask c.hash-hash.result 7, mod-lt c.hash-hash.result {m = 128} (omega arith)) in
+    ap used_count (c.set-3.ensures ∙ ap (λ s. set s t y) c.set-2.ensures ∙ ap (λ b. set (set bs i b) t y) c.get-byte.ensures.value)
+    ∙ used_turned bs i y c.requires.deleted.0 c.requires.deleted.1 low t c.first_free-at.ensures.free.0 off
+
+pub returns-clause-fewer : goal.returns-clause-fewer
+returns-clause-fewer g c =
+    let bs = c.args.ctrl.now in let i = c.args.i in let t = c.first_free-at.result in let y = bit_and c.hash-hash.result 127 in
+    let off : t ≢ i = λ e. c.if-at-i.false (ap (λ x. x / 16) e) in
+    let low : y < 128 = omega (arith, and_mask c.hash-hash.result 7, mod-lt c.hash-hash.result {m = 128} (omega arith)) in
+    ap (λ b. deleted_count b + 1) (c.set-3.ensures ∙ ap (λ s. set s t y) c.set-2.ensures ∙ ap (λ b. set (set bs i b) t y) c.get-byte.ensures.value)
+    ∙ deleted_turned bs i y c.requires.deleted.0 c.requires.deleted.1 low t c.first_free-at.ensures.free.0 off

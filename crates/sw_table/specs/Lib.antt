@@ -1,0 +1,6 @@
+pub mod Entries
+pub mod Free
+pub mod LaidOut
+pub mod Sizes
+pub mod TableLends
+pub mod View

@@ -1,0 +1,31 @@
+//! The search for a free slot.
+ghost use Rattle.std.specs.Prelude.{◌<◌, ◌≤◌, IsTrue, length, slice_index};
+ghost use Rattle.sw_ctrl.specs.Bytes.{is_free};
+ghost use Rattle.sw_table.specs.Sizes.{IsCapacity, load_of};
+ghost use Rattle.sw_table.specs.LaidOut.{used_count};
+ghost use Rattle.sw_table.specs.Free.{IsFree, First};
+
+use sw_ctrl::Ctrl;
+use sw_probe::Probe;
+
+/// The first free slot of the probe for the hash.
+#[inline]
+pub(crate) fn first_free(ctrl: &Ctrl, hash: u64) -> usize
+    requires size { IsCapacity (length ctrl.now) × (0 < length ctrl.now) }
+    requires load { used_count ctrl.now ≤ load_of (length ctrl.now) }
+    ensures free { IsFree ctrl.now hash result }
+    ensures is { IsTrue (is_free (slice_index ctrl.now result)) }
+    ensures first { First ctrl.now hash result }
+{
+    let groups = ctrl.len() / 16;
+    let mut probe = Probe::new(hash, groups);
+    'probe: loop {
+        let at = probe.group();
+        if let Some(lane) = ctrl.group(at).match_free().lowest() {
+            return 16 * at + lane as usize;
+        }
+        if !probe.advance() {
+            unreachable!();
+        }
+    }
+}

@@ -1,0 +1,114 @@
+//! More slots.
+ghost use Rattle.std.specs.Prelude.{◌≡◌, ◌↔◌, ℕ, IfOk, IfErr, OnOk, OnErr, IsOk, ◌<◌, ◌≤◌, ◌^◌};
+ghost use Rattle.std.specs.FinMap.{len};
+ghost use Rattle.sw_table.specs.View.{View, slot_count};
+ghost use Rattle.sw_table.specs.Entries.{entries};
+ghost use Rattle.sw_table.specs.Sizes.{SameOrGrown, grown, room_of, load_of, IsCapacity};
+ghost use Rattle.sw_table.specs.LaidOut.{used_count};
+ghost use Rattle.sw_table.specs.declared.refused.Why.TheVariants.{Limit};
+
+use crate::moves::move_all;
+use crate::refused::Why;
+use crate::sizes::{MAX_CAPACITY, capacity_for};
+use crate::table::Table;
+use std::alloc::AllocError;
+use sw_ctrl::Ctrl;
+use sw_probe::{KeyHash, Keyed};
+use sw_slots::Slots;
+
+impl<K: Keyed, V, H: KeyHash<K>> Table<K, V, H> {
+    /// Makes room for `n` entries, by the least capacity that has it. Where the room is there
+    /// already it does nothing, and succeeds.
+    ///
+    /// It refuses with `Limit` where the capacity would pass 2^28, before it asks for memory, and
+    /// else with `Memory`. The table is then as it was.
+    pub fn reserve(&mut self, n: usize) -> Result<(), Why>
+        ensures entries { entries K.class self.new ≡ entries K.class self.old }
+        ensures room { OnOk result (n ≤ room_of (slot_count self.new)) }
+        ensures grows { slot_count self.old ≤ slot_count self.new }
+        ensures least { (c : ℕ) → IsCapacity c → n ≤ room_of c → slot_count self.old ≤ c →
+            slot_count self.new ≤ c }
+        ensures enough { n ≤ room_of (slot_count self.old) → IsOk result × (self.new ≡ self.old) }
+        ensures hasher { self.new.hasher ≡ self.old.hasher }
+        ensures unchanged { OnErr result (self.new ≡ self.old) }
+        ensures limit { (result ≡ Err Limit) ↔ (room_of (2 ^ 28) < n) }
+    {
+        // The proof takes the invariant from here.
+        let _ = &self.ctrl;
+        if n <= self.room() {
+            return Ok(());
+        }
+        let Some(capacity) = capacity_for(n) else {
+            return Err(Why::Limit);
+        };
+        match self.resize(capacity) {
+            Ok(()) => Ok(()),
+            Err(_) => Err(Why::Memory),
+        }
+    }
+
+    // Makes space for one more entry: in place where the room suffices, else by growth.
+    #[cold]
+    pub(crate) fn make_space(&mut self) -> Result<(), Why>
+        ensures entries { OnOk result (entries K.class self.new ≡ entries K.class self.old) }
+        ensures slots { OnOk result (SameOrGrown (slot_count self.old) (slot_count self.new)) }
+        ensures in_place { len (entries K.class self.old) < room_of (slot_count self.old) →
+            IsOk result × (slot_count self.new ≡ slot_count self.old) }
+        ensures hasher { self.new.hasher ≡ self.old.hasher }
+        ensures load { OnOk result (used_count self.new.bytes < load_of (slot_count self.new)) }
+        ensures unchanged { OnErr result (self.new ≡ self.old) }
+        ensures limit { IfErr result (λ why. (why ≡ Limit) ↔ (slot_count self.old ≡ 2 ^ 28)) }
+    {
+        // The proof takes the invariant from here.
+        let _ = &self.ctrl;
+        if self.len() < self.room() {
+            self.rehash();
+            return Ok(());
+        }
+        self.grow()
+    }
+
+    // Doubles the capacity.
+    fn grow(&mut self) -> Result<(), Why>
+        ensures entries { OnOk result (entries K.class self.new ≡ entries K.class self.old) }
+        ensures slots { OnOk result (slot_count self.new ≡ grown (slot_count self.old)) }
+        ensures hasher { self.new.hasher ≡ self.old.hasher }
+        ensures load { OnOk result (used_count self.new.bytes < load_of (slot_count self.new)) }
+        ensures unchanged { OnErr result (self.new ≡ self.old) }
+        ensures limit { IfErr result (λ why. (why ≡ Limit) ↔ (slot_count self.old ≡ 2 ^ 28)) }
+    {
+        let capacity = self.ctrl.len();
+        if capacity == MAX_CAPACITY {
+            return Err(Why::Limit);
+        }
+        match self.resize(if capacity == 0 { 16 } else { 2 * capacity }) {
+            Ok(()) => Ok(()),
+            Err(_) => Err(Why::Memory),
+        }
+    }
+
+    // Moves every entry to new blocks. Both are made before any entry moves.
+    fn resize(&mut self, capacity: usize) -> Result<(), AllocError>
+        requires { IsCapacity capacity × (slot_count self.old < capacity) }
+        ensures entries { OnOk result (entries K.class self.new ≡ entries K.class self.old) }
+        ensures slots { OnOk result (slot_count self.new ≡ capacity) }
+        ensures hasher { self.new.hasher ≡ self.old.hasher }
+        ensures load { OnOk result (used_count self.new.bytes < load_of capacity) }
+        ensures unchanged { OnErr result (self.new ≡ self.old) }
+    {
+        let mut ctrl = Ctrl::new(self.alloc, capacity)?;
+        let mut slots = Slots::new(self.alloc, capacity)?;
+        move_all(
+            &mut self.slots,
+            &self.ctrl,
+            &self.hasher,
+            &mut slots,
+            &mut ctrl,
+        );
+        let left = std::mem::replace(&mut self.slots, slots);
+        left.release();
+        self.ctrl = ctrl;
+        self.used = self.len;
+        Ok(())
+    }
+}

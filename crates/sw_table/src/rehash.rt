@@ -1,0 +1,82 @@
+//! The rehash in place.
+ghost use Rattle.std.specs.Prelude.{◌≡◌, ◌≢◌, ℕ, ◌+◌, ◌<◌, length, slice_index};
+ghost use Rattle.sw_ctrl.specs.declared.control.TheConstants.{DELETED};
+ghost use Rattle.std.specs.FinMap.{len};
+ghost use Rattle.sw_table.specs.View.{View, slot_count};
+ghost use Rattle.sw_table.specs.Entries.{entries, entries_in};
+ghost use Rattle.sw_table.specs.LaidOut.{hash_by, full_count, used_count, IsLaidOut};
+ghost use Rattle.sw_table.specs.Free.{IsSettling, deleted_count};
+
+use crate::free::first_free;
+use crate::table::Table;
+use sw_ctrl::{Ctrl, DELETED, EMPTY};
+use sw_probe::{KeyHash, Keyed};
+use sw_slots::Slots;
+
+impl<K: Keyed, V, H: KeyHash<K>> Table<K, V, H> {
+    /// Places every entry anew, in the slots that are there. No byte is deleted then. It takes no
+    /// memory.
+    pub fn rehash(&mut self)
+        ensures entries { entries K.class self.new ≡ entries K.class self.old }
+        ensures slots { slot_count self.new ≡ slot_count self.old }
+        ensures none_deleted { (i : ℕ) → i < slot_count self.new →
+            slice_index self.new.bytes i ≢ DELETED }
+        ensures load { used_count self.new.bytes ≡ len (entries K.class self.old) }
+        ensures hasher { self.new.hasher ≡ self.old.hasher }
+    {
+        settle_all(&mut self.slots, &mut self.ctrl, &self.hasher);
+        self.used = self.len;
+    }
+}
+
+// Gives every entry its place anew.
+fn settle_all<K: Keyed, V, H: KeyHash<K>>(slots: &mut Slots<(K, V)>, ctrl: &mut Ctrl, hasher: &H)
+    requires laid { IsLaidOut K.class (hash_by H.hash_of K.bytes hasher.now) slots.old ctrl.old }
+    ensures laid { IsLaidOut K.class (hash_by H.hash_of K.bytes hasher.now) slots.new ctrl.new }
+    ensures entries { entries_in K.class slots.new ≡ entries_in K.class slots.old }
+    ensures size { length ctrl.new ≡ length ctrl.old }
+    ensures used { used_count ctrl.new ≡ full_count ctrl.old }
+    ensures placed { (k : ℕ) → k < length ctrl.new → slice_index ctrl.new k ≢ DELETED }
+{
+    ctrl.mark_for_rehash();
+    for i in 0..ctrl.len() {
+        'slot: while ctrl.get(i) == DELETED {
+            settle_one(slots, ctrl, hasher, i);
+        }
+    }
+}
+
+// Gives the entry of slot `i` its place. What stood there, if anything, is now in slot `i`.
+fn settle_one<K: Keyed, V, H: KeyHash<K>>(
+    slots: &mut Slots<(K, V)>,
+    ctrl: &mut Ctrl,
+    hasher: &H,
+    i: usize,
+)
+    requires settling { IsSettling K.class (hash_by H.hash_of K.bytes hasher.now) slots.old ctrl.old }
+    requires deleted { (i < length ctrl.old) × (slice_index ctrl.old i ≡ DELETED) }
+    ensures settling { IsSettling K.class (hash_by H.hash_of K.bytes hasher.now) slots.new ctrl.new }
+    ensures entries { entries_in K.class slots.new ≡ entries_in K.class slots.old }
+    ensures size { length ctrl.new ≡ length ctrl.old }
+    ensures used { used_count ctrl.new ≡ used_count ctrl.old }
+    ensures fewer { deleted_count ctrl.new + 1 ≡ deleted_count ctrl.old }
+    ensures others { (k : ℕ) → k ≢ i → slice_index ctrl.old k ≢ DELETED →
+        slice_index ctrl.new k ≢ DELETED }
+{
+    let hash = hasher.hash(&slots.get(i).0);
+    let h2 = (hash & 0x7f) as u8;
+    let at = first_free(ctrl, hash);
+    if at / 16 == i / 16 {
+        ctrl.set(i, h2);
+        return;
+    }
+    let byte = ctrl.get(at);
+    if byte == EMPTY {
+        let pair = slots.take(i);
+        slots.put(at, pair);
+    } else {
+        slots.swap(i, at);
+    }
+    ctrl.set(i, byte);
+    ctrl.set(at, h2);
+}

@@ -1,0 +1,24 @@
+//! How large a table has to be.
+ghost use Rattle.std.specs.Prelude.{◌≡◌, ℕ, ◌<◌, ◌≤◌, ◌^◌, IfSome, IfNone};
+ghost use Rattle.sw_table.specs.Sizes.{IsCapacity, room_of};
+
+pub(crate) const MAX_CAPACITY: usize = 1 << 28;
+
+/// The least capacity whose room is at least `n`, if there is one.
+pub(crate) fn capacity_for(n: usize) -> Option<usize>
+    ensures capacity { IfSome result (λ c. IsCapacity c × (n ≤ room_of c)) }
+    ensures least { IfSome result (λ c. (d : ℕ) → IsCapacity d → n ≤ room_of d → c ≤ d) }
+    ensures none { IfNone result (room_of (2 ^ 28) < n) }
+{
+    if n == 0 {
+        return Some(0);
+    }
+    let mut capacity = 16;
+    while 25 * capacity / 32 < n {
+        if capacity == MAX_CAPACITY {
+            return None;
+        }
+        capacity *= 2;
+    }
+    Some(capacity)
+}

@@ -1,0 +1,166 @@
+//! The table, and its sizes.
+ghost use Rattle.std.specs.Prelude.{◌≡◌, ◌↔◌, ℕ, ◌<◌, ◌≤◌, ◌^◌, Option, Some, length, slice_index, IfOk, IsOk};
+ghost use Rattle.std.specs.FinMap.{empty, len};
+ghost use Rattle.sw_table.specs.View.{View, slot_count, fresh, IsFull};
+ghost use Rattle.sw_table.specs.Entries.{entries};
+ghost use Rattle.sw_table.specs.Sizes.{room_of, IsCapacity};
+ghost use Rattle.sw_table.specs.LaidOut.{IsLaidOut, hash_by};
+ghost use Rattle.sw_table.specs.declared.refused.Why.TheVariants.{Limit};
+
+use crate::drops::empty_out;
+use crate::refused::Why;
+use crate::sizes::capacity_for;
+use std::alloc::Global;
+use std::marker::Model;
+use sw_ctrl::Ctrl;
+use sw_probe::{KeyHash, Keyed};
+use sw_slots::Slots;
+
+/// The number of a slot, below the capacity of its table. It is good until entries move: until the
+/// next `place`, `remove`, `reserve`, `rehash` or `clear`.
+#[derive(Clone, Copy)]
+pub struct SlotNo {
+    pub index: usize,
+}
+
+/// A map from keys to values, in one row of slots.
+///
+/// Contracts see what each slot holds, the control byte of each slot, and the hasher; `entries` of
+/// these is the finite map.
+pub struct Table<K: Keyed, V, H: KeyHash<K>> {
+    pub(crate) slots: Slots<(K, V)>,
+    pub(crate) ctrl: Ctrl,
+    pub(crate) hasher: H,
+    // How many slots are full.
+    pub(crate) len: usize,
+    // How many slots are full or deleted.
+    pub(crate) used: usize,
+    pub(crate) alloc: Global,
+}
+
+impl<K: Keyed, V, H: KeyHash<K>> Model for Table<K, V, H> {
+    ghost use Rattle.sw_table.specs.View.{View, view_code, table_view};
+    ghost use Rattle.sw_table.specs.LaidOut.{IsTable, hash_by};
+
+    ghost Value = { View K V H };
+
+    ghost coded = { view_code K.code V.code H.code };
+
+    ghost view = { λ t. table_view t.slots t.ctrl t.hasher };
+
+    ghost invariant = { λ t. IsTable K.class (hash_by H.hash_of K.bytes t.hasher) t.slots t.ctrl t.len t.used };
+}
+
+impl<K: Keyed + Drop, V: Drop, H: KeyHash<K> + Drop> Drop for Table<K, V, H> {
+    fn drop(self) {
+        let Table {
+            slots,
+            ctrl,
+            hasher: _,
+            len: _,
+            used: _,
+            alloc: _,
+        } = self;
+        empty_out(slots, &ctrl).release();
+    }
+}
+
+impl<K: Keyed, V, H: KeyHash<K>> Table<K, V, H> {
+    /// A table without slots. It takes no memory.
+    pub fn new(alloc: Global, hasher: H) -> Table<K, V, H>
+        ensures table { result ≡ fresh 0 hasher }
+        ensures entries { entries K.class result ≡ empty }
+    {
+        let ctrl = match Ctrl::new(alloc, 0) {
+            Ok(ctrl) => ctrl,
+            Err(_) => unreachable!(),
+        };
+        let slots = match Slots::new(alloc, 0) {
+            Ok(slots) => slots,
+            Err(_) => unreachable!(),
+        };
+        Table {
+            slots,
+            ctrl,
+            hasher,
+            len: 0,
+            used: 0,
+            alloc,
+        }
+    }
+
+    /// A table with room for `n` entries, of the least capacity that has it. No room takes no
+    /// memory.
+    ///
+    /// It refuses with `Limit` where the capacity would pass 2^28, before it asks for memory, and
+    /// else with `Memory`.
+    pub fn with_room(alloc: Global, hasher: H, n: usize) -> Result<Table<K, V, H>, Why>
+    where
+        H: Drop,
+        ensures table { IfOk result (λ t. t ≡ fresh (slot_count t) hasher) }
+        ensures entries { IfOk result (λ t. entries K.class t ≡ empty) }
+        ensures room { IfOk result (λ t. n ≤ room_of (slot_count t)) }
+        ensures least { IfOk result (λ t. (c : ℕ) → IsCapacity c → n ≤ room_of c →
+            slot_count t ≤ c) }
+        ensures no_memory { n ≡ 0 → IsOk result }
+        ensures limit { (result ≡ Err Limit) ↔ (room_of (2 ^ 28) < n) }
+    {
+        let Some(capacity) = capacity_for(n) else {
+            return Err(Why::Limit);
+        };
+        let Ok(ctrl) = Ctrl::new(alloc, capacity) else {
+            return Err(Why::Memory);
+        };
+        let Ok(slots) = Slots::new(alloc, capacity) else {
+            return Err(Why::Memory);
+        };
+        Ok(Table {
+            slots,
+            ctrl,
+            hasher,
+            len: 0,
+            used: 0,
+            alloc,
+        })
+    }
+
+    /// How many entries there are.
+    #[inline]
+    pub fn len(&self) -> usize
+        ensures { result ≡ len (entries K.class self.now) }
+    {
+        self.len
+    }
+
+    /// How many slots there are, and how they are laid out.
+    #[inline]
+    pub fn capacity(&self) -> usize
+        ensures slots { result ≡ slot_count self.now }
+        ensures laid_out { IsLaidOut K.class (hash_by H.hash_of K.bytes self.now.hasher)
+            self.now.places self.now.bytes }
+    {
+        self.ctrl.len()
+    }
+
+    /// How many entries there may be before an insertion can ask for memory, however many were
+    /// removed.
+    #[inline]
+    pub fn room(&self) -> usize
+        ensures { result ≡ room_of (slot_count self.now) }
+    {
+        25 * self.ctrl.len() / 32
+    }
+
+    /// The control byte of slot `i`. It is below 128 where the slot is full, and then the seven low
+    /// bits of its key's hash.
+    #[inline]
+    pub fn byte(&self, i: usize) -> u8
+        requires { i < slot_count self.now }
+        ensures value { result ≡ slice_index self.now.bytes i }
+        ensures full { (result < 128) ↔ IsFull self.now i }
+    {
+        // The proof takes the invariant from here.
+        let _ = &self.ctrl;
+        self.ctrl.get(i)
+    }
+}
