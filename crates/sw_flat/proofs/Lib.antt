@@ -1,0 +1,4 @@
+pub mod Classes
+pub mod Drained
+pub mod Listed
+pub mod Merged

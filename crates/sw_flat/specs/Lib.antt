@@ -1,0 +1,2 @@
+pub mod MapLends
+pub mod Maps

@@ -1,0 +1,37 @@
+-- What a map has for a class of keys, and what becomes of it.
+use Rattle.std.specs.Prelude.{◌≡◌, ℕ, not, List, [], ◌∷◌, map, length, Option, Some, None}
+use Rattle.std.specs.Option.{option_map, option_map_or}
+use Rattle.std.specs.FinMap.{get, insert, len, contains_key, retain_keys, from_entries}
+use Rattle.sw_table.specs.Entries.{Entries}
+
+module _ {K V : Type 0} where
+  -- the value of the class, if it has an entry
+  abbrev pub value_at : Entries K V → List ℕ → Option V
+  value_at m c = option_map (λ p. p.1) (get m c)
+
+  -- the key that is stored of the class, or else k
+  abbrev pub stored_key : Entries K V → List ℕ → K → K
+  stored_key m c k = option_map_or (λ p. p.0) (get m c) k
+
+  -- the value of the class becomes w, and its stored key stays
+  abbrev pub assigned : Entries K V → List ℕ → V → Entries K V
+  assigned m c w = option_map_or (λ p. insert m c (p.0, w)) (get m c) m
+
+  -- the entries of n whose classes m lacks
+  abbrev pub lacked : Entries K V → Entries K V → Entries K V
+  lacked m n = retain_keys n (λ c. not (contains_key m c))
+
+  -- the entries of n whose classes m has
+  abbrev pub shared : Entries K V → Entries K V → Entries K V
+  shared m n = retain_keys n (λ c. contains_key m c)
+
+  -- the list has each entry of the map, and each once
+  pub record ListsAll (class : K → List ℕ) (items : List (K × V)) (m : Entries K V) : Type 0 where
+    pub all : from_entries (map (λ p. (class p.0, p)) items) ≡ m
+    pub once : length items ≡ len m
+
+-- the values in the filled places, in their order
+abbrev pub filled : {X : Type 0} → List (Option X) → List X
+filled [] = []
+filled (None ∷ s) = filled s
+filled (Some x ∷ s) = x ∷ filled s

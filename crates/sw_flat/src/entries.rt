@@ -1,0 +1,98 @@
+//! Entries that come and go.
+ghost use Rattle.std.specs.Prelude.{◌≡◌, ◌↔◌, ◌<◌, ◌^◌, ◌⊎◌, IsTrue, IsOk, OnOk, OnErr, IfOk, IfErr, None, if◌then◌else◌};
+ghost use Rattle.std.specs.Bool.{OnFalse};
+ghost use Rattle.std.specs.FinMap.{insert, get, remove, len, contains_key};
+ghost use Rattle.sw_table.specs.View.{slot_count};
+ghost use Rattle.sw_table.specs.Entries.{entries};
+ghost use Rattle.sw_table.specs.Sizes.{room_of, grown};
+ghost use Rattle.sw_table.specs.declared.refused.Why.TheVariants.{Limit};
+ghost use Rattle.sw_flat.specs.declared.emplaced.Emplaced.TheVariants.{Inserted, Present};
+ghost use Rattle.sw_flat.specs.Maps.{value_at, stored_key};
+
+use crate::emplaced::Emplaced;
+use crate::map::FlatMap;
+use sw_probe::{KeyHash, Keyed, Names};
+use sw_table::Refused;
+
+impl<K: Keyed, V, H: KeyHash<K>> FlatMap<K, V, H> {
+    /// Adds an entry where its key is new. Where the key is there, the map stays as it is, and key
+    /// and value come back.
+    ///
+    /// It refuses only a new key, and only where there are as many entries as the room, or more:
+    /// with `Limit` where the capacity is 2^28, else with `Memory`. The pair is then handed back,
+    /// and the map is as it was.
+    #[inline]
+    pub fn try_emplace(&mut self, key: K, value: V) -> Result<Emplaced<K, V>, Refused<K, V>>
+        ensures answer { IfOk result (λ e. e ≡ (if contains_key (entries K.class self.old) (K.class key) then Present key value else Inserted)) }
+        ensures entries { OnOk result (entries K.class self.new ≡ (if contains_key (entries K.class self.old) (K.class key) then entries K.class self.old else insert (entries K.class self.old) (K.class key) (key, value))) }
+        ensures present { IsTrue (contains_key (entries K.class self.old) (K.class key)) → IsOk result × (self.new ≡ self.old) }
+        ensures within_room { len (entries K.class self.old) < room_of (slot_count self.old) → IsOk result × (slot_count self.new ≡ slot_count self.old) }
+        ensures slots { (slot_count self.new ≡ slot_count self.old) ⊎ (slot_count self.new ≡ grown (slot_count self.old)) }
+        ensures hasher { self.new.hasher ≡ self.old.hasher }
+        ensures handed_back { IfErr result (λ r. (r.key ≡ key) × (r.value ≡ value)) }
+        ensures unchanged { OnErr result (self.new ≡ self.old) }
+        ensures limit { IfErr result (λ r. (r.why ≡ Limit) ↔ (slot_count self.old ≡ 2 ^ 28)) }
+    {
+        let hash = self.table.hash(&key);
+        if self.table.find_hashed(&key, hash).is_some() {
+            return Ok(Emplaced::Present(key, value));
+        }
+        self.table.place_hashed(key, value, hash)?;
+        Ok(Emplaced::Inserted)
+    }
+
+    /// Adds an entry, or gives the key that is there another value and hands the old one out. The
+    /// stored key then stays, and no memory is asked for.
+    ///
+    /// It refuses as `try_emplace` does.
+    #[inline]
+    pub fn insert_or_assign(&mut self, key: K, value: V) -> Result<Option<V>, Refused<K, V>>
+    where
+        K: Drop,
+        ensures answer { IfOk result (λ old. old ≡ value_at (entries K.class self.old) (K.class key)) }
+        ensures entries { OnOk result (entries K.class self.new ≡ insert (entries K.class self.old) (K.class key) (stored_key (entries K.class self.old) (K.class key) key, value)) }
+        ensures present { IsTrue (contains_key (entries K.class self.old) (K.class key)) → IsOk result × (slot_count self.new ≡ slot_count self.old) }
+        ensures within_room { len (entries K.class self.old) < room_of (slot_count self.old) → IsOk result × (slot_count self.new ≡ slot_count self.old) }
+        ensures slots { (slot_count self.new ≡ slot_count self.old) ⊎ (slot_count self.new ≡ grown (slot_count self.old)) }
+        ensures hasher { self.new.hasher ≡ self.old.hasher }
+        ensures handed_back { IfErr result (λ r. (r.key ≡ key) × (r.value ≡ value)) }
+        ensures unchanged { OnErr result (self.new ≡ self.old) }
+        ensures limit { IfErr result (λ r. (r.why ≡ Limit) ↔ (slot_count self.old ≡ 2 ^ 28)) }
+    {
+        let hash = self.table.hash(&key);
+        if let Some(slot) = self.table.find_hashed(&key, hash) {
+            let stored = self.table.at_mut(slot);
+            return Ok(Some(std::mem::replace(stored, value)));
+        }
+        self.table.place_hashed(key, value, hash)?;
+        Ok(None)
+    }
+
+    /// Drops the entry of the key that `q` names. `false` where there is none.
+    #[inline]
+    pub fn erase<Q: Names<K>>(&mut self, q: &Q) -> bool
+    where
+        K: Drop,
+        V: Drop,
+        ensures answer { result ≡ contains_key (entries K.class self.old) (Q.named q.now) }
+        ensures entries { entries K.class self.new ≡ remove (entries K.class self.old) (Q.named q.now) }
+        ensures slots { slot_count self.new ≡ slot_count self.old }
+        ensures hasher { self.new.hasher ≡ self.old.hasher }
+        ensures unchanged { OnFalse result (self.new ≡ self.old) }
+    {
+        self.extract(q).is_some()
+    }
+
+    /// Takes the entry of the key that `q` names out, with the key that is stored.
+    #[inline]
+    pub fn extract<Q: Names<K>>(&mut self, q: &Q) -> Option<(K, V)>
+        ensures answer { result ≡ get (entries K.class self.old) (Q.named q.now) }
+        ensures entries { entries K.class self.new ≡ remove (entries K.class self.old) (Q.named q.now) }
+        ensures slots { slot_count self.new ≡ slot_count self.old }
+        ensures hasher { self.new.hasher ≡ self.old.hasher }
+        ensures unchanged { result ≡ None → self.new ≡ self.old }
+    {
+        let slot = self.table.find(q)?;
+        Some(self.table.remove(slot))
+    }
+}

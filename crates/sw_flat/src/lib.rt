@@ -1,0 +1,46 @@
+//! A flat map and a flat set: entries in one row of slots, found by the hash of their keys.
+//!
+//! - [`FlatMap`] is a map from keys to values, [`FlatSet`] a set of keys. Each is one Swiss table,
+//!   which `table` shows, and contracts see in it a finite map from the class of a key to the key
+//!   that is stored and its value.
+//! - A look-up takes whatever names a class: a key, or a borrowed form of one, as `ByteKey` is of a
+//!   `Vec<u8>`. It copies nothing. A call hashes its key once.
+//! - The first key of a class stays. [`FlatMap::try_emplace`] hands a second one back with its
+//!   value, [`FlatMap::insert_or_assign`] drops it and hands the old value out.
+//! - Within the room no insertion is refused and no memory is asked for, however many entries were
+//!   erased: a map made by `with_room` for `n` entries takes every insertion while fewer than `n`
+//!   live. Past it an insertion doubles the capacity, or is refused and hands its pair back.
+//! - [`FlatMap::merge`] makes room first, so that it moves all entries or none.
+//!
+//! ```text
+//! let mut stock = FlatMap::with_room(alloc, Fnv1a { seed: 0 }, 12)?;   // 16 slots
+//! stock.try_emplace(7, 70)?;                  // Inserted
+//! stock.try_emplace(7, 71)?;                  // Present(7, 71): nothing changed
+//! stock.insert_or_assign(7, 72)?;             // Some(70), the old value
+//! stock.get(&7);                              // Some(&72)
+//! stock.extract(&7);                          // Some((7, 72))
+//! stock.erase(&7);                            // false: it is gone
+//! stock.into_list()?;                         // no entry is left
+//! ```
+//!
+//! [`keys_are_of_their_class`] is the law on what contracts see.
+//!
+//! The contract above the crate: each call is an equation on the finite map, it says when it refuses
+//! and what a refusal leaves, and the room promise holds.
+#![tactic(auto)]
+
+mod emplaced;
+mod entries;
+mod iter;
+mod laws;
+mod list;
+mod map;
+mod merge;
+mod set;
+
+pub use emplaced::{Emplaced, RefusedKey};
+pub use iter::{Iter, SetIter};
+pub use laws::keys_are_of_their_class;
+pub use map::FlatMap;
+pub use set::FlatSet;
+pub use sw_table::{Refused, Why};

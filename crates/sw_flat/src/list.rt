@@ -1,0 +1,57 @@
+//! A map's entries, and a set's keys, as a list.
+ghost use Rattle.std.specs.Prelude.{◌≡◌, IfOk, IfErr, map};
+ghost use Rattle.sw_table.specs.Entries.{entries};
+ghost use Rattle.sw_flat.specs.Maps.{ListsAll};
+
+use crate::map::FlatMap;
+use crate::set::FlatSet;
+use sw_probe::{KeyHash, Keyed};
+
+impl<K: Keyed + Drop, V: Drop, H: KeyHash<K> + Drop> FlatMap<K, V, H> {
+    /// The entries as a list, each once, in no order that is promised. Where memory for the list is
+    /// refused, the map comes back.
+    pub fn into_list(self) -> Result<Vec<(K, V)>, FlatMap<K, V, H>>
+        ensures list { IfOk result (λ list. ListsAll K.class list.items (entries K.class self)) }
+        ensures handed_back { IfErr result (λ map. map ≡ self) }
+    {
+        let FlatMap { mut table, alloc } = self;
+        let Ok(mut list) = Vec::with_capacity(alloc, table.len()) else {
+            return Err(FlatMap { table, alloc });
+        };
+        let _ = table.capacity();
+        let mut from = 0;
+        'slots: while let Some(slot) = table.next_full(from) {
+            from = slot.index + 1;
+            let Ok(()) = list.push(table.remove(slot)) else {
+                unreachable!();
+            };
+        }
+        Ok(list)
+    }
+}
+
+impl<K: Keyed + Drop, H: KeyHash<K> + Drop> FlatSet<K, H> {
+    /// The keys as a list, each once, in no order that is promised. Where memory for the list is
+    /// refused, the set comes back.
+    pub fn into_list(self) -> Result<Vec<K>, FlatSet<K, H>>
+        ensures list { IfOk result (λ list. ListsAll K.class (map (λ k. (k, tt)) list.items) (entries K.class self)) }
+        ensures handed_back { IfErr result (λ set. set ≡ self) }
+    {
+        let FlatSet { map } = self;
+        let FlatMap { mut table, alloc } = map;
+        let Ok(mut list) = Vec::with_capacity(alloc, table.len()) else {
+            return Err(FlatSet {
+                map: FlatMap { table, alloc },
+            });
+        };
+        let _ = table.capacity();
+        let mut from = 0;
+        'slots: while let Some(slot) = table.next_full(from) {
+            from = slot.index + 1;
+            let Ok(()) = list.push(table.remove(slot).0) else {
+                unreachable!();
+            };
+        }
+        Ok(list)
+    }
+}

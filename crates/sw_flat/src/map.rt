@@ -1,0 +1,190 @@
+//! The flat map.
+ghost use Rattle.std.specs.Prelude.{◌≡◌, ◌≢◌, ◌↔◌, ℕ, ◌<◌, ◌≤◌, ◌^◌, IsTrue, IsOk, OnOk, OnErr, IfOk, Err, slice_index};
+ghost use Rattle.std.specs.Option.{option_copied, option_copied_mut};
+ghost use Rattle.std.specs.FinMap.{empty, len, contains_key};
+ghost use Rattle.sw_ctrl.specs.declared.control.TheConstants.{DELETED};
+ghost use Rattle.sw_table.specs.View.{slot_count, fresh};
+ghost use Rattle.sw_table.specs.Entries.{entries};
+ghost use Rattle.sw_table.specs.Sizes.{room_of, IsCapacity};
+ghost use Rattle.sw_table.specs.declared.refused.Why.TheVariants.{Limit};
+ghost use Rattle.sw_flat.specs.Maps.{value_at, ListsAll};
+
+use crate::iter::Iter;
+use std::alloc::Global;
+use std::marker::Model;
+use sw_probe::{KeyHash, Keyed, Names};
+use sw_table::{Table, Why};
+
+/// A map from keys to values, in one Swiss table.
+///
+/// Contracts see what they see of the table: what each slot holds, the control bytes and the
+/// hasher. `entries` of these is the finite map.
+#[derive(Drop)]
+pub struct FlatMap<K: Keyed, V, H: KeyHash<K>> {
+    pub(crate) table: Table<K, V, H>,
+    pub(crate) alloc: Global,
+}
+
+impl<K: Keyed, V, H: KeyHash<K>> Model for FlatMap<K, V, H> {
+    ghost use Rattle.sw_table.specs.View.{View, view_code};
+
+    ghost Value = { View K V H };
+
+    ghost coded = { view_code K.code V.code H.code };
+
+    ghost view = { λ m. m.table };
+}
+
+impl<K: Keyed, V, H: KeyHash<K>> FlatMap<K, V, H> {
+    ghost use Rattle.std.specs.Borrow.{sem};
+    ghost use Rattle.sw_flat.specs.MapLends.{lends_value};
+
+    /// An empty map without slots. It takes no memory.
+    pub fn new(alloc: Global, hasher: H) -> FlatMap<K, V, H>
+        ensures table { result ≡ fresh 0 hasher }
+        ensures entries { entries K.class result ≡ empty }
+    {
+        FlatMap {
+            table: Table::new(alloc, hasher),
+            alloc,
+        }
+    }
+
+    /// An empty map with room for `n` entries, of the least capacity that has it. No room takes no
+    /// memory.
+    ///
+    /// It refuses with `Limit` where the capacity would pass 2^28, before it asks for memory, and
+    /// else with `Memory`.
+    pub fn with_room(alloc: Global, hasher: H, n: usize) -> Result<FlatMap<K, V, H>, Why>
+    where
+        H: Drop,
+        ensures table { IfOk result (λ m. m ≡ fresh (slot_count m) hasher) }
+        ensures entries { IfOk result (λ m. entries K.class m ≡ empty) }
+        ensures room { IfOk result (λ m. n ≤ room_of (slot_count m)) }
+        ensures least { IfOk result (λ m. (c : ℕ) → IsCapacity c → n ≤ room_of c → slot_count m ≤ c) }
+        ensures no_memory { n ≡ 0 → IsOk result }
+        ensures limit { (result ≡ Err Limit) ↔ (room_of (2 ^ 28) < n) }
+    {
+        Ok(FlatMap {
+            table: Table::with_room(alloc, hasher, n)?,
+            alloc,
+        })
+    }
+
+    /// How many entries there are.
+    #[inline]
+    pub fn len(&self) -> usize
+        ensures { result ≡ len (entries K.class self.now) }
+    {
+        self.table.len()
+    }
+
+    /// Whether there is no entry.
+    #[inline]
+    pub fn is_empty(&self) -> bool
+        ensures { IsTrue result ↔ (entries K.class self.now ≡ empty) }
+    {
+        self.table.len() == 0
+    }
+
+    /// How many slots there are.
+    #[inline]
+    pub fn capacity(&self) -> usize
+        ensures { result ≡ slot_count self.now }
+    {
+        self.table.capacity()
+    }
+
+    /// How many entries there may be before an insertion can ask for memory, however many were
+    /// erased.
+    #[inline]
+    pub fn room(&self) -> usize
+        ensures { result ≡ room_of (slot_count self.now) }
+    {
+        self.table.room()
+    }
+
+    /// The table behind the map, to read.
+    #[inline]
+    pub fn table(&self) -> &Table<K, V, H>
+        ensures { result.now ≡ self.now }
+    {
+        &self.table
+    }
+
+    /// Makes room for `n` entries, by the least capacity that has it. Where the room is there
+    /// already it does nothing, and succeeds.
+    ///
+    /// It refuses with `Limit` where the capacity would pass 2^28, before it asks for memory, and
+    /// else with `Memory`. The map is then as it was.
+    pub fn reserve(&mut self, n: usize) -> Result<(), Why>
+        ensures entries { entries K.class self.new ≡ entries K.class self.old }
+        ensures room { OnOk result (n ≤ room_of (slot_count self.new)) }
+        ensures grows { slot_count self.old ≤ slot_count self.new }
+        ensures least { (c : ℕ) → IsCapacity c → n ≤ room_of c → slot_count self.old ≤ c → slot_count self.new ≤ c }
+        ensures enough { n ≤ room_of (slot_count self.old) → IsOk result × (self.new ≡ self.old) }
+        ensures hasher { self.new.hasher ≡ self.old.hasher }
+        ensures unchanged { OnErr result (self.new ≡ self.old) }
+        ensures limit { (result ≡ Err Limit) ↔ (room_of (2 ^ 28) < n) }
+    {
+        self.table.reserve(n)
+    }
+
+    /// Places every entry anew, in the slots that are there, so that no slot is marked as deleted.
+    /// It takes no memory.
+    pub fn rehash(&mut self)
+        ensures entries { entries K.class self.new ≡ entries K.class self.old }
+        ensures slots { slot_count self.new ≡ slot_count self.old }
+        ensures none_deleted { (i : ℕ) → i < slot_count self.new → slice_index self.new.bytes i ≢ DELETED }
+        ensures hasher { self.new.hasher ≡ self.old.hasher }
+    {
+        self.table.rehash();
+    }
+
+    /// Drops every entry, and keeps the capacity.
+    pub fn clear(&mut self)
+    where
+        K: Drop,
+        V: Drop,
+        ensures table { self.new ≡ fresh (slot_count self.old) self.old.hasher }
+        ensures entries { entries K.class self.new ≡ empty }
+    {
+        self.table.clear();
+    }
+
+    /// The value of the key that `q` names.
+    #[inline]
+    pub fn get<Q: Names<K>>(&self, q: &Q) -> Option<&V>
+        ensures { option_copied result ≡ value_at (entries K.class self.now) (Q.named q.now) }
+    {
+        let slot = self.table.find(q)?;
+        Some(self.table.at(slot).1)
+    }
+
+    /// The value of the key that `q` names, to write to. The entry then has what was written last,
+    /// under the key that is stored.
+    #[inline]
+    pub fn get_mut<Q: Names<K>>(&mut self, q: &Q) -> Option<&mut V>
+        ensures* writes_back { sem 𝓛 (lends_value K.row V.row H.row K.Keyed H.KeyHash self.entry (Q.named q.now) result) }
+        ensures value { option_copied_mut result ≡ value_at (entries K.class self.old) (Q.named q.now) }
+    {
+        let slot = self.table.find(q)?;
+        Some(self.table.at_mut(slot))
+    }
+
+    /// Whether the key that `q` names is there.
+    #[inline]
+    pub fn contains<Q: Names<K>>(&self, q: &Q) -> bool
+        ensures { result ≡ contains_key (entries K.class self.now) (Q.named q.now) }
+    {
+        self.table.find(q).is_some()
+    }
+
+    /// The entries, each once, in no order that is promised.
+    #[inline]
+    pub fn iter(&self) -> Iter<'_, K, V, H>
+        ensures { ListsAll K.class result (entries K.class self.now) }
+    {
+        Iter::new(&self.table)
+    }
+}

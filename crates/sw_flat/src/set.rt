@@ -1,0 +1,245 @@
+//! The flat set.
+ghost use Rattle.std.specs.Prelude.{◌≡◌, ◌≢◌, ◌↔◌, ℕ, ◌<◌, ◌≤◌, ◌^◌, ◌⊎◌, ◌+◌, List, map, not, IsTrue, IsOk, OnOk, OnErr, IfOk, IfErr, Err, None, if◌then◌else◌, slice_index};
+ghost use Rattle.std.specs.Bool.{OnFalse};
+ghost use Rattle.std.specs.Option.{option_map, option_or};
+ghost use Rattle.std.specs.FinMap.{empty, insert, get, remove, len, contains_key};
+ghost use Rattle.sw_ctrl.specs.declared.control.TheConstants.{DELETED};
+ghost use Rattle.sw_table.specs.View.{slot_count, fresh};
+ghost use Rattle.sw_table.specs.Entries.{entries};
+ghost use Rattle.sw_table.specs.Sizes.{room_of, grown, IsCapacity};
+ghost use Rattle.sw_table.specs.declared.refused.Why.TheVariants.{Limit};
+ghost use Rattle.sw_flat.specs.Maps.{ListsAll, lacked, shared};
+
+use crate::emplaced::{Emplaced, RefusedKey};
+use crate::iter::SetIter;
+use crate::map::FlatMap;
+use std::alloc::Global;
+use std::marker::Model;
+use sw_probe::{KeyHash, Keyed, Names};
+use sw_table::{Table, Why};
+
+/// A set of keys, in one Swiss table.
+///
+/// Contracts see it as the map of these keys to nothing.
+#[derive(Drop)]
+pub struct FlatSet<K: Keyed, H: KeyHash<K>> {
+    pub(crate) map: FlatMap<K, (), H>,
+}
+
+impl<K: Keyed, H: KeyHash<K>> Model for FlatSet<K, H> {
+    ghost use base.Stored.{coded_unit};
+    ghost use Rattle.sw_table.specs.View.{View, view_code};
+
+    ghost Value = { View K (Unit {0}) H };
+
+    ghost coded = { view_code K.code coded_unit H.code };
+
+    ghost view = { λ s. s.map };
+}
+
+impl<K: Keyed, H: KeyHash<K>> FlatSet<K, H> {
+    /// An empty set without slots. It takes no memory.
+    pub fn new(alloc: Global, hasher: H) -> FlatSet<K, H>
+        ensures table { result ≡ fresh 0 hasher }
+        ensures entries { entries K.class result ≡ empty }
+    {
+        FlatSet {
+            map: FlatMap::new(alloc, hasher),
+        }
+    }
+
+    /// An empty set with room for `n` keys, of the least capacity that has it. No room takes no
+    /// memory.
+    ///
+    /// It refuses with `Limit` where the capacity would pass 2^28, before it asks for memory, and
+    /// else with `Memory`.
+    pub fn with_room(alloc: Global, hasher: H, n: usize) -> Result<FlatSet<K, H>, Why>
+    where
+        H: Drop,
+        ensures table { IfOk result (λ s. s ≡ fresh (slot_count s) hasher) }
+        ensures entries { IfOk result (λ s. entries K.class s ≡ empty) }
+        ensures room { IfOk result (λ s. n ≤ room_of (slot_count s)) }
+        ensures least { IfOk result (λ s. (c : ℕ) → IsCapacity c → n ≤ room_of c → slot_count s ≤ c) }
+        ensures no_memory { n ≡ 0 → IsOk result }
+        ensures limit { (result ≡ Err Limit) ↔ (room_of (2 ^ 28) < n) }
+    {
+        Ok(FlatSet {
+            map: FlatMap::with_room(alloc, hasher, n)?,
+        })
+    }
+
+    /// How many keys there are.
+    #[inline]
+    pub fn len(&self) -> usize
+        ensures { result ≡ len (entries K.class self.now) }
+    {
+        self.map.len()
+    }
+
+    /// Whether there is no key.
+    #[inline]
+    pub fn is_empty(&self) -> bool
+        ensures { IsTrue result ↔ (entries K.class self.now ≡ empty) }
+    {
+        self.map.is_empty()
+    }
+
+    /// How many slots there are.
+    #[inline]
+    pub fn capacity(&self) -> usize
+        ensures { result ≡ slot_count self.now }
+    {
+        self.map.capacity()
+    }
+
+    /// How many keys there may be before an insertion can ask for memory, however many were erased.
+    #[inline]
+    pub fn room(&self) -> usize
+        ensures { result ≡ room_of (slot_count self.now) }
+    {
+        self.map.room()
+    }
+
+    /// The table behind the set, to read.
+    #[inline]
+    pub fn table(&self) -> &Table<K, (), H>
+        ensures { result.now ≡ self.now }
+    {
+        self.map.table()
+    }
+
+    /// Makes room for `n` keys, by the least capacity that has it. Where the room is there already
+    /// it does nothing, and succeeds.
+    ///
+    /// It refuses with `Limit` where the capacity would pass 2^28, before it asks for memory, and
+    /// else with `Memory`. The set is then as it was.
+    pub fn reserve(&mut self, n: usize) -> Result<(), Why>
+        ensures entries { entries K.class self.new ≡ entries K.class self.old }
+        ensures room { OnOk result (n ≤ room_of (slot_count self.new)) }
+        ensures grows { slot_count self.old ≤ slot_count self.new }
+        ensures least { (c : ℕ) → IsCapacity c → n ≤ room_of c → slot_count self.old ≤ c → slot_count self.new ≤ c }
+        ensures enough { n ≤ room_of (slot_count self.old) → IsOk result × (self.new ≡ self.old) }
+        ensures hasher { self.new.hasher ≡ self.old.hasher }
+        ensures unchanged { OnErr result (self.new ≡ self.old) }
+        ensures limit { (result ≡ Err Limit) ↔ (room_of (2 ^ 28) < n) }
+    {
+        self.map.reserve(n)
+    }
+
+    /// Places every key anew, in the slots that are there, so that no slot is marked as deleted. It
+    /// takes no memory.
+    pub fn rehash(&mut self)
+        ensures entries { entries K.class self.new ≡ entries K.class self.old }
+        ensures slots { slot_count self.new ≡ slot_count self.old }
+        ensures none_deleted { (i : ℕ) → i < slot_count self.new → slice_index self.new.bytes i ≢ DELETED }
+        ensures hasher { self.new.hasher ≡ self.old.hasher }
+    {
+        self.map.rehash();
+    }
+
+    /// Drops every key, and keeps the capacity.
+    pub fn clear(&mut self)
+    where
+        K: Drop,
+        ensures table { self.new ≡ fresh (slot_count self.old) self.old.hasher }
+        ensures entries { entries K.class self.new ≡ empty }
+    {
+        self.map.clear();
+    }
+
+    /// Whether the key that `q` names is there.
+    #[inline]
+    pub fn contains<Q: Names<K>>(&self, q: &Q) -> bool
+        ensures { result ≡ contains_key (entries K.class self.now) (Q.named q.now) }
+    {
+        self.map.contains(q)
+    }
+
+    /// Adds a key. `false` where it is there already: the stored key stays, and no memory is asked
+    /// for.
+    ///
+    /// It refuses only a new key, and only where there are as many keys as the room, or more: with
+    /// `Limit` where the capacity is 2^28, else with `Memory`. The key is then handed back, and the
+    /// set is as it was.
+    #[inline]
+    pub fn insert(&mut self, key: K) -> Result<bool, RefusedKey<K>>
+    where
+        K: Drop,
+        ensures answer { IfOk result (λ new. new ≡ not (contains_key (entries K.class self.old) (K.class key))) }
+        ensures entries { OnOk result (entries K.class self.new ≡ (if contains_key (entries K.class self.old) (K.class key) then entries K.class self.old else insert (entries K.class self.old) (K.class key) (key, tt))) }
+        ensures present { IsTrue (contains_key (entries K.class self.old) (K.class key)) → IsOk result × (self.new ≡ self.old) }
+        ensures within_room { len (entries K.class self.old) < room_of (slot_count self.old) → IsOk result × (slot_count self.new ≡ slot_count self.old) }
+        ensures slots { (slot_count self.new ≡ slot_count self.old) ⊎ (slot_count self.new ≡ grown (slot_count self.old)) }
+        ensures hasher { self.new.hasher ≡ self.old.hasher }
+        ensures handed_back { IfErr result (λ r. r.key ≡ key) }
+        ensures unchanged { OnErr result (self.new ≡ self.old) }
+        ensures limit { IfErr result (λ r. (r.why ≡ Limit) ↔ (slot_count self.old ≡ 2 ^ 28)) }
+    {
+        match self.map.try_emplace(key, ()) {
+            Ok(Emplaced::Inserted) => Ok(true),
+            Ok(Emplaced::Present(_, ())) => Ok(false),
+            Err(refused) => Err(RefusedKey {
+                key: refused.key,
+                why: refused.why,
+            }),
+        }
+    }
+
+    /// Drops the key that `q` names. `false` where it is not there.
+    #[inline]
+    pub fn erase<Q: Names<K>>(&mut self, q: &Q) -> bool
+    where
+        K: Drop,
+        ensures answer { result ≡ contains_key (entries K.class self.old) (Q.named q.now) }
+        ensures entries { entries K.class self.new ≡ remove (entries K.class self.old) (Q.named q.now) }
+        ensures slots { slot_count self.new ≡ slot_count self.old }
+        ensures hasher { self.new.hasher ≡ self.old.hasher }
+        ensures unchanged { OnFalse result (self.new ≡ self.old) }
+    {
+        self.map.erase(q)
+    }
+
+    /// Takes the stored key that `q` names out.
+    #[inline]
+    pub fn extract<Q: Names<K>>(&mut self, q: &Q) -> Option<K>
+        ensures answer { result ≡ option_map (λ p. p.0) (get (entries K.class self.old) (Q.named q.now)) }
+        ensures entries { entries K.class self.new ≡ remove (entries K.class self.old) (Q.named q.now) }
+        ensures slots { slot_count self.new ≡ slot_count self.old }
+        ensures hasher { self.new.hasher ≡ self.old.hasher }
+        ensures unchanged { result ≡ None → self.new ≡ self.old }
+    {
+        let (key, ()) = self.map.extract(q)?;
+        Some(key)
+    }
+
+    /// The keys, each once, in no order that is promised.
+    #[inline]
+    pub fn iter(&self) -> SetIter<'_, K, H>
+        ensures { ListsAll K.class (map (λ k. (k, tt)) result) (entries K.class self.now) }
+    {
+        SetIter::new(self.map.table())
+    }
+
+    /// Moves the keys of `other` over that this set lacks, and leaves the others. What moves is
+    /// hashed by this set's hasher.
+    ///
+    /// Room for all of them is made first. That is refused with `Limit` where the capacity would
+    /// pass 2^28, and else with `Memory`, and only where the room is less than what both sets have
+    /// together. Both are then as they were.
+    pub fn merge(&mut self, other: &mut FlatSet<K, H>) -> Result<(), Why>
+    where
+        K: Drop,
+        ensures entries { OnOk result ((c : List ℕ) → get (entries K.class self.new) c ≡ option_or (get (entries K.class self.old) c) (get (entries K.class other.old) c)) }
+        ensures left { OnOk result (entries K.class other.new ≡ shared (entries K.class self.old) (entries K.class other.old)) }
+        ensures enough { len (entries K.class self.old) + len (lacked (entries K.class self.old) (entries K.class other.old)) ≤ room_of (slot_count self.old) → IsOk result × (slot_count self.new ≡ slot_count self.old) }
+        ensures room { OnOk result (len (entries K.class self.old) + len (lacked (entries K.class self.old) (entries K.class other.old)) ≤ room_of (slot_count self.new)) }
+        ensures grows { slot_count self.old ≤ slot_count self.new }
+        ensures other_slots { slot_count other.new ≡ slot_count other.old }
+        ensures hasher { self.new.hasher ≡ self.old.hasher }
+        ensures other_hasher { other.new.hasher ≡ other.old.hasher }
+        ensures unchanged { OnErr result ((self.new ≡ self.old) × (other.new ≡ other.old)) }
+        ensures limit { (result ≡ Err Limit) ↔ (room_of (2 ^ 28) < len (entries K.class self.old) + len (lacked (entries K.class self.old) (entries K.class other.old))) }
+    {
+        self.map.merge(&mut other.map)
+    }
+}
