@@ -1,0 +1,128 @@
+//! Keys and values that count their drops, and a key that counts how often it is compared.
+ghost use Rattle.std.specs.Prelude.{◌≡◌, fold};
+ghost use Rattle.std.specs.Int.{bytes_high_first};
+
+use std::alloc::{AllocError, Global};
+use std::cell::Cell;
+use std::process::Abort;
+use sw_probe::{Keyed, Names, Step};
+
+/// A value that counts in its own cell when it is dropped.
+pub(crate) struct Counted<'a> {
+    drops: &'a Cell<u64>,
+}
+
+impl Drop for Counted<'_> {
+    fn drop(self) {
+        let Counted { drops } = self;
+        drops.set(drops.get().wrapping_add(1));
+    }
+}
+
+/// A number as a key that counts in its own cell when it is dropped.
+#[derive(Drop)]
+pub(crate) struct CountedKey<'a> {
+    pub(crate) number: u64,
+    drops: Counted<'a>,
+}
+
+impl Keyed for CountedKey<'_> {
+    ghost class = { λ key. bytes_high_first 8 key.number };
+
+    ghost bytes = { λ bytes. bytes };
+
+    fn same_key(&self, key: &Self) -> bool {
+        self.number.same_key(&key.number)
+    }
+
+    fn fold_key<F: Step>(&self, start: u64, f: &F) -> u64 {
+        self.number.fold_key(start, f)
+    }
+}
+
+/// The borrowed form of a `CountedKey`: its number.
+#[derive(Clone, Copy)]
+pub(crate) struct Number(pub(crate) u64);
+
+impl Names<CountedKey<'_>> for Number {
+    ghost named = { λ q. bytes_high_first 8 q.0 };
+
+    fn same(&self, key: &CountedKey<'_>) -> bool {
+        self.0.same_key(&key.number)
+    }
+
+    fn fold<F: Step>(&self, start: u64, f: &F) -> u64
+        ensures { result ≡ fold (F.next f.now) start (bytes_high_first 8 self.now.0) }
+    {
+        self.0.fold_key(start, f)
+    }
+}
+
+/// A number as a key to ask for, which counts in its cell how often it is compared.
+#[derive(Drop)]
+pub(crate) struct Asked<'a> {
+    pub(crate) number: u64,
+    pub(crate) compared: &'a Cell<u64>,
+}
+
+impl Names<u64> for Asked<'_> {
+    ghost named = { λ q. bytes_high_first 8 q.number };
+
+    fn same(&self, key: &u64) -> bool {
+        self.compared.set(self.compared.get().wrapping_add(1));
+        self.number.same_key(key)
+    }
+
+    fn fold<F: Step>(&self, start: u64, f: &F) -> u64 {
+        self.number.fold_key(start, f)
+    }
+}
+
+/// The cells of so many keys and of their values.
+#[derive(Drop)]
+pub(crate) struct Counters {
+    keys: Vec<Cell<u64>>,
+    values: Vec<Cell<u64>>,
+}
+
+impl Counters {
+    pub(crate) fn new(alloc: Global, n: u64) -> Result<Counters, AllocError> {
+        let (mut keys, mut values) = (Vec::new(alloc), Vec::new(alloc));
+        for _ in 0..n {
+            keys.push(Cell::new(0))?;
+            values.push(Cell::new(0))?;
+        }
+        Ok(Counters { keys, values })
+    }
+
+    /// The key of a number, counted in the cell of `id`.
+    pub(crate) fn key(&self, rt: &impl Abort, number: u64, id: usize) -> CountedKey<'_> {
+        assert!(rt; id < self.keys.len());
+        CountedKey {
+            number,
+            drops: Counted {
+                drops: &self.keys[id],
+            },
+        }
+    }
+
+    pub(crate) fn value(&self, rt: &impl Abort, id: usize) -> Counted<'_> {
+        assert!(rt; id < self.values.len());
+        Counted {
+            drops: &self.values[id],
+        }
+    }
+
+    /// How often the key and the value of `id` were dropped.
+    pub(crate) fn of(&self, rt: &impl Abort, id: usize) -> (u64, u64) {
+        assert!(rt; id < self.keys.len());
+        assert!(rt; id < self.values.len());
+        (self.keys[id].get(), self.values[id].get())
+    }
+
+    /// Whether each key was dropped so often, and each value.
+    pub(crate) fn all_are(&self, times: u64) -> bool {
+        self.keys.iter().all(|drops| drops.get() == times)
+            && self.values.iter().all(|drops| drops.get() == times)
+    }
+}

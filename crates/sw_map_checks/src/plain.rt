@@ -1,0 +1,72 @@
+//! What the random runs are compared with: a plain list of entries, and the draws of the calls.
+ghost use Rattle.std.specs.Prelude.{◌<◌};
+
+use std::alloc::{AllocError, Global};
+
+/// A list of entries, each key once, that is searched from its front.
+#[derive(Drop)]
+pub(crate) struct PlainList {
+    entries: Vec<(u64, u64)>,
+}
+
+impl PlainList {
+    pub(crate) fn new(alloc: Global) -> PlainList {
+        PlainList {
+            entries: Vec::new(alloc),
+        }
+    }
+
+    pub(crate) fn len(&self) -> usize {
+        self.entries.len()
+    }
+
+    pub(crate) fn get(&self, key: u64) -> Option<u64> {
+        let (_, value) = self.entries.iter().find(|entry| entry.0 == key)?;
+        Some(*value)
+    }
+
+    /// Adds the entry, or gives the key that is there the value; the old value is handed out.
+    pub(crate) fn put(&mut self, key: u64, value: u64) -> Result<Option<u64>, AllocError> {
+        for entry in &mut self.entries {
+            if entry.0 == key {
+                let old = entry.1;
+                entry.1 = value;
+                return Ok(Some(old));
+            }
+        }
+        self.entries.push((key, value))?;
+        Ok(None)
+    }
+
+    pub(crate) fn take(&mut self, key: u64) -> Option<(u64, u64)> {
+        let i = self.entries.iter().position(|entry| entry.0 == key)?;
+        Some(self.entries.swap_remove(i))
+    }
+
+    pub(crate) fn clear(&mut self) {
+        self.entries.clear();
+    }
+}
+
+/// Numbers that look random, the same ones for the same start: a linear congruence modulo 2^64, by
+/// the multiplier and the increment of Knuth's MMIX, of which the upper bits are drawn.
+#[derive(Drop)]
+pub(crate) struct Draws {
+    state: u64,
+}
+
+impl Draws {
+    pub(crate) fn from(start: u64) -> Draws {
+        Draws { state: start }
+    }
+
+    pub(crate) fn below(&mut self, bound: u64) -> u64
+        requires { 0 < bound }
+    {
+        self.state = self
+            .state
+            .wrapping_mul(6_364_136_223_846_793_005)
+            .wrapping_add(1_442_695_040_888_963_407);
+        (self.state >> 33) % bound
+    }
+}
