@@ -80,6 +80,25 @@ fn each_call_of_a_small_map(rt: HostRuntime) -> Result<(), Fail> {
     Ok(())
 }
 
+/// The example at the head of the map's crate.
+#[test]
+fn the_example_of_the_stock(rt: HostRuntime) -> Result<(), Fail> {
+    let mut stock: Numbers<Fnv1a> = FlatMap::with_room(rt.alloc(), Fnv1a { seed: 0 }, 12)?;
+    assert_eq!(rt; stock.capacity(), 16);
+    assert_eq!(rt; add(&mut stock, 7, 70), Added::Inserted);
+    assert_eq!(rt; add(&mut stock, 7, 71), Added::Present(7, 71));
+    assert!(rt; matches!(stock.insert_or_assign(7, 72), Ok(Some(70))));
+    assert_eq!(rt; value_of(&stock, 7), Some(72));
+    assert_eq!(rt; stock.extract(&7), Some((7, 72)));
+    assert!(rt; !stock.erase(&7));
+    let Ok(list) = stock.into_list() else {
+        assert!(rt; false, "no memory");
+        return Ok(());
+    };
+    assert!(rt; list.is_empty());
+    Ok(())
+}
+
 #[test]
 fn a_map_of_no_slots(rt: HostRuntime) -> Result<(), Fail> {
     let mut map: Numbers<Fnv1a> = FlatMap::with_room(rt.alloc(), Fnv1a { seed: 0 }, 0)?;
