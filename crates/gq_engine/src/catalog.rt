@@ -52,12 +52,8 @@ impl Catalog {
     pub fn get(&self, name: &str) -> Option<&Table>
         ensures { option_copied result ≡ table_at self.now name.now }
     {
-        for entry in &self.tables {
-            if entry.0.as_str() == name {
-                return Some(&entry.1);
-            }
-        }
-        None
+        let i = find_table(self.tables.as_slice(), name)?;
+        Some(&self.tables[i].1)
     }
 
     /// Puts a row into the table of a name, which takes it.
