@@ -1,58 +1,90 @@
 //! The lines of a report.
-use crate::maps::{Flat, Std};
-use crate::timing::{Call, Keys, time};
+use crate::calls::{CALLS, Call};
+use crate::dense::{DenseNumbers, DenseTexts};
+use crate::flat::{FlatNumbers, FlatTexts};
+use crate::keys::{Key, Keys};
+use crate::map::Map;
+use crate::timing::time;
 use std::io;
+use sw_probe::{Direct, Fnv1a};
 
 // How many calls are measured at once, and how often; the least time counts.
-const CALLS: u64 = 2_000_000;
+const ALL_CALLS: u64 = 2_000_000;
 
 const REPEATS: u32 = 5;
 
-const LINES: [(Call, &str); 6] = [
-    (Call::Insert, "insert"),
-    (Call::ReservedInsert, "reserved insert"),
-    (Call::Hit, "hit"),
-    (Call::Miss, "miss"),
-    (Call::Churn, "churn"),
-    (Call::Iterate, "iterate"),
-];
-
 /// Prints, for each kind of call on so many keys, the nanoseconds of one call of the flat map and of
-/// std's map, and the quotient.
+/// the dense map, and the quotient: of numbers, of numbers that are their own hash, and of texts.
 pub(crate) fn report(rt: &HostRuntime, n: usize) -> io::Result<()> {
-    let keys = Keys::new(rt.alloc(), n)?;
-    for (call, name) in LINES {
-        report_call(rt, &keys, call, name)?;
+    let numbers = Keys::new(rt.alloc(), n)?;
+    for (call, name) in CALLS {
+        let flat = least_time::<FlatNumbers<Fnv1a>>(rt, &numbers, call)?;
+        let dense = least_time::<DenseNumbers>(rt, &numbers, call)?;
+        print_both(rt, n, "fnv", name, flat, dense)?;
+    }
+    for (call, name) in CALLS {
+        let flat = least_time::<FlatNumbers<Direct>>(rt, &numbers, call)?;
+        print_flat(rt, n, "direct", name, flat)?;
+    }
+    let (bytes, strings) = (Keys::new(rt.alloc(), n)?, Keys::new(rt.alloc(), n)?);
+    for (call, name) in CALLS {
+        let flat = least_time::<FlatTexts>(rt, &bytes, call)?;
+        let dense = least_time::<DenseTexts>(rt, &strings, call)?;
+        print_both(rt, n, "text", name, flat, dense)?;
     }
     Ok(())
 }
 
-fn report_call(rt: &HostRuntime, keys: &Keys, call: Call, name: &str) -> io::Result<()> {
-    let n = (keys.len() as u64).max(1);
-    let rounds = (CALLS / n).max(2);
-    let (mut flat, mut other) = (u64::MAX, u64::MAX);
+// The least time of a call, in tenths of a nanosecond, and a sum of what the calls answered.
+#[derive(Clone, Copy)]
+struct Least {
+    tenths: u64,
+    sum: u64,
+}
+
+fn least_time<M: Map>(rt: &HostRuntime, keys: &Keys<M::Key>, call: Call) -> io::Result<Least> {
+    let n = (keys.held.len() as u64).max(1);
+    let rounds = (ALL_CALLS / n).max(2);
+    let (mut nanoseconds, mut sum) = (u64::MAX, 0u64);
     for _ in 0..REPEATS {
-        let ours = time::<Flat>(rt, call, keys, rounds)?;
-        let theirs = time::<Std>(rt, call, keys, rounds)?;
-        flat = flat.min(ours.nanoseconds);
-        other = other.min(theirs.nanoseconds);
-        if ours.sum != theirs.sum {
-            println!(rt; "{name}: the maps do not agree")?;
-        }
+        let timing = time::<M>(rt, call, keys, rounds)?;
+        nanoseconds = nanoseconds.min(timing.nanoseconds);
+        sum = timing.sum;
     }
     let calls = n.saturating_mul(rounds).max(1);
-    let (a, b) = (
-        flat.saturating_mul(10) / calls,
-        other.saturating_mul(10) / calls,
-    );
-    let quotient = flat.saturating_mul(100) / other.max(1);
+    Ok(Least {
+        tenths: nanoseconds.saturating_mul(10) / calls,
+        sum,
+    })
+}
+
+fn print_both(
+    rt: &HostRuntime,
+    n: usize,
+    hash: &str,
+    name: &str,
+    flat: Least,
+    dense: Least,
+) -> io::Result<()> {
+    if flat.sum != dense.sum {
+        println!(rt; "{hash} {name}: the maps do not agree")?;
+    }
+    let quotient = flat.tenths.saturating_mul(100) / dense.tenths.max(1);
     println!(rt;
-        "{n:>9}  {name:<15} {:>5}.{} {:>5}.{} {:>7}.{:02}",
-        a / 10,
-        a % 10,
-        b / 10,
-        b % 10,
+        "{n:>9}  {hash:<6}  {name:<15} {:>5}.{} {:>5}.{} {:>7}.{:02}",
+        flat.tenths / 10,
+        flat.tenths % 10,
+        dense.tenths / 10,
+        dense.tenths % 10,
         quotient / 100,
         quotient % 100
+    )
+}
+
+fn print_flat(rt: &HostRuntime, n: usize, hash: &str, name: &str, flat: Least) -> io::Result<()> {
+    println!(rt;
+        "{n:>9}  {hash:<6}  {name:<15} {:>5}.{}",
+        flat.tenths / 10,
+        flat.tenths % 10
     )
 }

@@ -1,7 +1,17 @@
 //! What a control byte says of its slot.
+ghost use Rattle.std.specs.Prelude.{◌≡◌};
+ghost use Rattle.sw_ctrl.specs.Bytes.{is_full};
 
 /// The byte of a slot that holds nothing and never did since the last rehash.
 pub const EMPTY: u8 = 0x80;
 
 /// The byte of a slot whose entry was taken out, and past which look-ups go on.
 pub const DELETED: u8 = 0xfe;
+
+/// Whether the slot of a control byte holds an entry.
+#[inline]
+pub fn is_full(byte: u8) -> bool
+    ensures { result ≡ is_full byte }
+{
+    byte < EMPTY
+}

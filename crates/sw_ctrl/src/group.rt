@@ -3,9 +3,12 @@ ghost use Rattle.std.specs.Prelude.{◌≡◌, ◌==◌, ◌<◌, length, map};
 ghost use Rattle.sw_ctrl.specs.Bytes.{is_empty, is_free, is_full, marked};
 
 use crate::control::{DELETED, EMPTY};
-use crate::mask::Mask16;
+use crate::mask16::Mask16;
 use std::marker::Model;
 use std::simd::prelude::*;
+
+/// How many control bytes a group has.
+pub const WIDTH: usize = 16;
 
 /// Sixteen control bytes in a register.
 #[derive(Clone, Copy)]

@@ -1,35 +1,12 @@
 -- The entries of the places as a list.
-use Rattle.std.proofs.Common.{◌≡◌, ℕ, zero, suc, ◌+◌, ◌<◌, ◌≤◌, List, [], ◌∷◌, map, length, drop, get_or, Option, Some, None, refl, sym, ap, ◌∙◌, arith, cond, true, false}
+use Rattle.std.proofs.Common.{◌≡◌, ℕ, suc, ◌+◌, ◌≤◌, List, [], ◌∷◌, map, length, get_or, Option, Some, None, refl, sym, ap, ◌∙◌, arith, cond, true, false}
 use Rattle.std.specs.Prelude.{is_some}
 use Rattle.std.specs.FinMap.{insert, get, len, from_entries, len-empty, len-insert, get-empty, get-insert}
 use Rattle.std.specs.Cmp.Lexicographic.{nat_list_cmp_total}
 use Rattle.sw_table.specs.Entries.{entries_in}
-use Rattle.sw_flat.specs.Maps.{filled, ListsAll}
+use Rattle.sw_table.specs.Walks.{filled}
+use Rattle.sw_flat.specs.Maps.{ListsAll}
 use Rattle.sw_flat.proofs.Classes.{class_of_entry, none_some, same}
-
-module _ {X : Type 0} where
-  -- where the places from here on are vacant up to one that is filled, that is the next
-  pub next_filled : (s : List (Option X)) (from i : ℕ) (x : X) → from ≤ i → ((j : ℕ) → from ≤ j → j < i → get_or s j None ≡ None) → get_or s i None ≡ Some x → filled (drop from s) ≡ x ∷ filled (drop (suc i) s)
-  next_filled [] from i x le none here = absurd (none_some x here)
-  next_filled (None ∷ s) zero zero x le none here = absurd (none_some x here)
-  next_filled (Some y ∷ s) zero zero x le none here = ap (λ o. filled (o ∷ s)) here
-  next_filled (o ∷ s) zero (suc i) x le none here = ap (λ q. filled (q ∷ s)) (none 0 (omega arith) (omega arith)) ∙ next_filled s zero i x (omega arith) (λ j a b. none (suc j) (omega arith) (omega (arith, b))) here
-  next_filled (o ∷ s) (suc from) zero x le none here = absurd (omega (arith, le))
-  next_filled (o ∷ s) (suc from) (suc i) x le none here = next_filled s from i x (omega (arith, le)) (λ j a b. none (suc j) (omega (arith, a)) (omega (arith, b))) here
-
-  -- where all places from here on are vacant, there is no next
-  pub none_filled : (s : List (Option X)) (from : ℕ) → ((j : ℕ) → from ≤ j → get_or s j None ≡ None) → filled (drop from s) ≡ []
-  none_filled [] zero none = refl
-  none_filled [] (suc from) none = refl
-  none_filled (o ∷ s) zero none = ap (λ q. filled (q ∷ s)) (none 0 (omega arith)) ∙ none_filled s zero (λ j a. none (suc j) (omega arith))
-  none_filled (o ∷ s) (suc from) none = none_filled s from (λ j a. none (suc j) (omega (arith, a)))
-
-  pub fewer_filled : (s : List (Option X)) (from i : ℕ) (x : X) → from ≤ i → ((j : ℕ) → from ≤ j → j < i → get_or s j None ≡ None) → get_or s i None ≡ Some x → length (filled (drop (i + 1) s)) < length (filled (drop from s))
-  fewer_filled s from i x le none here =
-      let behind : suc i ≡ i + 1 = omega arith in
-      let e = ap length (next_filled s from i x le none here) in
-      let f = ap (λ k. length (filled (drop k s))) behind in
-      omega (arith, e, f)
 
 module _ {K V : Type 0} (class : K → List ℕ) where
   abbrev pub Apart : List (Option (K × V)) → Type 0

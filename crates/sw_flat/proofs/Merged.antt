@@ -6,13 +6,16 @@ use mir.Val.{bool_byte}
 use Rattle.std.specs.Option.{option_or}
 use Rattle.std.specs.Ordering.{nat_cmp}
 use Rattle.std.specs.Cmp.Lexicographic.{slice_cmp, nat_list_cmp_total}
-use Rattle.std.specs.FinMap.{empty, insert, get, remove, len, contains_key, retain_keys, from_entries, get-empty, get-insert, get-remove, get-retain_keys, len-empty, len-insert, same_map}
+use Rattle.std.specs.FinMap.{empty, insert, get, remove, len, contains_key, retain_keys, from_entries, get-empty, get-insert, get-remove, get-retain_keys, len-empty, len-insert, same_map, empty_of_len}
 use Rattle.std.proofs.lemmas.List.{drop-set-lt, get_or-drop}
-use Rattle.sw_table.specs.Entries.{Entries, entries_in}
+use Rattle.sw_table.specs.Entries.{Entries, entries, entries_in}
 use Rattle.sw_table.specs.View.{View, slot_count}
-use Rattle.sw_flat.specs.Maps.{filled, lacked, shared}
+use Rattle.sw_table.specs.Walks.{filled}
+use Rattle.sw_table.proofs.Filled.{next_filled, none_filled}
+use Rattle.sw_flat.specs.Maps.{lacked, shared}
+use Rattle.sw_flat.specs.Merging.{MovesLacked}
 use Rattle.sw_flat.proofs.Classes.{same, same_is, same_itself, exact, none_some, class_of_entry}
-use Rattle.sw_flat.proofs.Listed.{Apart, apart_behind, absent_behind, place_of, next_filled, none_filled, entries_of_filled}
+use Rattle.sw_flat.proofs.Listed.{Apart, apart_behind, absent_behind, place_of, entries_of_filled}
 
 module _ {K V : Type 0} where
   get_retained : (m : Entries K V) (p : List ℕ → Bool) (q : List ℕ) → get (retain_keys m p) q ≡ cond (p q) (get m q) None
@@ -115,6 +118,7 @@ module _ {K V : Type 0} (class : K → List ℕ) where
     pub left : (q : List ℕ) → get (entries_in class ps) q ≡ cond (contains_key m0 q) (get n0 q) (get (entries_in class (drop from ps)) q)
     pub alike : (q : List ℕ) → is_some (get (entries_in class (drop from ps)) q) ≡ true → contains_key m q ≡ contains_key m0 q
     pub space : len m + lacked_count m0 (filled (drop from ps)) ≤ cap
+    pub fewer : lacked_count m0 (filled (drop from ps)) ≤ len (lacked m0 n0)
 
   pub merging_none : (m0 : Entries K V) (cap : ℕ) (ps : List (Option (K × V))) → Apart class ps → len m0 + len (lacked m0 (entries_in class ps)) ≤ cap → IsMerging m0 (entries_in class ps) cap m0 ps 0
   merging_none m0 cap ps h room = record {
@@ -123,6 +127,7 @@ module _ {K V : Type 0} (class : K → List ℕ) where
     left = λ q. elim (contains_key m0 q) as (λ b. get (entries_in class ps) q ≡ cond b (get (entries_in class ps) q) (get (entries_in class ps) q)) [ true ↦ refl | false ↦ refl ];
     alike = λ q h. refl;
     space = let e = len_lacked m0 ps h in omega (arith, e, room);
+    fewer = let e = len_lacked m0 ps h in omega (arith, e);
   }
 
   taken_first : (o a b : Option (K × V)) → is_some o ≡ true → option_or o a ≡ option_or o b
@@ -170,6 +175,7 @@ module _ {K V : Type 0} (class : K → List ℕ) where
       left = λ q. d.left q ∙ kept q;
       alike = λ q e. d.alike q (later q e);
       space = let e = count in let f = d.space in omega (arith, e, f);
+      fewer = let e = count in let f = d.fewer in omega (arith, e, f);
     }
       where
         kept : (q : List ℕ) → cond (contains_key m0 q) (get n0 q) (get (entries_in class (drop from ps)) q) ≡ cond (contains_key m0 q) (get n0 q) (get (entries_in class (drop (i + 1) ps)) q)
@@ -199,6 +205,7 @@ module _ {K V : Type 0} (class : K → List ℕ) where
       left = λ q. ap (λ n. get n q) removed ∙ get-remove nat_list_cmp_total (entries_in class ps) (class x.0) q ∙ ap (cond (same q (class x.0)) None) (d.left q) ∙ remaining q ∙ sym (ap (λ n. cond (contains_key m0 q) (get n0 q) (get n q)) behind);
       alike = λ q e. still_alike q (sym (ap (λ n. is_some (get n q)) behind) ∙ e);
       space = let e = count ∙ ap (λ b. cond b 0 1 + lacked_count m0 (filled (drop (i + 1) ps))) (lacking lacks) in let f = d.space in let l = longer in let b = ap (λ (r : List (Option (K × V))). lacked_count m0 (filled r)) gone in omega (arith, e, f, l, b);
+      fewer = let e = count in let f = d.fewer in let b = ap (λ (r : List (Option (K × V))). lacked_count m0 (filled r)) gone in omega (arith, e, f, b);
     }
       where
         gone : drop (i + 1) ps' ≡ drop (i + 1) ps
@@ -251,16 +258,52 @@ module _ {K V : Type 0} (class : K → List ℕ) where
       let f = d.space in
       omega (arith, e, f)
 
-  pub lacked_nothing : (m : Entries K V) → lacked_count m [] ≡ 0
-  unfolding lacked_count
-  lacked_nothing m = refl
-
   pub lacked_small : (m : Entries K V) (items : List (K × V)) → lacked_count m items ≤ length items
   unfolding lacked_count
   lacked_small m [] = omega arith
   lacked_small m (p ∷ items) =
       let h = lacked_small m items in
       elim (contains_key m (class p.0)) as (λ b. cond b 0 1 + lacked_count m items ≤ suc (length items)) [ true ↦ omega (arith, h) | false ↦ omega (arith, h) ]
+
+  -- where nothing is lacking, n has no class that m lacks
+  nothing_lacked : (m n : Entries K V) → len (lacked m n) ≡ 0 → (q : List ℕ) → contains_key m q ≡ false → get n q ≡ None
+  nothing_lacked m n e q absent =
+      sym (get_retained n (λ c. not (contains_key m c)) q ∙ ap (λ b. cond (not b) (get n q) None) absent) ∙ ap (λ r. get r q) (empty_of_len (lacked m n) e) ∙ get-empty _ q
+
+  kept_or : (o a : Option (K × V)) → (is_some o ≡ false → a ≡ None) → o ≡ option_or o a
+  kept_or None a h = sym (h refl)
+  kept_or (Some x) a h = refl
+
+  kept_cond : (b : Bool) (o : Option (K × V)) → (b ≡ false → o ≡ None) → o ≡ cond b o None
+  kept_cond true o h = refl
+  kept_cond false o h = h refl
+
+  -- and then both maps are as they should be
+  pub moves_nothing : {H : Type 0} (m n : View K V H) → len (lacked (entries class m) (entries class n)) ≡ 0 → MovesLacked class m n m n
+  moves_nothing m n e = record {
+    union = λ q. kept_or (get (entries class m) q) (get (entries class n) q) (nothing_lacked (entries class m) (entries class n) e q);
+    left = same_map nat_list_cmp_total exact _ _ (λ q. kept_cond (contains_key (entries class m) q) (get (entries class n) q) (nothing_lacked (entries class m) (entries class n) e q) ∙ sym (get_retained (entries class n) (contains_key (entries class m)) q));
+  }
+
+  -- something was lacking then
+  pub merging_some : (m0 n0 : Entries K V) (cap : ℕ) (m : Entries K V) (ps : List (Option (K × V))) (from i : ℕ) (x : K × V) → IsMerging m0 n0 cap m ps from → from ≤ i
+      → ((j : ℕ) → from ≤ j → j < i → get_or ps j None ≡ None) → get_or ps i None ≡ Some x → contains_key m (class x.0) ≡ false → 0 < len (lacked m0 n0)
+  merging_some m0 n0 cap m ps from i x d le none here lacks =
+      let e = count m0 n0 cap m ps from i x d le none here ∙ ap (λ b. cond b 0 1 + lacked_count m0 (filled (drop (i + 1) ps))) (lacking m0 n0 cap m ps from i x d le none here lacks) in
+      let f = d.fewer in
+      omega (arith, e, f)
+
+  -- no more are lacking than there are
+  pub lacked_most : (m : Entries K V) (ps : List (Option (K × V))) → Apart class ps → len (lacked m (entries_in class ps)) ≤ length (filled ps)
+  lacked_most m ps h = let e = len_lacked m ps h in let f = lacked_small m (filled ps) in omega (arith, e, f)
+
+  pub lacked_cons : (m : Entries K V) (x : K × V) (items : List (K × V)) → lacked_count m (x ∷ items) ≡ cond (contains_key m (class x.0)) 0 1 + lacked_count m items
+  unfolding lacked_count
+  lacked_cons m x items = refl
+
+  pub lacked_nothing : (m : Entries K V) → lacked_count m [] ≡ 0
+  unfolding lacked_count
+  lacked_nothing m = refl
 
 -- as many slots as before, and the same hasher
 pub record KeepsLayout {K V H : Type 0} (old new : View K V H) : Type 0 where

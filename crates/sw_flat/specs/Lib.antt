@@ -1,2 +1,4 @@
 pub mod MapLends
 pub mod Maps
+pub mod Merging
+pub mod Vacancies

@@ -1,9 +1,9 @@
 -- What a map ends as, once a `&mut` to one of its values has ended.
 use Rattle.std.specs.Prelude.{◌≡◌, ℕ, List, Option, OnSome}
-use Rattle.std.specs.Borrow.{Fml, RattleType, MutBor, LendsSo}
+use Rattle.std.specs.Borrow.{Fml, RattleType, MutBor, Lends, LendsSo}
 use Rattle.sw_probe.specs.declared.keyed.Keyed as Keyed
 use Rattle.sw_probe.specs.declared.keyed.KeyHash as KeyHash
-use Rattle.sw_table.specs.View.{View}
+use Rattle.sw_table.specs.View.{View, with_value}
 use Rattle.sw_table.specs.Entries.{entries}
 use Rattle.sw_flat.specs.Maps.{assigned}
 use Rattle.sw_flat.specs.contracts.map.FlatMap.{the_row}
@@ -16,3 +16,7 @@ pub record IsWritten {K V H : Type 0} (class : K → List ℕ) (old new : View K
 
 abbrev pub lends_value : (K V H : RattleType) (g : Keyed.Ghosts K.Denot) (g' : KeyHash.Ghosts H.Denot K.Denot) → MutBor (View K.Denot V.Denot H.Denot) → List ℕ → Option (MutBor V.Denot) → Fml
 lends_value K V H g g' m c r = LendsSo (the_row K V H g g') V m r (λ n w. OnSome r (IsWritten g.class m.now n c w)) (λ n. n ≡ m.now)
+
+-- the value in the slot i is the last one written through r, and all else is as it was
+abbrev pub lends_slot : (K V H : RattleType) (g : Keyed.Ghosts K.Denot) (g' : KeyHash.Ghosts H.Denot K.Denot) → MutBor (View K.Denot V.Denot H.Denot) → ℕ → MutBor V.Denot → Fml
+lends_slot K V H g g' m i r = Lends (the_row K V H g g') V m r (λ w. with_value m.now i w)

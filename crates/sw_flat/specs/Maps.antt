@@ -1,8 +1,9 @@
 -- What a map has for a class of keys, and what becomes of it.
-use Rattle.std.specs.Prelude.{◌≡◌, ℕ, not, List, [], ◌∷◌, map, length, Option, Some, None}
+use Rattle.std.specs.Prelude.{◌≡◌, ℕ, not, if◌then◌else◌, List, map, length, Option}
 use Rattle.std.specs.Option.{option_map, option_map_or}
 use Rattle.std.specs.FinMap.{get, insert, len, contains_key, retain_keys, from_entries}
 use Rattle.sw_table.specs.Entries.{Entries}
+pub use Rattle.sw_table.specs.Walks.{filled}
 
 module _ {K V : Type 0} where
   -- the value of the class, if it has an entry
@@ -12,6 +13,10 @@ module _ {K V : Type 0} where
   -- the key that is stored of the class, or else k
   abbrev pub stored_key : Entries K V → List ℕ → K → K
   stored_key m c k = option_map_or (λ p. p.0) (get m c) k
+
+  -- the entry goes in where its class has none
+  abbrev pub added : Entries K V → List ℕ → K × V → Entries K V
+  added m c p = if contains_key m c then m else insert m c p
 
   -- the value of the class becomes w, and its stored key stays
   abbrev pub assigned : Entries K V → List ℕ → V → Entries K V
@@ -29,9 +34,3 @@ module _ {K V : Type 0} where
   pub record ListsAll (class : K → List ℕ) (items : List (K × V)) (m : Entries K V) : Type 0 where
     pub all : from_entries (map (λ p. (class p.0, p)) items) ≡ m
     pub once : length items ≡ len m
-
--- the values in the filled places, in their order
-abbrev pub filled : {X : Type 0} → List (Option X) → List X
-filled [] = []
-filled (None ∷ s) = filled s
-filled (Some x ∷ s) = x ∷ filled s

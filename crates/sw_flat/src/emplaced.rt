@@ -1,5 +1,6 @@
 //! What an insertion answers.
 use sw_table::Why;
+use thiserror::Error;
 
 /// What became of a key and a value that were to go in only where the key is new.
 #[derive(Drop)]
@@ -11,7 +12,8 @@ pub enum Emplaced<K, V> {
 }
 
 /// A key that did not go into a set, and why.
-#[derive(Drop)]
+#[derive(Debug, Drop, Error)]
+#[error("the key was not added: {why}")]
 pub struct RefusedKey<K> {
     pub key: K,
     pub why: Why,

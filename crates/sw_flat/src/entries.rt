@@ -1,13 +1,14 @@
 //! Entries that come and go.
-ghost use Rattle.std.specs.Prelude.{◌≡◌, ◌↔◌, ◌<◌, ◌^◌, ◌⊎◌, IsTrue, IsOk, OnOk, OnErr, IfOk, IfErr, None, if◌then◌else◌};
+ghost use Rattle.std.specs.Prelude.{◌≡◌, IsTrue, IsOk, OnOk, IfOk, IfErr, None, if◌then◌else◌};
 ghost use Rattle.std.specs.Bool.{OnFalse};
-ghost use Rattle.std.specs.FinMap.{insert, get, remove, len, contains_key};
+ghost use Rattle.std.specs.FinMap.{insert, get, remove, contains_key};
 ghost use Rattle.sw_table.specs.View.{slot_count};
 ghost use Rattle.sw_table.specs.Entries.{entries};
-ghost use Rattle.sw_table.specs.Sizes.{room_of, grown};
-ghost use Rattle.sw_table.specs.declared.refused.Why.TheVariants.{Limit};
+ghost use Rattle.sw_table.specs.Sizes.{SameOrGrown};
+ghost use Rattle.sw_table.specs.LaidOut.{hash_by};
+ghost use Rattle.sw_table.specs.Insertion.{HasSpace, InPlace, RefusesGrowth};
 ghost use Rattle.sw_flat.specs.declared.emplaced.Emplaced.TheVariants.{Inserted, Present};
-ghost use Rattle.sw_flat.specs.Maps.{value_at, stored_key};
+ghost use Rattle.sw_flat.specs.Maps.{value_at, stored_key, added};
 
 use crate::emplaced::Emplaced;
 use crate::map::FlatMap;
@@ -18,20 +19,27 @@ impl<K: Keyed, V, H: KeyHash<K>> FlatMap<K, V, H> {
     /// Adds an entry where its key is new. Where the key is there, the map stays as it is, and key
     /// and value come back.
     ///
-    /// It refuses only a new key, and only where there are as many entries as the room, or more:
-    /// with `Limit` where the capacity is 2^28, else with `Memory`. The pair is then handed back,
-    /// and the map is as it was.
+    /// The capacity stays where the table has space: fewer entries than the room, or fewer slots in
+    /// use than the load, or a deleted slot as the first free one on the key's way. Then no
+    /// insertion is refused. Else the capacity doubles, or the call refuses: with `Limit` where the
+    /// capacity is 2^28, else with `Memory`. The pair is then handed back, and the map is as it
+    /// was.
     #[inline]
     pub fn try_emplace(&mut self, key: K, value: V) -> Result<Emplaced<K, V>, Refused<K, V>>
-        ensures answer { IfOk result (λ e. e ≡ (if contains_key (entries K.class self.old) (K.class key) then Present key value else Inserted)) }
-        ensures entries { OnOk result (entries K.class self.new ≡ (if contains_key (entries K.class self.old) (K.class key) then entries K.class self.old else insert (entries K.class self.old) (K.class key) (key, value))) }
-        ensures present { IsTrue (contains_key (entries K.class self.old) (K.class key)) → IsOk result × (self.new ≡ self.old) }
-        ensures within_room { len (entries K.class self.old) < room_of (slot_count self.old) → IsOk result × (slot_count self.new ≡ slot_count self.old) }
-        ensures slots { (slot_count self.new ≡ slot_count self.old) ⊎ (slot_count self.new ≡ grown (slot_count self.old)) }
+        ensures answer { IfOk result (λ e. e ≡
+            (if contains_key (entries K.class self.old) (K.class key)
+            then Present key value else Inserted)) }
+        ensures entries { OnOk result (entries K.class self.new ≡
+            added (entries K.class self.old) (K.class key) (key, value)) }
+        ensures present { IsTrue (contains_key (entries K.class self.old) (K.class key)) →
+            IsOk result × (self.new ≡ self.old) }
+        ensures in_place { HasSpace K.class self.old
+            (hash_by H.hash_of K.bytes self.old.hasher (K.class key)) →
+            InPlace result self.old self.new }
+        ensures slots { SameOrGrown (slot_count self.old) (slot_count self.new) }
         ensures hasher { self.new.hasher ≡ self.old.hasher }
         ensures handed_back { IfErr result (λ r. (r.key ≡ key) × (r.value ≡ value)) }
-        ensures unchanged { OnErr result (self.new ≡ self.old) }
-        ensures limit { IfErr result (λ r. (r.why ≡ Limit) ↔ (slot_count self.old ≡ 2 ^ 28)) }
+        ensures refused { IfErr result (λ r. RefusesGrowth self.old self.new r.why) }
     {
         let hash = self.table.hash(&key);
         if self.table.find_hashed(&key, hash).is_some() {
@@ -49,15 +57,20 @@ impl<K: Keyed, V, H: KeyHash<K>> FlatMap<K, V, H> {
     pub fn insert_or_assign(&mut self, key: K, value: V) -> Result<Option<V>, Refused<K, V>>
     where
         K: Drop,
-        ensures answer { IfOk result (λ old. old ≡ value_at (entries K.class self.old) (K.class key)) }
-        ensures entries { OnOk result (entries K.class self.new ≡ insert (entries K.class self.old) (K.class key) (stored_key (entries K.class self.old) (K.class key) key, value)) }
-        ensures present { IsTrue (contains_key (entries K.class self.old) (K.class key)) → IsOk result × (slot_count self.new ≡ slot_count self.old) }
-        ensures within_room { len (entries K.class self.old) < room_of (slot_count self.old) → IsOk result × (slot_count self.new ≡ slot_count self.old) }
-        ensures slots { (slot_count self.new ≡ slot_count self.old) ⊎ (slot_count self.new ≡ grown (slot_count self.old)) }
+        ensures answer { IfOk result
+            (λ old. old ≡ value_at (entries K.class self.old) (K.class key)) }
+        ensures entries { OnOk result (entries K.class self.new ≡
+            insert (entries K.class self.old) (K.class key)
+            (stored_key (entries K.class self.old) (K.class key) key, value)) }
+        ensures present { IsTrue (contains_key (entries K.class self.old) (K.class key)) →
+            InPlace result self.old self.new }
+        ensures in_place { HasSpace K.class self.old
+            (hash_by H.hash_of K.bytes self.old.hasher (K.class key)) →
+            InPlace result self.old self.new }
+        ensures slots { SameOrGrown (slot_count self.old) (slot_count self.new) }
         ensures hasher { self.new.hasher ≡ self.old.hasher }
         ensures handed_back { IfErr result (λ r. (r.key ≡ key) × (r.value ≡ value)) }
-        ensures unchanged { OnErr result (self.new ≡ self.old) }
-        ensures limit { IfErr result (λ r. (r.why ≡ Limit) ↔ (slot_count self.old ≡ 2 ^ 28)) }
+        ensures refused { IfErr result (λ r. RefusesGrowth self.old self.new r.why) }
     {
         let hash = self.table.hash(&key);
         if let Some(slot) = self.table.find_hashed(&key, hash) {
@@ -75,7 +88,8 @@ impl<K: Keyed, V, H: KeyHash<K>> FlatMap<K, V, H> {
         K: Drop,
         V: Drop,
         ensures answer { result ≡ contains_key (entries K.class self.old) (Q.named q.now) }
-        ensures entries { entries K.class self.new ≡ remove (entries K.class self.old) (Q.named q.now) }
+        ensures entries { entries K.class self.new ≡
+            remove (entries K.class self.old) (Q.named q.now) }
         ensures slots { slot_count self.new ≡ slot_count self.old }
         ensures hasher { self.new.hasher ≡ self.old.hasher }
         ensures unchanged { OnFalse result (self.new ≡ self.old) }
@@ -87,7 +101,8 @@ impl<K: Keyed, V, H: KeyHash<K>> FlatMap<K, V, H> {
     #[inline]
     pub fn extract<Q: Names<K>>(&mut self, q: &Q) -> Option<(K, V)>
         ensures answer { result ≡ get (entries K.class self.old) (Q.named q.now) }
-        ensures entries { entries K.class self.new ≡ remove (entries K.class self.old) (Q.named q.now) }
+        ensures entries { entries K.class self.new ≡
+            remove (entries K.class self.old) (Q.named q.now) }
         ensures slots { slot_count self.new ≡ slot_count self.old }
         ensures hasher { self.new.hasher ≡ self.old.hasher }
         ensures unchanged { result ≡ None → self.new ≡ self.old }

@@ -1,95 +1,81 @@
-//! The entries of a map and the keys of a set, one by one.
-ghost use Rattle.std.specs.Prelude.{map};
-ghost use Rattle.std.specs.Iterator.{YieldsFirstBy, YieldsFirstRef, item_count};
+//! Iteration over maps and sets.
+ghost use Rattle.std.specs.Prelude.{◌≡◌, map};
 ghost use Rattle.sw_table.specs.Entries.{entries};
+ghost use Rattle.sw_table.specs.Walks.{filled};
 ghost use Rattle.sw_flat.specs.Maps.{ListsAll};
 
-use std::marker::Model;
+use crate::keys::Keys;
+use crate::map::FlatMap;
+use crate::set::FlatSet;
+use crate::values::Values;
+use std::iter::IntoIterator;
 use sw_probe::{KeyHash, Keyed};
-use sw_table::Table;
+use sw_table::Iter;
 
-/// The entries of a map that are still to come, seen as their list.
-#[derive(Drop)]
-pub struct Iter<'a, K: Keyed, V, H: KeyHash<K>> {
-    table: &'a Table<K, V, H>,
-    // The slot from which on entries are still to come.
-    from: usize,
-}
-
-impl<'a, K: Keyed, V, H: KeyHash<K>> Model for Iter<'a, K, V, H> {
-    ghost use Rattle.std.specs.Prelude.{List, ◌<◌, ◌^◌, drop};
-    ghost use Rattle.sw_table.specs.View.{slot_count};
-    ghost use Rattle.sw_flat.specs.Maps.{filled};
-
-    ghost Value = { List (K × V) };
-
-    ghost view = { λ it. filled (drop it.from it.table.now.places) };
-
-    ghost invariant = { λ it. slot_count it.table.now < 2 ^ 64 };
-}
-
-impl<'a, K: Keyed, V, H: KeyHash<K>> Iter<'a, K, V, H> {
-    /// All entries of the table.
+impl<K: Keyed, V, H: KeyHash<K>> FlatMap<K, V, H> {
+    /// The entries, each once, in the order of their slots.
     #[inline]
-    pub(crate) fn new(table: &'a Table<K, V, H>) -> Iter<'a, K, V, H>
-        ensures { ListsAll K.class result (entries K.class table.now) }
+    pub fn iter(&self) -> Iter<'_, K, V, H>
+        ensures all { ListsAll K.class result (entries K.class self.now) }
+        ensures slots { result ≡ filled self.now.places }
     {
-        let _ = table.capacity();
-        Iter { table, from: 0 }
+        let _ = self.table.capacity();
+        self.table.iter()
+    }
+
+    /// The keys that are stored, in the order of their slots.
+    #[inline]
+    pub fn keys(&self) -> Keys<'_, K, V, H>
+        ensures all { ListsAll K.class (filled self.now.places) (entries K.class self.now) }
+        ensures keys { result ≡ map (λ p. p.0) (filled self.now.places) }
+    {
+        Keys::new(self.iter())
+    }
+
+    /// The values, in the order of their slots.
+    #[inline]
+    pub fn values(&self) -> Values<'_, K, V, H>
+        ensures all { ListsAll K.class (filled self.now.places) (entries K.class self.now) }
+        ensures values { result ≡ map (λ p. p.1) (filled self.now.places) }
+    {
+        Values::new(self.iter())
     }
 }
 
-impl<'a, K: Keyed, V, H: KeyHash<K>> Iterator for Iter<'a, K, V, H> {
+impl<'a, K: Keyed, V, H: KeyHash<K>> IntoIterator for &'a FlatMap<K, V, H> {
     type Item = (&'a K, &'a V);
 
-    ghost next_gives = { YieldsFirstBy (λ item. (item.0.now, item.1.now)) (λ rest. rest) };
+    type IntoIter = Iter<'a, K, V, H>;
 
-    ghost remaining = { item_count (λ rest. rest) };
+    ghost into_iter_gives = { λ map it. ListsAll K.class it (entries K.class map.now) ×
+        (it ≡ filled map.now.places) };
 
     #[inline]
-    fn next(&mut self) -> Option<(&'a K, &'a V)> {
-        let slot = self.table.next_full(self.from)?;
-        self.from = slot.index + 1;
-        Some(self.table.at(slot))
+    fn into_iter(self) -> Iter<'a, K, V, H> {
+        self.iter()
     }
 }
 
-/// The keys of a set that are still to come, seen as their list.
-#[derive(Drop)]
-pub struct SetIter<'a, K: Keyed, H: KeyHash<K>> {
-    entries: Iter<'a, K, (), H>,
-}
-
-impl<'a, K: Keyed, H: KeyHash<K>> Model for SetIter<'a, K, H> {
-    ghost use Rattle.std.specs.Prelude.{List, map};
-
-    ghost Value = { List K };
-
-    ghost view = { λ it. map (λ p. p.0) it.entries };
-}
-
-impl<'a, K: Keyed, H: KeyHash<K>> SetIter<'a, K, H> {
-    /// All keys of the table.
+impl<K: Keyed, H: KeyHash<K>> FlatSet<K, H> {
+    /// The keys, each once, in the order of their slots.
     #[inline]
-    pub(crate) fn new(table: &'a Table<K, (), H>) -> SetIter<'a, K, H>
-        ensures { ListsAll K.class (map (λ k. (k, tt)) result) (entries K.class table.now) }
+    pub fn iter(&self) -> Keys<'_, K, (), H>
+        ensures all { ListsAll K.class (map (λ k. (k, tt)) result) (entries K.class self.now) }
+        ensures slots { map (λ k. (k, tt)) result ≡ filled self.now.places }
     {
-        SetIter {
-            entries: Iter::new(table),
-        }
+        self.map.keys()
     }
 }
 
-impl<'a, K: Keyed, H: KeyHash<K>> Iterator for SetIter<'a, K, H> {
+impl<'a, K: Keyed, H: KeyHash<K>> IntoIterator for &'a FlatSet<K, H> {
     type Item = &'a K;
 
-    ghost next_gives = { YieldsFirstRef (λ rest. rest) };
+    type IntoIter = Keys<'a, K, (), H>;
 
-    ghost remaining = { item_count (λ rest. rest) };
+    ghost into_iter_gives = { λ set it. ListsAll K.class (map (λ k. (k, tt)) it) (entries K.class set.now) };
 
     #[inline]
-    fn next(&mut self) -> Option<&'a K> {
-        let (key, _) = self.entries.next()?;
-        Some(key)
+    fn into_iter(self) -> Keys<'a, K, (), H> {
+        self.iter()
     }
 }

@@ -10,7 +10,13 @@
 //! - Within the room no insertion is refused and no memory is asked for, however many entries were
 //!   erased: a map made by `with_room` for `n` entries takes every insertion while fewer than `n`
 //!   live. Past it an insertion doubles the capacity, or is refused and hands its pair back.
-//! - [`FlatMap::merge`] makes room first, so that it moves all entries or none.
+//! - [`FlatMap::entry`] looks a key up that is only asked for, and tells where its entry stands, or
+//!   keeps the hash, so that [`FlatMap::fill`] adds one by an owned key without hashing again.
+//! - [`FlatMap::iter`], `keys` and `values` go over the slots in order, and read the control bytes of
+//!   a group once. [`FlatMap::drain_next`] takes the entries out one by one, each once, and leaves
+//!   the slots empty.
+//! - [`FlatMap::merge`] makes room first, so that it moves all entries or none, and does nothing
+//!   where no key is new.
 //!
 //! ```text
 //! let mut stock = FlatMap::with_room(alloc, Fnv1a { seed: 0 }, 12)?;   // 16 slots
@@ -20,6 +26,10 @@
 //! stock.get(&7);                              // Some(&72)
 //! stock.extract(&7);                          // Some((7, 72))
 //! stock.erase(&7);                            // false: it is gone
+//! match stock.entry(&8) {
+//!     Entry::Occupied(slot) => *stock.value_mut(slot) += 1,
+//!     Entry::Vacant(vacancy) => drop(stock.fill(vacancy, 8, 1)?),
+//! }
 //! stock.into_list()?;                         // no entry is left
 //! ```
 //!
@@ -29,18 +39,24 @@
 //! and what a refusal leaves, and the room promise holds.
 #![tactic(auto)]
 
+mod drain;
 mod emplaced;
 mod entries;
+mod entry;
 mod iter;
+mod keys;
 mod laws;
 mod list;
 mod map;
 mod merge;
 mod set;
+mod values;
 
 pub use emplaced::{Emplaced, RefusedKey};
-pub use iter::{Iter, SetIter};
+pub use entry::{Entry, Vacancy};
+pub use keys::Keys;
 pub use laws::keys_are_of_their_class;
 pub use map::FlatMap;
 pub use set::FlatSet;
-pub use sw_table::{Refused, Why};
+pub use sw_table::{Iter, Refused, SlotNo, Walk, Why};
+pub use values::Values;

@@ -6,6 +6,7 @@ ghost use Rattle.sw_flat.specs.Maps.{ListsAll};
 use crate::map::FlatMap;
 use crate::set::FlatSet;
 use sw_probe::{KeyHash, Keyed};
+use sw_table::Walk;
 
 impl<K: Keyed + Drop, V: Drop, H: KeyHash<K> + Drop> FlatMap<K, V, H> {
     /// The entries as a list, each once, in no order that is promised. Where memory for the list is
@@ -19,10 +20,9 @@ impl<K: Keyed + Drop, V: Drop, H: KeyHash<K> + Drop> FlatMap<K, V, H> {
             return Err(FlatMap { table, alloc });
         };
         let _ = table.capacity();
-        let mut from = 0;
-        'slots: while let Some(slot) = table.next_full(from) {
-            from = slot.index + 1;
-            let Ok(()) = list.push(table.remove(slot)) else {
+        let mut walk = Walk::new();
+        'entries: while let Some(entry) = table.drain_next(&mut walk) {
+            let Ok(()) = list.push(entry) else {
                 unreachable!();
             };
         }
@@ -45,10 +45,9 @@ impl<K: Keyed + Drop, H: KeyHash<K> + Drop> FlatSet<K, H> {
             });
         };
         let _ = table.capacity();
-        let mut from = 0;
-        'slots: while let Some(slot) = table.next_full(from) {
-            from = slot.index + 1;
-            let Ok(()) = list.push(table.remove(slot).0) else {
+        let mut walk = Walk::new();
+        'entries: while let Some(entry) = table.drain_next(&mut walk) {
+            let Ok(()) = list.push(entry.0) else {
                 unreachable!();
             };
         }

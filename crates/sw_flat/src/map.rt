@@ -1,15 +1,13 @@
 //! The flat map.
-ghost use Rattle.std.specs.Prelude.{◌≡◌, ◌≢◌, ◌↔◌, ℕ, ◌<◌, ◌≤◌, ◌^◌, IsTrue, IsOk, OnOk, OnErr, IfOk, Err, slice_index};
+ghost use Rattle.std.specs.Prelude.{◌≡◌, ◌↔◌, ℕ, ◌<◌, ◌≤◌, ◌^◌, IsTrue, IsOk, OnOk, OnErr, IfOk, Err};
 ghost use Rattle.std.specs.Option.{option_copied, option_copied_mut};
 ghost use Rattle.std.specs.FinMap.{empty, len, contains_key};
-ghost use Rattle.sw_ctrl.specs.declared.control.TheConstants.{DELETED};
-ghost use Rattle.sw_table.specs.View.{slot_count, fresh};
+ghost use Rattle.sw_table.specs.View.{slot_count, fresh, NoneDeleted};
 ghost use Rattle.sw_table.specs.Entries.{entries};
 ghost use Rattle.sw_table.specs.Sizes.{room_of, IsCapacity};
 ghost use Rattle.sw_table.specs.declared.refused.Why.TheVariants.{Limit};
-ghost use Rattle.sw_flat.specs.Maps.{value_at, ListsAll};
+ghost use Rattle.sw_flat.specs.Maps.{value_at};
 
-use crate::iter::Iter;
 use std::alloc::Global;
 use std::marker::Model;
 use sw_probe::{KeyHash, Keyed, Names};
@@ -135,7 +133,7 @@ impl<K: Keyed, V, H: KeyHash<K>> FlatMap<K, V, H> {
     pub fn rehash(&mut self)
         ensures entries { entries K.class self.new ≡ entries K.class self.old }
         ensures slots { slot_count self.new ≡ slot_count self.old }
-        ensures none_deleted { (i : ℕ) → i < slot_count self.new → slice_index self.new.bytes i ≢ DELETED }
+        ensures none_deleted { NoneDeleted self.new }
         ensures hasher { self.new.hasher ≡ self.old.hasher }
     {
         self.table.rehash();
@@ -178,13 +176,5 @@ impl<K: Keyed, V, H: KeyHash<K>> FlatMap<K, V, H> {
         ensures { result ≡ contains_key (entries K.class self.now) (Q.named q.now) }
     {
         self.table.find(q).is_some()
-    }
-
-    /// The entries, each once, in no order that is promised.
-    #[inline]
-    pub fn iter(&self) -> Iter<'_, K, V, H>
-        ensures { ListsAll K.class result (entries K.class self.now) }
-    {
-        Iter::new(&self.table)
     }
 }

@@ -1,56 +1,86 @@
 //! One map into another.
-ghost use Rattle.std.specs.Prelude.{◌≡◌, ◌↔◌, ℕ, List, ◌+◌, ◌<◌, ◌≤◌, ◌^◌, IsOk, OnOk, OnErr, Err};
-ghost use Rattle.std.specs.Option.{option_or};
-ghost use Rattle.std.specs.FinMap.{get, len};
+ghost use Rattle.std.specs.Prelude.{◌≡◌, ◌↔◌, ◌+◌, ◌<◌, ◌≤◌, ◌^◌, IsTrue, IsOk, OnOk, OnErr, Err};
+ghost use Rattle.std.specs.FinMap.{len};
 ghost use Rattle.sw_table.specs.View.{slot_count};
 ghost use Rattle.sw_table.specs.Entries.{entries};
 ghost use Rattle.sw_table.specs.Sizes.{room_of};
 ghost use Rattle.sw_table.specs.declared.refused.Why.TheVariants.{Limit};
-ghost use Rattle.sw_flat.specs.Maps.{lacked, shared};
+ghost use Rattle.sw_flat.specs.Maps.{lacked};
+ghost use Rattle.sw_flat.specs.Merging.{MovesLacked, GrowsForUnion, KeepsHashers, union_size};
 
 use crate::map::FlatMap;
+use crate::set::FlatSet;
 use sw_probe::{KeyHash, Keyed};
-use sw_table::Why;
+use sw_table::{Walk, Why};
 
 impl<K: Keyed, V, H: KeyHash<K>> FlatMap<K, V, H> {
     /// Moves the entries of `other` over whose keys this map lacks, and leaves the others. What
-    /// moves is hashed by this map's hasher.
+    /// moves is hashed by this map's hasher. Where nothing is lacking nothing changes, and no memory
+    /// is asked for.
     ///
-    /// Room for all of them is made first. That is refused with `Limit` where the capacity would
-    /// pass 2^28, and else with `Memory`, and only where the room is less than what both maps have
-    /// together. Both are then as they were.
+    /// Else room for both maps' keys together is made first, by the least capacity that has it.
+    /// That is refused with `Limit` where the capacity would pass 2^28, and else with `Memory`, and
+    /// only where the room is less than that. Both are then as they were.
     pub fn merge(&mut self, other: &mut FlatMap<K, V, H>) -> Result<(), Why>
     where
         K: Drop,
         V: Drop,
-        ensures entries { OnOk result ((c : List ℕ) → get (entries K.class self.new) c ≡ option_or (get (entries K.class self.old) c) (get (entries K.class other.old) c)) }
-        ensures left { OnOk result (entries K.class other.new ≡ shared (entries K.class self.old) (entries K.class other.old)) }
-        ensures enough { len (entries K.class self.old) + len (lacked (entries K.class self.old) (entries K.class other.old)) ≤ room_of (slot_count self.old) → IsOk result × (slot_count self.new ≡ slot_count self.old) }
-        ensures room { OnOk result (len (entries K.class self.old) + len (lacked (entries K.class self.old) (entries K.class other.old)) ≤ room_of (slot_count self.new)) }
-        ensures grows { slot_count self.old ≤ slot_count self.new }
+        ensures merged { OnOk result (MovesLacked K.class self.old other.old self.new other.new) }
+        ensures nothing { len (lacked (entries K.class self.old) (entries K.class other.old)) ≡ 0 →
+            IsOk result × (self.new ≡ self.old) × (other.new ≡ other.old) }
+        ensures enough { union_size K.class self.old other.old ≤ room_of (slot_count self.old) →
+            IsOk result × (slot_count self.new ≡ slot_count self.old) }
+        ensures grows { GrowsForUnion K.class self.old other.old self.new }
+        ensures room { OnOk result (
+            0 < len (lacked (entries K.class self.old) (entries K.class other.old)) →
+            union_size K.class self.old other.old ≤ room_of (slot_count self.new)) }
         ensures other_slots { slot_count other.new ≡ slot_count other.old }
-        ensures hasher { self.new.hasher ≡ self.old.hasher }
-        ensures other_hasher { other.new.hasher ≡ other.old.hasher }
+        ensures hashers { KeepsHashers self.old other.old self.new other.new }
         ensures unchanged { OnErr result ((self.new ≡ self.old) × (other.new ≡ other.old)) }
-        ensures limit { (result ≡ Err Limit) ↔ (room_of (2 ^ 28) < len (entries K.class self.old) + len (lacked (entries K.class self.old) (entries K.class other.old))) }
+        ensures limit { (result ≡ Err Limit) ↔
+            ((0 < len (lacked (entries K.class self.old) (entries K.class other.old))) ×
+            (room_of (2 ^ 28) < union_size K.class self.old other.old)) }
     {
-        let more = self.count_lacked(other);
-        self.table.reserve(self.table.len() + more)?;
+        if !self.has_room_for(other) {
+            let more = self.count_lacked(other);
+            if more == 0 {
+                return Ok(());
+            }
+            self.table.reserve(self.table.len() + more)?;
+        }
         self.take_lacked(other);
         Ok(())
     }
 
+    // Whether there is room for the entries of both maps, if all their keys differ.
+    fn has_room_for(&self, other: &FlatMap<K, V, H>) -> bool
+        ensures fits { IsTrue result →
+            union_size K.class self.now other.now ≤ room_of (slot_count self.now) }
+        ensures most { room_of (slot_count self.now) ≤ room_of (2 ^ 28) }
+    {
+        let _ = (self.table.capacity(), other.table.capacity());
+        let room = self.table.room();
+        let more = other.table.len();
+        if room < more {
+            return false;
+        }
+        if room - more < self.table.len() {
+            return false;
+        }
+        true
+    }
+
     // How many entries of the other map have keys that this one lacks.
     fn count_lacked(&self, other: &FlatMap<K, V, H>) -> usize
-        ensures count { result ≡ len (lacked (entries K.class self.now) (entries K.class other.now)) }
+        ensures count { result ≡
+            len (lacked (entries K.class self.now) (entries K.class other.now)) }
         ensures small { (result < 2 ^ 60) × (len (entries K.class self.now) < 2 ^ 60) }
     {
         let _ = (self.table.capacity(), other.table.capacity());
         let mut count = 0;
-        let mut from = 0;
-        'slots: while let Some(slot) = other.table.next_full(from) {
-            from = slot.index + 1;
-            count += !self.contains(other.table.at(slot).0) as usize;
+        let mut rest = other.table.iter();
+        'entries: while let Some(entry) = rest.next() {
+            count += !self.contains(entry.0) as usize;
         }
         count
     }
@@ -60,18 +90,17 @@ impl<K: Keyed, V, H: KeyHash<K>> FlatMap<K, V, H> {
     where
         K: Drop,
         V: Drop,
-        requires { len (entries K.class self.old) + len (lacked (entries K.class self.old) (entries K.class other.old)) ≤ room_of (slot_count self.old) }
-        ensures entries { (c : List ℕ) → get (entries K.class self.new) c ≡ option_or (get (entries K.class self.old) c) (get (entries K.class other.old) c) }
-        ensures left { entries K.class other.new ≡ shared (entries K.class self.old) (entries K.class other.old) }
+        requires { union_size K.class self.old other.old ≤ room_of (slot_count self.old) }
+        ensures merged { MovesLacked K.class self.old other.old self.new other.new }
+        ensures nothing { len (lacked (entries K.class self.old) (entries K.class other.old)) ≡ 0 →
+            (self.new ≡ self.old) × (other.new ≡ other.old) }
         ensures slots { slot_count self.new ≡ slot_count self.old }
         ensures other_slots { slot_count other.new ≡ slot_count other.old }
-        ensures hasher { self.new.hasher ≡ self.old.hasher }
-        ensures other_hasher { other.new.hasher ≡ other.old.hasher }
+        ensures hashers { KeepsHashers self.old other.old self.new other.new }
     {
         let _ = other.table.capacity();
-        let mut from = 0;
-        'slots: while let Some(slot) = other.table.next_full(from) {
-            from = slot.index + 1;
+        let mut walk = Walk::new();
+        'slots: while let Some(slot) = other.table.advance(&mut walk) {
             let asked = other.table.at(slot).0;
             let hash = self.table.hash(asked);
             if self.table.find_hashed(asked, hash).is_some() {
@@ -82,5 +111,36 @@ impl<K: Keyed, V, H: KeyHash<K>> FlatMap<K, V, H> {
                 unreachable!();
             };
         }
+    }
+}
+
+impl<K: Keyed, H: KeyHash<K>> FlatSet<K, H> {
+    /// Moves the keys of `other` over that this set lacks, and leaves the others. What moves is
+    /// hashed by this set's hasher. Where nothing is lacking nothing changes, and no memory is asked
+    /// for.
+    ///
+    /// Else room for the keys of both together is made first, by the least capacity that has it.
+    /// That is refused with `Limit` where the capacity would pass 2^28, and else with `Memory`, and
+    /// only where the room is less than that. Both are then as they were.
+    pub fn merge(&mut self, other: &mut FlatSet<K, H>) -> Result<(), Why>
+    where
+        K: Drop,
+        ensures merged { OnOk result (MovesLacked K.class self.old other.old self.new other.new) }
+        ensures nothing { len (lacked (entries K.class self.old) (entries K.class other.old)) ≡ 0 →
+            IsOk result × (self.new ≡ self.old) × (other.new ≡ other.old) }
+        ensures enough { union_size K.class self.old other.old ≤ room_of (slot_count self.old) →
+            IsOk result × (slot_count self.new ≡ slot_count self.old) }
+        ensures grows { GrowsForUnion K.class self.old other.old self.new }
+        ensures room { OnOk result (
+            0 < len (lacked (entries K.class self.old) (entries K.class other.old)) →
+            union_size K.class self.old other.old ≤ room_of (slot_count self.new)) }
+        ensures other_slots { slot_count other.new ≡ slot_count other.old }
+        ensures hashers { KeepsHashers self.old other.old self.new other.new }
+        ensures unchanged { OnErr result ((self.new ≡ self.old) × (other.new ≡ other.old)) }
+        ensures limit { (result ≡ Err Limit) ↔
+            ((0 < len (lacked (entries K.class self.old) (entries K.class other.old))) ×
+            (room_of (2 ^ 28) < union_size K.class self.old other.old)) }
+    {
+        self.map.merge(&mut other.map)
     }
 }

@@ -1,17 +1,17 @@
 //! The flat set.
-ghost use Rattle.std.specs.Prelude.{◌≡◌, ◌≢◌, ◌↔◌, ℕ, ◌<◌, ◌≤◌, ◌^◌, ◌⊎◌, ◌+◌, List, map, not, IsTrue, IsOk, OnOk, OnErr, IfOk, IfErr, Err, None, if◌then◌else◌, slice_index};
+ghost use Rattle.std.specs.Prelude.{◌≡◌, ◌↔◌, ℕ, ◌<◌, ◌≤◌, ◌^◌, not, IsTrue, IsOk, OnOk, OnErr, IfOk, IfErr, Err, None};
 ghost use Rattle.std.specs.Bool.{OnFalse};
-ghost use Rattle.std.specs.Option.{option_map, option_or};
-ghost use Rattle.std.specs.FinMap.{empty, insert, get, remove, len, contains_key};
-ghost use Rattle.sw_ctrl.specs.declared.control.TheConstants.{DELETED};
-ghost use Rattle.sw_table.specs.View.{slot_count, fresh};
+ghost use Rattle.std.specs.Option.{option_map};
+ghost use Rattle.std.specs.FinMap.{empty, get, remove, len, contains_key};
+ghost use Rattle.sw_table.specs.View.{slot_count, fresh, NoneDeleted};
 ghost use Rattle.sw_table.specs.Entries.{entries};
-ghost use Rattle.sw_table.specs.Sizes.{room_of, grown, IsCapacity};
+ghost use Rattle.sw_table.specs.Sizes.{room_of, SameOrGrown, IsCapacity};
+ghost use Rattle.sw_table.specs.LaidOut.{hash_by};
+ghost use Rattle.sw_table.specs.Insertion.{HasSpace, InPlace, RefusesGrowth};
 ghost use Rattle.sw_table.specs.declared.refused.Why.TheVariants.{Limit};
-ghost use Rattle.sw_flat.specs.Maps.{ListsAll, lacked, shared};
+ghost use Rattle.sw_flat.specs.Maps.{added};
 
 use crate::emplaced::{Emplaced, RefusedKey};
-use crate::iter::SetIter;
 use crate::map::FlatMap;
 use std::alloc::Global;
 use std::marker::Model;
@@ -59,7 +59,8 @@ impl<K: Keyed, H: KeyHash<K>> FlatSet<K, H> {
         ensures table { IfOk result (λ s. s ≡ fresh (slot_count s) hasher) }
         ensures entries { IfOk result (λ s. entries K.class s ≡ empty) }
         ensures room { IfOk result (λ s. n ≤ room_of (slot_count s)) }
-        ensures least { IfOk result (λ s. (c : ℕ) → IsCapacity c → n ≤ room_of c → slot_count s ≤ c) }
+        ensures least { IfOk result (λ s. (c : ℕ) → IsCapacity c → n ≤ room_of c →
+            slot_count s ≤ c) }
         ensures no_memory { n ≡ 0 → IsOk result }
         ensures limit { (result ≡ Err Limit) ↔ (room_of (2 ^ 28) < n) }
     {
@@ -117,7 +118,8 @@ impl<K: Keyed, H: KeyHash<K>> FlatSet<K, H> {
         ensures entries { entries K.class self.new ≡ entries K.class self.old }
         ensures room { OnOk result (n ≤ room_of (slot_count self.new)) }
         ensures grows { slot_count self.old ≤ slot_count self.new }
-        ensures least { (c : ℕ) → IsCapacity c → n ≤ room_of c → slot_count self.old ≤ c → slot_count self.new ≤ c }
+        ensures least { (c : ℕ) → IsCapacity c → n ≤ room_of c → slot_count self.old ≤ c →
+            slot_count self.new ≤ c }
         ensures enough { n ≤ room_of (slot_count self.old) → IsOk result × (self.new ≡ self.old) }
         ensures hasher { self.new.hasher ≡ self.old.hasher }
         ensures unchanged { OnErr result (self.new ≡ self.old) }
@@ -131,7 +133,7 @@ impl<K: Keyed, H: KeyHash<K>> FlatSet<K, H> {
     pub fn rehash(&mut self)
         ensures entries { entries K.class self.new ≡ entries K.class self.old }
         ensures slots { slot_count self.new ≡ slot_count self.old }
-        ensures none_deleted { (i : ℕ) → i < slot_count self.new → slice_index self.new.bytes i ≢ DELETED }
+        ensures none_deleted { NoneDeleted self.new }
         ensures hasher { self.new.hasher ≡ self.old.hasher }
     {
         self.map.rehash();
@@ -158,22 +160,26 @@ impl<K: Keyed, H: KeyHash<K>> FlatSet<K, H> {
     /// Adds a key. `false` where it is there already: the stored key stays, and no memory is asked
     /// for.
     ///
-    /// It refuses only a new key, and only where there are as many keys as the room, or more: with
-    /// `Limit` where the capacity is 2^28, else with `Memory`. The key is then handed back, and the
-    /// set is as it was.
+    /// The capacity stays where the table has space, as for `FlatMap::try_emplace`, and then no key
+    /// is refused. Else the capacity doubles, or the call refuses: with `Limit` where the capacity
+    /// is 2^28, else with `Memory`. The key is then handed back, and the set is as it was.
     #[inline]
     pub fn insert(&mut self, key: K) -> Result<bool, RefusedKey<K>>
     where
         K: Drop,
-        ensures answer { IfOk result (λ new. new ≡ not (contains_key (entries K.class self.old) (K.class key))) }
-        ensures entries { OnOk result (entries K.class self.new ≡ (if contains_key (entries K.class self.old) (K.class key) then entries K.class self.old else insert (entries K.class self.old) (K.class key) (key, tt))) }
-        ensures present { IsTrue (contains_key (entries K.class self.old) (K.class key)) → IsOk result × (self.new ≡ self.old) }
-        ensures within_room { len (entries K.class self.old) < room_of (slot_count self.old) → IsOk result × (slot_count self.new ≡ slot_count self.old) }
-        ensures slots { (slot_count self.new ≡ slot_count self.old) ⊎ (slot_count self.new ≡ grown (slot_count self.old)) }
+        ensures answer { IfOk result
+            (λ new. new ≡ not (contains_key (entries K.class self.old) (K.class key))) }
+        ensures entries { OnOk result (entries K.class self.new ≡
+            added (entries K.class self.old) (K.class key) (key, tt)) }
+        ensures present { IsTrue (contains_key (entries K.class self.old) (K.class key)) →
+            IsOk result × (self.new ≡ self.old) }
+        ensures in_place { HasSpace K.class self.old
+            (hash_by H.hash_of K.bytes self.old.hasher (K.class key)) →
+            InPlace result self.old self.new }
+        ensures slots { SameOrGrown (slot_count self.old) (slot_count self.new) }
         ensures hasher { self.new.hasher ≡ self.old.hasher }
         ensures handed_back { IfErr result (λ r. r.key ≡ key) }
-        ensures unchanged { OnErr result (self.new ≡ self.old) }
-        ensures limit { IfErr result (λ r. (r.why ≡ Limit) ↔ (slot_count self.old ≡ 2 ^ 28)) }
+        ensures refused { IfErr result (λ r. RefusesGrowth self.old self.new r.why) }
     {
         match self.map.try_emplace(key, ()) {
             Ok(Emplaced::Inserted) => Ok(true),
@@ -191,7 +197,8 @@ impl<K: Keyed, H: KeyHash<K>> FlatSet<K, H> {
     where
         K: Drop,
         ensures answer { result ≡ contains_key (entries K.class self.old) (Q.named q.now) }
-        ensures entries { entries K.class self.new ≡ remove (entries K.class self.old) (Q.named q.now) }
+        ensures entries { entries K.class self.new ≡
+            remove (entries K.class self.old) (Q.named q.now) }
         ensures slots { slot_count self.new ≡ slot_count self.old }
         ensures hasher { self.new.hasher ≡ self.old.hasher }
         ensures unchanged { OnFalse result (self.new ≡ self.old) }
@@ -202,44 +209,15 @@ impl<K: Keyed, H: KeyHash<K>> FlatSet<K, H> {
     /// Takes the stored key that `q` names out.
     #[inline]
     pub fn extract<Q: Names<K>>(&mut self, q: &Q) -> Option<K>
-        ensures answer { result ≡ option_map (λ p. p.0) (get (entries K.class self.old) (Q.named q.now)) }
-        ensures entries { entries K.class self.new ≡ remove (entries K.class self.old) (Q.named q.now) }
+        ensures answer { result ≡
+            option_map (λ p. p.0) (get (entries K.class self.old) (Q.named q.now)) }
+        ensures entries { entries K.class self.new ≡
+            remove (entries K.class self.old) (Q.named q.now) }
         ensures slots { slot_count self.new ≡ slot_count self.old }
         ensures hasher { self.new.hasher ≡ self.old.hasher }
         ensures unchanged { result ≡ None → self.new ≡ self.old }
     {
         let (key, ()) = self.map.extract(q)?;
         Some(key)
-    }
-
-    /// The keys, each once, in no order that is promised.
-    #[inline]
-    pub fn iter(&self) -> SetIter<'_, K, H>
-        ensures { ListsAll K.class (map (λ k. (k, tt)) result) (entries K.class self.now) }
-    {
-        SetIter::new(self.map.table())
-    }
-
-    /// Moves the keys of `other` over that this set lacks, and leaves the others. What moves is
-    /// hashed by this set's hasher.
-    ///
-    /// Room for all of them is made first. That is refused with `Limit` where the capacity would
-    /// pass 2^28, and else with `Memory`, and only where the room is less than what both sets have
-    /// together. Both are then as they were.
-    pub fn merge(&mut self, other: &mut FlatSet<K, H>) -> Result<(), Why>
-    where
-        K: Drop,
-        ensures entries { OnOk result ((c : List ℕ) → get (entries K.class self.new) c ≡ option_or (get (entries K.class self.old) c) (get (entries K.class other.old) c)) }
-        ensures left { OnOk result (entries K.class other.new ≡ shared (entries K.class self.old) (entries K.class other.old)) }
-        ensures enough { len (entries K.class self.old) + len (lacked (entries K.class self.old) (entries K.class other.old)) ≤ room_of (slot_count self.old) → IsOk result × (slot_count self.new ≡ slot_count self.old) }
-        ensures room { OnOk result (len (entries K.class self.old) + len (lacked (entries K.class self.old) (entries K.class other.old)) ≤ room_of (slot_count self.new)) }
-        ensures grows { slot_count self.old ≤ slot_count self.new }
-        ensures other_slots { slot_count other.new ≡ slot_count other.old }
-        ensures hasher { self.new.hasher ≡ self.old.hasher }
-        ensures other_hasher { other.new.hasher ≡ other.old.hasher }
-        ensures unchanged { OnErr result ((self.new ≡ self.old) × (other.new ≡ other.old)) }
-        ensures limit { (result ≡ Err Limit) ↔ (room_of (2 ^ 28) < len (entries K.class self.old) + len (lacked (entries K.class self.old) (entries K.class other.old))) }
-    {
-        self.map.merge(&mut other.map)
     }
 }

@@ -1,3 +1,4 @@
 pub mod Everywhere
 pub mod Once
+pub mod Overlap
 pub mod Powers

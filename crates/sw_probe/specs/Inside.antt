@@ -1,7 +1,7 @@
 -- The fields of a probe.
 use Rattle.std.specs.Prelude.{◌≡◌, ◌<◌}
 use Rattle.sw_probe.specs.Order.{Walk, IsGroupCount, group_of}
-use Rattle.sw_probe.specs.declared.order.Probe.TheInside.{Inside}
+use Rattle.sw_probe.specs.declared.probe.Probe.TheInside.{Inside}
 
 abbrev pub walk_of : Inside → Walk
 walk_of p = record { start = p.start; groups = p.groups; index = p.index }

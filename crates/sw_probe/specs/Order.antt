@@ -1,6 +1,14 @@
 -- Which group comes when.
 use Rattle.std.specs.Prelude.{◌≡◌, ◌≢◌, ℕ, ◌+◌, ◌*◌, ◌/◌, ◌%◌, ◌^◌, ◌<◌}
 
+-- the part of a hash that chooses the first group
+abbrev pub h1_of : ℕ → ℕ
+h1_of hash = hash / 128
+
+-- the part of a hash that stands in the control byte: seven bits
+abbrev pub h2_of : ℕ → ℕ
+h2_of hash = hash % 128
+
 -- a power of two, at most 2 ^ 24: these are the numbers that divide 2 ^ 24
 abbrev pub IsGroupCount : ℕ → Type 0
 IsGroupCount groups = 2 ^ 24 % groups ≡ 0

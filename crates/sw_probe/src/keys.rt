@@ -2,6 +2,7 @@
 ghost use Rattle.std.specs.Prelude.{◌≡◌, ℕ, List, fold};
 ghost use Rattle.std.specs.Int.{bytes_high_first};
 
+use crate::byte_strings::same_bytes;
 use crate::keyed::{Keyed, Names, Step};
 
 /// A number is the key of its eight bytes, the highest first.
@@ -15,9 +16,18 @@ impl Keyed for u64 {
         *self == *key
     }
 
+    // By shifts, not through an array: a step that only reads the number folds away.
     #[inline]
     fn fold_key<F: Step>(&self, start: u64, f: &F) -> u64 {
-        fold_bytes(&self.to_be_bytes(), start, f)
+        let x = *self;
+        let acc = f.step(start, (x >> 56) as u8);
+        let acc = f.step(acc, (x >> 48 & 0xff) as u8);
+        let acc = f.step(acc, (x >> 40 & 0xff) as u8);
+        let acc = f.step(acc, (x >> 32 & 0xff) as u8);
+        let acc = f.step(acc, (x >> 24 & 0xff) as u8);
+        let acc = f.step(acc, (x >> 16 & 0xff) as u8);
+        let acc = f.step(acc, (x >> 8 & 0xff) as u8);
+        f.step(acc, (x & 0xff) as u8)
     }
 }
 
@@ -29,7 +39,7 @@ impl Keyed for Vec<u8> {
 
     #[inline]
     fn same_key(&self, key: &Vec<u8>) -> bool {
-        self.as_slice() == key.as_slice()
+        same_bytes(self.as_slice(), key.as_slice())
     }
 
     #[inline]
@@ -47,7 +57,7 @@ impl Names<Vec<u8>> for ByteKey<'_> {
 
     #[inline]
     fn same(&self, key: &Vec<u8>) -> bool {
-        self.0 == key.as_slice()
+        same_bytes(self.0, key.as_slice())
     }
 
     #[inline]

@@ -1,10 +1,10 @@
 //! Where a look-up begins and how it goes on: hashes of keys, and the order in which the groups of
 //! a table are tried.
 //!
-//! A hash has 64 bits. The seven lowest go into the control byte of a slot; the others, the hash
-//! shifted right by seven, choose the first group. A table has a power of two of groups, at most
-//! 2^24, and from its first group on a look-up goes 1, then 2, then 3 groups further, and so on,
-//! round the end of the table:
+//! A hash has 64 bits. The seven lowest, [`h2`], go into the control byte of a slot; the others,
+//! [`h1`], the hash shifted right by seven, choose the first group. A table has a power of two of
+//! groups, at most 2^24, and from its first group on a look-up goes 1, then 2, then 3 groups
+//! further, and so on, round the end of the table:
 //!
 //! ```text
 //! the i-th group is (start + i * (i + 1) / 2) mod groups
@@ -20,19 +20,23 @@
 //!   hasher's value and these bytes alone, so whatever names the same class hashes alike, for every
 //!   hasher: [`hash_both`] is the law.
 //! - Keys here are `u64` and `Vec<u8>`, whose borrowed form is [`ByteKey`]. The hashers are
-//!   [`Fnv1a`], [`Constant`], [`LowBits`] and [`Direct`].
+//!   [`Fnv1a`], [`Constant`], [`LowBits`] and [`Direct`]. [`same_bytes`] compares keys of bytes.
 //!
 //! The contract above the crate: each group once, and equal keys hash alike.
 #![tactic(auto)]
 
+mod byte_strings;
+mod hash_parts;
 mod hashers;
 mod keyed;
 mod keys;
 mod laws;
-mod order;
+mod probe;
 
+pub use byte_strings::same_bytes;
+pub use hash_parts::{h1, h2};
 pub use hashers::{Constant, Direct, Fnv1a, LowBits};
 pub use keyed::{KeyHash, Keyed, Names, Step};
 pub use keys::ByteKey;
 pub use laws::{comes_everywhere, comes_once, direct_is_the_key, group_counts, hash_both};
-pub use order::Probe;
+pub use probe::Probe;

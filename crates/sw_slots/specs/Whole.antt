@@ -1,6 +1,6 @@
 -- What holds of the fields of the slots.
 use Rattle.std.specs.Prelude.{◌≡◌, length}
-use Rattle.sw_slots.specs.declared.places.Slots.TheInside.{Inside}
+use Rattle.sw_slots.specs.declared.slots.Slots.TheInside.{Inside}
 use Rattle.sw_slots.specs.Granted.{IsGrantOf}
 
 -- they have the block of their places, and the right to give it back

@@ -40,9 +40,9 @@
 #![tactic(auto)]
 
 mod block;
-mod places;
+mod slots;
 
 // A contract above this crate can name the slots only if the types of their fields are exported.
 #[doc(hidden)]
 pub use block::{Block, Grant};
-pub use places::Slots;
+pub use slots::Slots;

@@ -33,6 +33,11 @@ module _ (bs : List ℕ) (g : ℕ) (room : 16 * g + 16 ≤ length bs) (ms : List
       let lt : l < 16 = omega (arith, p.0, ap length is, length-map (take 16 (drop (16 * g) bs)) is_free, length-chunk (16 * g) 16 bs room) in
       (lt, free_high _ (sym (free_lane l lt) ∙ p.1), sym (free_lane l lt) ∙ p.1)
 
+  pub none_below : (l : ℕ) → position (λ b. b) ms ≡ Some l → (k : ℕ) → k < l → is_free (slice_index bs (16 * g + k)) ≡ false
+  none_below l e k less =
+      let p = position-Some (λ b. b) ms l false e in
+      sym (free_lane k (omega (arith, less, (lowest_free l e).0))) ∙ p.2 k less
+
   pub none_free : position (λ b. b) ms ≡ None → NoFree bs g
   none_free e l lt = sym (free_lane l lt) ∙ none_set ms e l
 

@@ -1,10 +1,11 @@
 pub mod Bytes
 pub mod Capacities
+pub mod Emptied
 pub mod Entries
+pub mod Filled
 pub mod Found
 pub mod FullLanes
 pub mod GroupLanes
-pub mod MaskBits
 pub mod Masks
 pub mod MovedEntries
 pub mod Places
@@ -13,3 +14,4 @@ pub mod Searches
 pub mod Settling
 pub mod SettlingSteps
 pub mod SlotChanges
+pub mod Walking

@@ -9,7 +9,8 @@ use Rattle.std.proofs.lemmas.List.Sums.{sum_by-set, sum_by-cons}
 use Rattle.sw_ctrl.specs.declared.control.TheConstants.{EMPTY, DELETED}
 use Rattle.sw_ctrl.specs.Bytes.{marked, is_free, is_full, IsControl}
 use Rattle.sw_table.specs.Entries.{entries_in}
-use Rattle.sw_table.specs.Free.{NoFree, First, FirstIn, IsSettling, deleted_count}
+use Rattle.sw_table.specs.Free.{NoFree, First, FirstIn}
+use Rattle.sw_table.specs.Settling.{IsSettling, deleted_count}
 use Rattle.sw_table.specs.LaidOut.{IsLaidOut, used_count, full_count}
 use Rattle.sw_table.specs.Sizes.{IsCapacity}
 use Rattle.sw_table.proofs.Entries.{Apart}

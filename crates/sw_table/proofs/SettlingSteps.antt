@@ -5,7 +5,8 @@ use Rattle.std.proofs.lemmas.Grind.{get_or-set_at}
 use Rattle.sw_ctrl.specs.declared.control.TheConstants.{DELETED}
 use Rattle.sw_ctrl.specs.Bytes.{is_free}
 use Rattle.sw_table.specs.Entries.{entries_in}
-use Rattle.sw_table.specs.Free.{First, IsSettling}
+use Rattle.sw_table.specs.Free.{First}
+use Rattle.sw_table.specs.Settling.{IsSettling}
 use Rattle.sw_table.proofs.Bytes.{deleted_is_free}
 use Rattle.sw_table.proofs.Settling.{step, step_entries, used_stayed, used_turned}
 

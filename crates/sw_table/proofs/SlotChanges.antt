@@ -6,7 +6,7 @@ use Rattle.std.proofs.lemmas.Bool.{lt-ltb, le-ltb, ne_eqb}
 use Rattle.std.proofs.lemmas.Grind.{get_or-set_at}
 use Rattle.std.proofs.lemmas.List.Sums.{sum_by-set}
 use Rattle.sw_ctrl.specs.declared.control.TheConstants.{EMPTY}
-use Rattle.sw_table.specs.Free.{used_then, Fits}
+use Rattle.sw_table.specs.Free.{used_then, KeepsLoad}
 use Rattle.sw_table.specs.LaidOut.{IsTable, IsLaidOut, Reached, ReachedIn, NoEmpty, used_count, full_count}
 use Rattle.sw_table.specs.Sizes.{IsCapacity}
 use Rattle.sw_ctrl.specs.Bytes.{IsControl}
@@ -66,7 +66,7 @@ module _ {K V : Type 0} (class : K → List ℕ) (hash : List ℕ → ℕ) (ps :
   t : IsLaidOut class hash ps bs
   t = it.laid
 
-  module _ (i : ℕ) (p : K × V) (lt : i < length bs) (high : 128 ≤ slice_index bs i) (r : Reached bs (hash (class p.0)) i) (fits : Fits bs i) (absent : Absent class (class p.0) ps) (y : ℕ) (is : y ≡ hash (class p.0) % 128) where
+  module _ (i : ℕ) (p : K × V) (lt : i < length bs) (high : 128 ≤ slice_index bs i) (r : Reached bs (hash (class p.0)) i) (fits : KeepsLoad bs i) (absent : Absent class (class p.0) ps) (y : ℕ) (is : y ≡ hash (class p.0) % 128) where
     low : y < 128
     low = omega (arith, is, mod-lt (hash (class p.0)) {m = 128} (omega arith))
 

@@ -1,8 +1,8 @@
 -- Which byte stands where.
-use Rattle.std.specs.Prelude.{◌≡◌, ◌≢◌, ℕ, ◌+◌, ◌*◌, ◌/◌, ◌%◌, ◌<◌, ◌≤◌, List, length, slice_index, count_by, not, Option, Some, None, IsSome}
+use Rattle.std.specs.Prelude.{◌≡◌, ◌≢◌, ℕ, ◌+◌, ◌*◌, ◌/◌, ◌<◌, ◌≤◌, List, length, slice_index, count_by, not, Option, Some, None, IsSome}
 use Rattle.sw_ctrl.specs.declared.control.TheConstants.{EMPTY}
 use Rattle.sw_ctrl.specs.Bytes.{IsControl, is_empty, is_full}
-use Rattle.sw_probe.specs.Order.{group_number}
+use Rattle.sw_probe.specs.Order.{group_number, h1_of, h2_of}
 use Rattle.sw_slots.specs.Place.{place}
 use Rattle.sw_table.specs.Sizes.{IsCapacity, load_of}
 
@@ -25,8 +25,8 @@ NoEmpty bs g = (l : ℕ) → l < 16 → slice_index bs (16 * g + l) ≢ EMPTY
 -- a walk over `groups` groups comes to that of the slot i, and before it only to groups without an empty byte
 abbrev pub ReachedIn : ℕ → List ℕ → ℕ → ℕ → Type 0
 ReachedIn groups bs hash i =
-    (j : ℕ) × (j < groups) × (i / 16 ≡ group_number (hash / 128) groups j) ×
-    ((m : ℕ) → m < j → NoEmpty bs (group_number (hash / 128) groups m))
+    (j : ℕ) × (j < groups) × (i / 16 ≡ group_number (h1_of hash) groups j) ×
+    ((m : ℕ) → m < j → NoEmpty bs (group_number (h1_of hash) groups m))
 
 -- a look-up for the hash comes to the slot i before it stops
 abbrev pub Reached : List ℕ → ℕ → ℕ → Type 0
@@ -43,7 +43,7 @@ module _ {K V : Type 0} where
     -- and any other slot holds none
     pub vacant : (i : ℕ) → 128 ≤ slice_index bs i → place ps i ≡ None
     -- the byte of an entry is the seven low bits of its key's hash
-    pub h2 : (i : ℕ) (p : K × V) → place ps i ≡ Some p → slice_index bs i ≡ hash (class p.0) % 128
+    pub h2 : (i : ℕ) (p : K × V) → place ps i ≡ Some p → slice_index bs i ≡ h2_of (hash (class p.0))
     -- look-ups come to each entry
     pub chain : (i : ℕ) (p : K × V) → place ps i ≡ Some p → Reached bs (hash (class p.0)) i
     -- no two entries are of one class

@@ -1,6 +1,9 @@
 pub mod Entries
 pub mod Free
+pub mod Insertion
 pub mod LaidOut
+pub mod Settling
 pub mod Sizes
 pub mod TableLends
 pub mod View
+pub mod Walks

@@ -1,8 +1,8 @@
 -- What a contract sees of a table.
-use Rattle.std.specs.Prelude.{ℕ, List, length, replicate, slice_set, Option, None, IsSome, refl}
+use Rattle.std.specs.Prelude.{◌≢◌, ℕ, ◌<◌, List, length, replicate, slice_index, slice_set, Option, None, IsSome, refl}
 use Rattle.std.specs.Option.{option_map}
 use Rattle.std.specs.Coded.{Coded, code_by, coded×, coded_list, coded_ℕ, coded_option}
-use Rattle.sw_ctrl.specs.declared.control.TheConstants.{EMPTY}
+use Rattle.sw_ctrl.specs.declared.control.TheConstants.{EMPTY, DELETED}
 use Rattle.sw_slots.specs.Place.{place}
 
 -- what each slot holds, the control byte of each slot, and the hasher
@@ -31,6 +31,10 @@ module _ {K V H : Type 0} where
   -- the slot i holds an entry
   abbrev pub IsFull : View K V H → ℕ → Type 0
   IsFull t i = IsSome (entry_at t i)
+
+  -- no byte is deleted
+  abbrev pub NoneDeleted : View K V H → Type 0
+  NoneDeleted t = (i : ℕ) → i < slot_count t → slice_index t.bytes i ≢ DELETED
 
   -- n slots, all of them empty
   abbrev pub fresh : ℕ → H → View K V H

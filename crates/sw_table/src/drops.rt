@@ -1,23 +1,36 @@
-//! The end of a table.
-ghost use Rattle.std.specs.Prelude.{◌≡◌, ℕ, ◌<◌, ◌≤◌, None, length, slice_index, IsSome};
+//! Slots and bytes that are emptied.
+ghost use Rattle.std.specs.Prelude.{◌≡◌, ℕ, ◌<◌, ◌≤◌, None, length, replicate, slice_index, IsSome};
+ghost use Rattle.sw_ctrl.specs.declared.control.TheConstants.{EMPTY};
 ghost use Rattle.sw_slots.specs.Place.{place};
+ghost use Rattle.sw_table.specs.LaidOut.{full_count};
 
+use crate::walk::Walk;
 use sw_ctrl::{Ctrl, EMPTY};
 use sw_slots::Slots;
 
-/// Drops what the full slots hold.
-pub(crate) fn empty_out<T: Drop>(mut slots: Slots<T>, ctrl: &Ctrl) -> Slots<T>
-    requires len { length slots ≡ length ctrl.now }
+/// Drops what the full slots hold, `len` values.
+pub(crate) fn empty_out<T: Drop>(slots: &mut Slots<T>, ctrl: &Ctrl, len: usize)
+    requires len { length slots.old ≡ length ctrl.now }
     requires full { (i : ℕ) → i < length ctrl.now → slice_index ctrl.now i < 128 →
-        IsSome (place slots i) }
-    requires vacant { (i : ℕ) → 128 ≤ slice_index ctrl.now i → place slots i ≡ None }
-    ensures len { length result ≡ length ctrl.now }
-    ensures vacant { (i : ℕ) → i < length ctrl.now → place result i ≡ None }
+        IsSome (place slots.old i) }
+    requires vacant { (i : ℕ) → 128 ≤ slice_index ctrl.now i → place slots.old i ≡ None }
+    requires count { len ≡ full_count ctrl.now }
+    ensures { slots.new ≡ replicate (length ctrl.now) None }
+{
+    if len == 0 {
+        return;
+    }
+    let mut walk = Walk::new();
+    'slots: while let Some(i) = walk.advance(ctrl) {
+        let _value = slots.take(i);
+    }
+}
+
+/// Makes every byte empty.
+pub(crate) fn blank(ctrl: &mut Ctrl)
+    ensures { ctrl.new ≡ replicate (length ctrl.old) EMPTY }
 {
     for i in 0..ctrl.len() {
-        if ctrl.get(i) < EMPTY {
-            let _value = slots.take(i);
-        }
+        ctrl.set(i, EMPTY);
     }
-    slots
 }

@@ -5,16 +5,17 @@ ghost use Rattle.sw_table.specs.View.{View, slot_count};
 ghost use Rattle.sw_table.specs.Entries.{entries};
 ghost use Rattle.sw_table.specs.Sizes.{SameOrGrown, grown, room_of, load_of, IsCapacity};
 ghost use Rattle.sw_table.specs.LaidOut.{used_count};
+ghost use Rattle.sw_table.specs.Insertion.{InPlace, RefusesGrowth};
 ghost use Rattle.sw_table.specs.declared.refused.Why.TheVariants.{Limit};
 
+use crate::blocks::new_blocks;
 use crate::moves::move_all;
 use crate::refused::Why;
 use crate::sizes::{MAX_CAPACITY, capacity_for};
 use crate::table::Table;
 use std::alloc::AllocError;
-use sw_ctrl::Ctrl;
+use sw_ctrl::WIDTH;
 use sw_probe::{KeyHash, Keyed};
-use sw_slots::Slots;
 
 impl<K: Keyed, V, H: KeyHash<K>> Table<K, V, H> {
     /// Makes room for `n` entries, by the least capacity that has it. Where the room is there
@@ -48,16 +49,14 @@ impl<K: Keyed, V, H: KeyHash<K>> Table<K, V, H> {
     }
 
     // Makes space for one more entry: in place where the room suffices, else by growth.
-    #[cold]
     pub(crate) fn make_space(&mut self) -> Result<(), Why>
         ensures entries { OnOk result (entries K.class self.new ≡ entries K.class self.old) }
         ensures slots { OnOk result (SameOrGrown (slot_count self.old) (slot_count self.new)) }
         ensures in_place { len (entries K.class self.old) < room_of (slot_count self.old) →
-            IsOk result × (slot_count self.new ≡ slot_count self.old) }
+            InPlace result self.old self.new }
         ensures hasher { self.new.hasher ≡ self.old.hasher }
         ensures load { OnOk result (used_count self.new.bytes < load_of (slot_count self.new)) }
-        ensures unchanged { OnErr result (self.new ≡ self.old) }
-        ensures limit { IfErr result (λ why. (why ≡ Limit) ↔ (slot_count self.old ≡ 2 ^ 28)) }
+        ensures refused { IfErr result (RefusesGrowth self.old self.new) }
     {
         // The proof takes the invariant from here.
         let _ = &self.ctrl;
@@ -74,14 +73,13 @@ impl<K: Keyed, V, H: KeyHash<K>> Table<K, V, H> {
         ensures slots { OnOk result (slot_count self.new ≡ grown (slot_count self.old)) }
         ensures hasher { self.new.hasher ≡ self.old.hasher }
         ensures load { OnOk result (used_count self.new.bytes < load_of (slot_count self.new)) }
-        ensures unchanged { OnErr result (self.new ≡ self.old) }
-        ensures limit { IfErr result (λ why. (why ≡ Limit) ↔ (slot_count self.old ≡ 2 ^ 28)) }
+        ensures refused { IfErr result (RefusesGrowth self.old self.new) }
     {
         let capacity = self.ctrl.len();
         if capacity == MAX_CAPACITY {
             return Err(Why::Limit);
         }
-        match self.resize(if capacity == 0 { 16 } else { 2 * capacity }) {
+        match self.resize(if capacity == 0 { WIDTH } else { 2 * capacity }) {
             Ok(()) => Ok(()),
             Err(_) => Err(Why::Memory),
         }
@@ -96,8 +94,7 @@ impl<K: Keyed, V, H: KeyHash<K>> Table<K, V, H> {
         ensures load { OnOk result (used_count self.new.bytes < load_of capacity) }
         ensures unchanged { OnErr result (self.new ≡ self.old) }
     {
-        let mut ctrl = Ctrl::new(self.alloc, capacity)?;
-        let mut slots = Slots::new(self.alloc, capacity)?;
+        let (mut slots, mut ctrl) = new_blocks(self.alloc, capacity)?;
         move_all(
             &mut self.slots,
             &self.ctrl,

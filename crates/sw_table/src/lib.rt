@@ -57,18 +57,22 @@
 //! [`Table::find`] gives the number of a slot, and [`Table::at`] and [`Table::at_mut`] what stands
 //! there. [`Table::place`] takes a key that is not there: ask `find` first. To hash a key once for
 //! both, take [`Table::hash`], [`Table::find_hashed`] and [`Table::place_hashed`].
-//! [`Table::next_full`] goes from entry to entry, in the order of the slots.
+//! [`Table::next_full`] goes from entry to entry, in the order of the slots, and so does a [`Walk`],
+//! by [`Table::advance`] or [`Table::iter`], which reads the bytes of a group once. Entries may be
+//! taken out behind a walk, and [`Table::drain_next`] takes all of them out.
 //!
 //! The contract above the crate: a finite map from the classes of keys to their entries, one
 //! equation for each call; the layout, as [`Table::capacity`] states it; and the promise of the
 //! room. They hold for every hasher that fits its keys, one that hashes all keys alike too.
 #![tactic(auto)]
 
+mod blocks;
+mod drain;
 mod drops;
 mod free;
 mod growth;
 mod insert;
-mod lanes;
+mod iter;
 mod lookup;
 mod moves;
 mod refused;
@@ -76,6 +80,9 @@ mod rehash;
 mod removal;
 mod sizes;
 mod table;
+mod walk;
 
+pub use iter::Iter;
 pub use refused::{Refused, Why};
 pub use table::{SlotNo, Table};
+pub use walk::Walk;

@@ -6,10 +6,9 @@ ghost use Rattle.sw_slots.specs.Place.{place};
 ghost use Rattle.sw_table.specs.View.{View, entry_at, slot_count, with_value, IsFull};
 ghost use Rattle.sw_table.specs.Entries.{entries};
 
-use crate::lanes::lowest_from;
 use crate::table::{SlotNo, Table};
-use sw_ctrl::Mask16;
-use sw_probe::{KeyHash, Keyed, Names, Probe};
+use sw_ctrl::{Mask16, WIDTH};
+use sw_probe::{KeyHash, Keyed, Names, Probe, h2};
 use sw_slots::Slots;
 
 impl<K: Keyed, V, H: KeyHash<K>> Table<K, V, H> {
@@ -44,16 +43,16 @@ impl<K: Keyed, V, H: KeyHash<K>> Table<K, V, H> {
             entry_at self.now s.index) }
         ensures absent { IfNone result (get (entries K.class self.now) (Q.named q.now) ≡ None) }
     {
-        let groups = self.ctrl.len() / 16;
+        let groups = self.ctrl.len() / WIDTH;
         if groups == 0 {
             return None;
         }
-        let h2 = (hash & 0x7f) as u8;
+        let h2 = h2(hash);
         let mut probe = Probe::new(hash, groups);
         'probe: loop {
             let at = probe.group();
             let group = self.ctrl.group(at);
-            if let Some(index) = find_in(&self.slots, q, group.match_h2(h2), 16 * at) {
+            if let Some(index) = find_in(&self.slots, q, group.match_h2(h2), WIDTH * at) {
                 return Some(SlotNo { index });
             }
             if group.match_empty().any() || !probe.advance() {
@@ -98,13 +97,13 @@ impl<K: Keyed, V, H: KeyHash<K>> Table<K, V, H> {
             entry_at self.now i ≡ None) }
         ensures none { IfNone result ((i : ℕ) → from ≤ i → entry_at self.now i ≡ None) }
     {
-        let groups = self.ctrl.len() / 16;
-        let mut at = from / 16;
-        let mut passed = from % 16;
+        let groups = self.ctrl.len() / WIDTH;
+        let mut at = from / WIDTH;
+        let mut passed = (from % WIDTH) as u32;
         while at < groups {
-            if let Some(lane) = lowest_from(self.ctrl.group(at).match_full(), passed) {
+            if let Some(lane) = self.ctrl.group(at).match_full().lowest_from(passed) {
                 return Some(SlotNo {
-                    index: 16 * at + lane,
+                    index: WIDTH * at + lane as usize,
                 });
             }
             at += 1;
@@ -123,7 +122,7 @@ fn find_in<K: Keyed, V, Q: Names<K>>(
     base: usize,
 ) -> Option<usize>
     requires lanes { length matches ≡ 16 }
-    requires fits { base + 16 < 2 ^ 64 }
+    requires in_range { base + 16 < 2 ^ 64 }
     requires full { (l : ℕ) → slice_index_or matches l false ≡ true →
         IsSome (place slots.now (base + l)) }
     ensures found { IfSome result (λ i. (p : K × V) × (place slots.now i ≡ Some p) ×

@@ -6,8 +6,8 @@ ghost use Rattle.sw_table.specs.Sizes.{IsCapacity};
 ghost use Rattle.sw_table.specs.LaidOut.{hash_by, full_count, IsLaidOut, IsTable};
 
 use crate::free::first_free;
-use sw_ctrl::{Ctrl, EMPTY};
-use sw_probe::{KeyHash, Keyed};
+use sw_ctrl::{Ctrl, is_full};
+use sw_probe::{KeyHash, Keyed, h2};
 use sw_slots::Slots;
 
 /// Moves every entry to empty slots, of which there are more.
@@ -20,7 +20,8 @@ pub(crate) fn move_all<K: Keyed, V, H: KeyHash<K>>(
 )
     requires laid { IsLaidOut K.class (hash_by H.hash_of K.bytes hasher.now) from.old bytes.now }
     requires size { IsCapacity (length ctrl.old) × (length bytes.now < length ctrl.old) }
-    requires vacant { (to.old ≡ replicate (length ctrl.old) None) × (ctrl.old ≡ replicate (length ctrl.old) EMPTY) }
+    requires vacant { (to.old ≡ replicate (length ctrl.old) None) ×
+        (ctrl.old ≡ replicate (length ctrl.old) EMPTY) }
     ensures left { from.new ≡ replicate (length from.new) None }
     ensures laid { let full = full_count bytes.now in
         IsTable K.class (hash_by H.hash_of K.bytes hasher.now) to.new ctrl.new full full }
@@ -28,12 +29,12 @@ pub(crate) fn move_all<K: Keyed, V, H: KeyHash<K>>(
     ensures size { length ctrl.new ≡ length ctrl.old }
 {
     for i in 0..bytes.len() {
-        if bytes.get(i) < EMPTY {
+        if is_full(bytes.get(i)) {
             let pair = from.take(i);
             let hash = hasher.hash(&pair.0);
             let at = first_free(ctrl, hash);
             to.put(at, pair);
-            ctrl.set(at, (hash & 0x7f) as u8);
+            ctrl.set(at, h2(hash));
         }
     }
 }

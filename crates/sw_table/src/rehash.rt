@@ -2,15 +2,15 @@
 ghost use Rattle.std.specs.Prelude.{◌≡◌, ◌≢◌, ℕ, ◌+◌, ◌<◌, length, slice_index};
 ghost use Rattle.sw_ctrl.specs.declared.control.TheConstants.{DELETED};
 ghost use Rattle.std.specs.FinMap.{len};
-ghost use Rattle.sw_table.specs.View.{View, slot_count};
+ghost use Rattle.sw_table.specs.View.{View, slot_count, NoneDeleted};
 ghost use Rattle.sw_table.specs.Entries.{entries, entries_in};
 ghost use Rattle.sw_table.specs.LaidOut.{hash_by, full_count, used_count, IsLaidOut};
-ghost use Rattle.sw_table.specs.Free.{IsSettling, deleted_count};
+ghost use Rattle.sw_table.specs.Settling.{IsSettling, deleted_count};
 
 use crate::free::first_free;
 use crate::table::Table;
-use sw_ctrl::{Ctrl, DELETED, EMPTY};
-use sw_probe::{KeyHash, Keyed};
+use sw_ctrl::{Ctrl, DELETED, EMPTY, WIDTH};
+use sw_probe::{KeyHash, Keyed, Probe, h2};
 use sw_slots::Slots;
 
 impl<K: Keyed, V, H: KeyHash<K>> Table<K, V, H> {
@@ -19,8 +19,7 @@ impl<K: Keyed, V, H: KeyHash<K>> Table<K, V, H> {
     pub fn rehash(&mut self)
         ensures entries { entries K.class self.new ≡ entries K.class self.old }
         ensures slots { slot_count self.new ≡ slot_count self.old }
-        ensures none_deleted { (i : ℕ) → i < slot_count self.new →
-            slice_index self.new.bytes i ≢ DELETED }
+        ensures none_deleted { NoneDeleted self.new }
         ensures load { used_count self.new.bytes ≡ len (entries K.class self.old) }
         ensures hasher { self.new.hasher ≡ self.old.hasher }
     {
@@ -46,16 +45,19 @@ fn settle_all<K: Keyed, V, H: KeyHash<K>>(slots: &mut Slots<(K, V)>, ctrl: &mut 
     }
 }
 
-// Gives the entry of slot `i` its place. What stood there, if anything, is now in slot `i`.
+// Gives the entry of slot `i` its place. What stood there, if anything, is now in slot `i`. An
+// entry in the first group of its probe stays: no free slot can come before its own group.
 fn settle_one<K: Keyed, V, H: KeyHash<K>>(
     slots: &mut Slots<(K, V)>,
     ctrl: &mut Ctrl,
     hasher: &H,
     i: usize,
 )
-    requires settling { IsSettling K.class (hash_by H.hash_of K.bytes hasher.now) slots.old ctrl.old }
+    requires settling { IsSettling K.class (hash_by H.hash_of K.bytes hasher.now)
+        slots.old ctrl.old }
     requires deleted { (i < length ctrl.old) × (slice_index ctrl.old i ≡ DELETED) }
-    ensures settling { IsSettling K.class (hash_by H.hash_of K.bytes hasher.now) slots.new ctrl.new }
+    ensures settling { IsSettling K.class (hash_by H.hash_of K.bytes hasher.now)
+        slots.new ctrl.new }
     ensures entries { entries_in K.class slots.new ≡ entries_in K.class slots.old }
     ensures size { length ctrl.new ≡ length ctrl.old }
     ensures used { used_count ctrl.new ≡ used_count ctrl.old }
@@ -64,9 +66,14 @@ fn settle_one<K: Keyed, V, H: KeyHash<K>>(
         slice_index ctrl.new k ≢ DELETED }
 {
     let hash = hasher.hash(&slots.get(i).0);
-    let h2 = (hash & 0x7f) as u8;
+    let h2 = h2(hash);
+    let home = Probe::new(hash, ctrl.len() / WIDTH).group();
+    if home == i / WIDTH {
+        ctrl.set(i, h2);
+        return;
+    }
     let at = first_free(ctrl, hash);
-    if at / 16 == i / 16 {
+    if at / WIDTH == i / WIDTH {
         ctrl.set(i, h2);
         return;
     }

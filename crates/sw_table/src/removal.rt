@@ -1,16 +1,15 @@
 //! Entries that go.
-ghost use Rattle.std.specs.Prelude.{◌≡◌, ℕ, ◌/◌, ◌<◌, ◌≤◌, Some, None, length, replicate, slice_index, slice_set, IsSome};
+ghost use Rattle.std.specs.Prelude.{◌≡◌, ◌/◌, Some, None, slice_set};
 ghost use Rattle.std.specs.FinMap.{empty, remove};
 ghost use Rattle.sw_ctrl.specs.declared.control.TheConstants.{EMPTY, DELETED};
-ghost use Rattle.sw_slots.specs.Place.{place};
 ghost use Rattle.sw_table.specs.View.{View, slot_count, entry_at, fresh, IsFull};
 ghost use Rattle.sw_table.specs.Entries.{entries};
 ghost use Rattle.sw_table.specs.LaidOut.{NoEmpty};
 
+use crate::drops::{blank, empty_out};
 use crate::table::{SlotNo, Table};
-use sw_ctrl::{Ctrl, DELETED, EMPTY};
+use sw_ctrl::{DELETED, EMPTY, WIDTH};
 use sw_probe::{KeyHash, Keyed};
-use sw_slots::Slots;
 
 impl<K: Keyed, V, H: KeyHash<K>> Table<K, V, H> {
     /// Takes the entry of a full slot out. No other entry moves.
@@ -32,14 +31,15 @@ impl<K: Keyed, V, H: KeyHash<K>> Table<K, V, H> {
     {
         let i = slot.index;
         let pair = self.slots.take(i);
-        let emptied = self.ctrl.group(i / 16).match_empty().any();
+        let emptied = self.ctrl.group(i / WIDTH).match_empty().any();
         self.ctrl.set(i, if emptied { EMPTY } else { DELETED });
         self.used -= emptied as usize;
         self.len -= 1;
         pair
     }
 
-    /// Drops every entry, and keeps the capacity. All slots are empty then.
+    /// Drops every entry, and keeps the capacity. All slots are empty then. Where they are already, it
+    /// does nothing.
     pub fn clear(&mut self)
     where
         K: Drop,
@@ -47,25 +47,12 @@ impl<K: Keyed, V, H: KeyHash<K>> Table<K, V, H> {
         ensures table { self.new ≡ fresh (slot_count self.old) self.old.hasher }
         ensures entries { entries K.class self.new ≡ empty }
     {
-        clear_all(&mut self.slots, &mut self.ctrl);
+        if self.used == 0 {
+            return;
+        }
+        empty_out(&mut self.slots, &self.ctrl, self.len);
+        blank(&mut self.ctrl);
         self.len = 0;
         self.used = 0;
-    }
-}
-
-// Drops what the full slots hold, and makes each slot empty.
-fn clear_all<T: Drop>(slots: &mut Slots<T>, ctrl: &mut Ctrl)
-    requires len { length slots.old ≡ length ctrl.old }
-    requires full { (i : ℕ) → i < length ctrl.old → slice_index ctrl.old i < 128 →
-        IsSome (place slots.old i) }
-    requires vacant { (i : ℕ) → 128 ≤ slice_index ctrl.old i → place slots.old i ≡ None }
-    ensures places { slots.new ≡ replicate (length ctrl.old) None }
-    ensures bytes { ctrl.new ≡ replicate (length ctrl.old) EMPTY }
-{
-    for i in 0..ctrl.len() {
-        if ctrl.get(i) < EMPTY {
-            let _value = slots.take(i);
-        }
-        ctrl.set(i, EMPTY);
     }
 }

@@ -1,8 +1,28 @@
 //! How large a table has to be.
 ghost use Rattle.std.specs.Prelude.{◌≡◌, ℕ, ◌<◌, ◌≤◌, ◌^◌, IfSome, IfNone};
-ghost use Rattle.sw_table.specs.Sizes.{IsCapacity, room_of};
+ghost use Rattle.sw_table.specs.Sizes.{IsCapacity, room_of, load_of};
+
+use sw_ctrl::WIDTH;
 
 pub(crate) const MAX_CAPACITY: usize = 1 << 28;
+
+/// How many entries the slots take without growth, however many were removed before.
+#[inline]
+pub(crate) fn room_of(capacity: usize) -> usize
+    requires { IsCapacity capacity }
+    ensures { result ≡ room_of capacity }
+{
+    25 * capacity / 32
+}
+
+/// How many of the slots may be full or deleted.
+#[inline]
+pub(crate) fn load_of(capacity: usize) -> usize
+    requires { IsCapacity capacity }
+    ensures { result ≡ load_of capacity }
+{
+    14 * (capacity / WIDTH)
+}
 
 /// The least capacity whose room is at least `n`, if there is one.
 pub(crate) fn capacity_for(n: usize) -> Option<usize>
@@ -13,8 +33,8 @@ pub(crate) fn capacity_for(n: usize) -> Option<usize>
     if n == 0 {
         return Some(0);
     }
-    let mut capacity = 16;
-    while 25 * capacity / 32 < n {
+    let mut capacity = WIDTH;
+    while room_of(capacity) < n {
         if capacity == MAX_CAPACITY {
             return None;
         }

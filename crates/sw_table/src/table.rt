@@ -7,9 +7,10 @@ ghost use Rattle.sw_table.specs.Sizes.{room_of, IsCapacity};
 ghost use Rattle.sw_table.specs.LaidOut.{IsLaidOut, hash_by};
 ghost use Rattle.sw_table.specs.declared.refused.Why.TheVariants.{Limit};
 
+use crate::blocks::new_blocks;
 use crate::drops::empty_out;
 use crate::refused::Why;
-use crate::sizes::capacity_for;
+use crate::sizes::{capacity_for, room_of};
 use std::alloc::Global;
 use std::marker::Model;
 use sw_ctrl::Ctrl;
@@ -48,20 +49,22 @@ impl<K: Keyed, V, H: KeyHash<K>> Model for Table<K, V, H> {
 
     ghost view = { λ t. table_view t.slots t.ctrl t.hasher };
 
-    ghost invariant = { λ t. IsTable K.class (hash_by H.hash_of K.bytes t.hasher) t.slots t.ctrl t.len t.used };
+    ghost invariant = { λ t. IsTable K.class (hash_by H.hash_of K.bytes t.hasher)
+        t.slots t.ctrl t.len t.used };
 }
 
 impl<K: Keyed + Drop, V: Drop, H: KeyHash<K> + Drop> Drop for Table<K, V, H> {
     fn drop(self) {
         let Table {
-            slots,
+            mut slots,
             ctrl,
             hasher: _,
-            len: _,
+            len,
             used: _,
             alloc: _,
         } = self;
-        empty_out(slots, &ctrl).release();
+        empty_out(&mut slots, &ctrl, len);
+        slots.release();
     }
 }
 
@@ -71,13 +74,8 @@ impl<K: Keyed, V, H: KeyHash<K>> Table<K, V, H> {
         ensures table { result ≡ fresh 0 hasher }
         ensures entries { entries K.class result ≡ empty }
     {
-        let ctrl = match Ctrl::new(alloc, 0) {
-            Ok(ctrl) => ctrl,
-            Err(_) => unreachable!(),
-        };
-        let slots = match Slots::new(alloc, 0) {
-            Ok(slots) => slots,
-            Err(_) => unreachable!(),
+        let Ok((slots, ctrl)) = new_blocks(alloc, 0) else {
+            unreachable!();
         };
         Table {
             slots,
@@ -108,10 +106,7 @@ impl<K: Keyed, V, H: KeyHash<K>> Table<K, V, H> {
         let Some(capacity) = capacity_for(n) else {
             return Err(Why::Limit);
         };
-        let Ok(ctrl) = Ctrl::new(alloc, capacity) else {
-            return Err(Why::Memory);
-        };
-        let Ok(slots) = Slots::new(alloc, capacity) else {
+        let Ok((slots, ctrl)) = new_blocks(alloc, capacity) else {
             return Err(Why::Memory);
         };
         Ok(Table {
@@ -148,7 +143,13 @@ impl<K: Keyed, V, H: KeyHash<K>> Table<K, V, H> {
     pub fn room(&self) -> usize
         ensures { result ≡ room_of (slot_count self.now) }
     {
-        25 * self.ctrl.len() / 32
+        room_of(self.ctrl.len())
+    }
+
+    /// The allocator that the table was given.
+    #[inline]
+    pub fn allocator(&self) -> Global {
+        self.alloc
     }
 
     /// The control byte of slot `i`. It is below 128 where the slot is full, and then the seven low

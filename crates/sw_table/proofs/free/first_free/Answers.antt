@@ -1,7 +1,7 @@
-use Rattle.std.proofs.Common.{◌≡◌, ◌+◌, ◌*◌, ◌/◌, ◌<◌, ◌≤◌, length, map, sym, ap, ◌∙◌, arith, true, subst}
+use Rattle.std.proofs.Common.{◌≡◌, ◌+◌, ◌*◌, ◌/◌, ◌%◌, ◌<◌, ◌≤◌, length, map, sym, ap, ◌∙◌, arith, true, false, slice_index, subst}
 use Rattle.std.proofs.lemmas.Bool.{OnTrue_at}
 use Rattle.sw_probe.specs.Order.{group_number, moved}
-use Rattle.sw_table.proofs.GroupLanes.{none_empty, lowest_free, none_free, passed_upto, no_room_left, walk_ends}
+use Rattle.sw_table.proofs.GroupLanes.{none_empty, lowest_free, none_below, none_free, passed_upto, no_room_left, walk_ends}
 use Rattle.sw_table.proofs.Capacities.{groups_of}
 use Rattle.sw_ctrl.specs.Bytes.{is_free}
 use Rattle.sw_table.specs.LaidOut.{NoEmpty}
@@ -25,8 +25,16 @@ returns-in-Some-clause-first c =
     let at : c.group-at.result ≡ group_number (c.args.hash / 128) (c.len-groups.result / 16) w.index = c.group-at.ensures.group ∙ (λ j. group_number (i.start j) (i.groups j) w.index) in
     let room : 16 * c.group-at.result + 16 ≤ length bs = omega (arith, c.group-at.ensures.in_range, i.groups, c.len-groups.ensures.len) in
     let it = lowest_free bs c.group-at.result room c.match_free.result (c.match_free.ensures ∙ ap (map is_free) c.group.ensures) c.in-Some.lane (sym c.in-Some.ensures) in
+    let below = none_below bs c.group-at.result room c.match_free.result (c.match_free.ensures ∙ ap (map is_free) c.group.ensures) c.in-Some.lane (sym c.in-Some.ensures) in
     let count = c.len-groups.ensures.len in
-    (w.index, omega (arith, i.within, count), rw (← count) (let e : (16 * c.group-at.result + c.in-Some.lane) / 16 ≡ c.group-at.result = omega (arith, it.0) in e ∙ at), rw (← count) i.passed)
+    record {
+      within = omega (arith, it.0, room);
+      free = it.2;
+      group = (w.index, omega (arith, i.within, count), rw (← count) (let e : (16 * c.group-at.result + c.in-Some.lane) / 16 ≡ c.group-at.result = omega (arith, it.0) in e ∙ at), rw (← count) i.passed);
+      lane = λ k same less.
+          let is : 16 * c.group-at.result + k % 16 ≡ k = omega (arith, same, it.0) in
+          subst (λ x. is_free (slice_index bs x) ≡ false) is (below (k % 16) (omega (arith, is, less)));
+    }
 
 pub unreachable-requires : goal.unreachable-requires
 unreachable-requires c =
@@ -56,12 +64,3 @@ probe-preserved c =
       within = omega (arith, more, fits, i.groups);
       passed = λ m lt. passed_upto bs (c.args.hash / 128) (c.len-groups.result / 16) w.index c.group-at.result at i.passed here m (omega (arith, lt, more));
     }
-
-pub returns-in-Some-clause-is : goal.returns-in-Some-clause-is
-returns-in-Some-clause-is c =
-    let bs = c.args.ctrl.now in let w = c.probe.probe in let i = c.probe.invariant in
-    let at : c.group-at.result ≡ group_number (c.args.hash / 128) (c.len-groups.result / 16) w.index = c.group-at.ensures.group ∙ (λ j. group_number (i.start j) (i.groups j) w.index) in
-    let room : 16 * c.group-at.result + 16 ≤ length bs = omega (arith, c.group-at.ensures.in_range, i.groups, c.len-groups.ensures.len) in
-    let it = lowest_free bs c.group-at.result room c.match_free.result (c.match_free.ensures ∙ ap (map is_free) c.group.ensures) c.in-Some.lane (sym c.in-Some.ensures) in
-    let count = c.len-groups.ensures.len in
-    it.2

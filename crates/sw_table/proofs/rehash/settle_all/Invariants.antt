@@ -1,7 +1,7 @@
 use Rattle.std.proofs.Common.{◌≡◌, ◌≢◌, ℕ, ◌<◌, length, slice_index}
 use Rattle.sw_ctrl.specs.declared.control.TheConstants.{DELETED}
 use Rattle.sw_table.specs.Entries.{entries_in}
-use Rattle.sw_table.specs.Free.{IsSettling, deleted_count}
+use Rattle.sw_table.specs.Settling.{IsSettling, deleted_count}
 use Rattle.sw_table.specs.LaidOut.{hash_by, used_count, full_count}
 use Rattle.sw_table.proofs.rehash.settle_all.Given as goal
 

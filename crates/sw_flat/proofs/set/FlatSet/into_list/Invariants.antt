@@ -1,10 +1,10 @@
-use Rattle.std.proofs.Common.{length, drop, map, vec_len, vec_capacity, ◌<◌, ◌^◌}
-use Rattle.sw_flat.specs.Maps.{filled}
-use Rattle.sw_flat.proofs.Drained.{IsDraining}
+use Rattle.std.proofs.Common.{length, map, vec_len, vec_capacity}
+use Rattle.sw_table.specs.Walks.{IsDraining, filled}
+use Rattle.sw_flat.proofs.Drained.{IsCollecting}
 use Rattle.sw_flat.proofs.set.FlatSet.into_list.Given as goal
 
-abbrev pub invariant-slots : goal.invariant-slots
-invariant-slots g l = IsDraining l.fn.self.places l.table.places (map (λ k. (k, tt)) l.list.items) (vec_len l.list) (vec_capacity l.list) l.from × (length l.table.bytes < 2 ^ 64)
+abbrev pub invariant-entries : goal.invariant-entries
+invariant-entries g l = IsCollecting l.fn.self.places l.table.places (map (λ k. (k, tt)) l.list.items) (vec_len l.list) (vec_capacity l.list) × IsDraining l.table l.walk
 
-abbrev pub decreases-slots : goal.decreases-slots
-decreases-slots g l = length (filled (drop l.from l.table.places))
+abbrev pub decreases-entries : goal.decreases-entries
+decreases-entries g l = length (filled l.table.places)

@@ -1,8 +1,7 @@
-use Rattle.std.proofs.Common.{◌≡◌, ◌+◌, ◌*◌, ◌/◌, ◌%◌, ◌<◌, ◌≤◌, length, map, nat_eq, bit_and, is_some, None, sym, ap, subst, ◌∙◌, arith, inl, inr, true}
+use Rattle.std.proofs.Common.{◌≡◌, ◌+◌, ◌*◌, ◌/◌, ◌%◌, ◌<◌, ◌≤◌, length, map, nat_eq, is_some, None, sym, ap, subst, ◌∙◌, arith, inl, inr, true}
 use Rattle.std.proofs.lemmas.Bool.{OnTrue_at}
 use Rattle.sw_table.proofs.GroupLanes.{walk_ends}
 use Rattle.sw_table.proofs.Capacities.{groups_of}
-use Rattle.std.proofs.lemmas.Nat.{and_mask}
 use Rattle.sw_probe.specs.Order.{group_number, moved}
 use Rattle.std.specs.FinMap.{get}
 use Rattle.sw_table.specs.Entries.{entries}
@@ -21,10 +20,10 @@ new-probe-requires g c =
 
 pub find_in-requires-clause-full : goal.find_in-requires-clause-full
 find_in-requires-clause-full g c =
-    let t = c.self.inside in let y = bit_and c.args.hash 127 in
+    let t = c.self.inside in let y = c.h2-h2.result in
     filled_lane _ _ t.slots t.ctrl c.self.invariant.laid (g.Q.Names.named c.args.q.now) c.group-at.result y c.match_h2.result
     (omega (arith, c.group-at.ensures.in_range, c.probe.invariant.groups, c.len-groups.ensures.len)) (c.match_h2.ensures ∙ ap (map (λ b. nat_eq b y)) c.group-group.ensures)
-    (and_mask c.args.hash 7 ∙ ap (λ x. x % 128) (c.requires ∙ ap (λ v. hash_by g.H.KeyHash.hash_of g.K.Keyed.bytes v.hasher (g.Q.Names.named c.args.q.now)) (sym c.self.view_is)))
+    (c.h2-h2.ensures ∙ ap (λ x. x % 128) (c.requires ∙ ap (λ v. hash_by g.H.KeyHash.hash_of g.K.Keyed.bytes v.hasher (g.Q.Names.named c.args.q.now)) (sym c.self.view_is)))
 
 pub returns-in-Some-clause-found : goal.returns-in-Some-clause-found
 returns-in-Some-clause-found g c =
@@ -44,11 +43,11 @@ returns-then-groups-eq0-clause-absent g c =
 
 pub probe-preserved : goal.probe-preserved
 probe-preserved g c =
-    let t = c.self.inside in let y = bit_and c.args.hash 127 in let w = c.probe.probe in let i = c.probe.invariant in
+    let t = c.self.inside in let y = c.h2-h2.result in let w = c.probe.probe in let i = c.probe.invariant in
     let at : c.group-at.result ≡ group_number (c.args.hash / 128) (c.len-groups.result / 16) w.index = c.group-at.ensures.group ∙ (λ j. group_number (i.start j) (i.groups j) w.index) in
     let here = tested_at _ _ t.slots t.ctrl c.self.invariant.laid (g.Q.Names.named c.args.q.now) c.group-at.result y c.match_h2.result
     (omega (arith, c.group-at.ensures.in_range, i.groups, c.len-groups.ensures.len)) (c.match_h2.ensures ∙ ap (map (λ b. nat_eq b y)) c.group-group.ensures)
-    (and_mask c.args.hash 7 ∙ ap (λ x. x % 128) (c.requires ∙ ap (λ v. hash_by g.H.KeyHash.hash_of g.K.Keyed.bytes v.hasher (g.Q.Names.named c.args.q.now)) (sym c.self.view_is))) c.in_default.ensures.absent in
+    (c.h2-h2.ensures ∙ ap (λ x. x % 128) (c.requires ∙ ap (λ v. hash_by g.H.KeyHash.hash_of g.K.Keyed.bytes v.hasher (g.Q.Names.named c.args.q.now)) (sym c.self.view_is))) c.in_default.ensures.absent in
     let goes : c.advance.result ≡ true = c.if-not-advance.false in
     let next : c.advance.new.self ≡ moved w = OnTrue_at goes c.advance.ensures.moves in
     let more : c.advance.new.self.index ≡ w.index + 1 = ap (λ v. v.index) next in
@@ -62,12 +61,12 @@ probe-preserved g c =
 
 pub returns-then-any-clause-absent : goal.returns-then-any-clause-absent
 returns-then-any-clause-absent g c =
-    let t = c.self.inside in let y = bit_and c.args.hash 127 in let w = c.probe.probe in let i = c.probe.invariant in
+    let t = c.self.inside in let y = c.h2-h2.result in let w = c.probe.probe in let i = c.probe.invariant in
     let room : 16 * c.group-at.result + 16 ≤ length t.ctrl = omega (arith, c.group-at.ensures.in_range, i.groups, c.len-groups.ensures.len) in
     let at : c.group-at.result ≡ group_number (c.args.hash / 128) (c.len-groups.result / 16) w.index = c.group-at.ensures.group ∙ (λ j. group_number (i.start j) (i.groups j) w.index) in
     let here = tested_at _ _ t.slots t.ctrl c.self.invariant.laid (g.Q.Names.named c.args.q.now) c.group-at.result y c.match_h2.result
     room (c.match_h2.ensures ∙ ap (map (λ b. nat_eq b y)) c.group-group.ensures)
-    (and_mask c.args.hash 7 ∙ ap (λ x. x % 128) (c.requires ∙ ap (λ v. hash_by g.H.KeyHash.hash_of g.K.Keyed.bytes v.hasher (g.Q.Names.named c.args.q.now)) (sym c.self.view_is))) c.in_default.ensures.absent in
+    (c.h2-h2.ensures ∙ ap (λ x. x % 128) (c.requires ∙ ap (λ v. hash_by g.H.KeyHash.hash_of g.K.Keyed.bytes v.hasher (g.Q.Names.named c.args.q.now)) (sym c.self.view_is))) c.in_default.ensures.absent in
     let upto = tested_upto _ _ t.slots t.ctrl c.self.invariant.laid (g.Q.Names.named c.args.q.now) (c.args.hash / 128) (c.len-groups.result / 16) w.index c.group-at.result at i.tested here in
     let hashed : c.args.hash ≡ hash_by g.H.KeyHash.hash_of g.K.Keyed.bytes c.self.inside.hasher (g.Q.Names.named c.args.q.now) = c.requires ∙ ap (λ v. hash_by g.H.KeyHash.hash_of g.K.Keyed.bytes v.hasher (g.Q.Names.named c.args.q.now)) (sym c.self.view_is) in let count = c.len-groups.ensures.len in
     subst (λ v. get (entries g.K.Keyed.class v) (g.Q.Names.named c.args.q.now) ≡ None) c.self.view_is

@@ -2,13 +2,12 @@ use Rattle.std.proofs.Common.{◌+◌, ◌*◌, ◌<◌, ◌≤◌, length, map,
 use native.Mathlib.Decide.{dec_lt}
 use Rattle.sw_ctrl.specs.Bytes.{is_full}
 use Rattle.sw_table.specs.View.{slot_count, entry_at, IsFull}
-use Rattle.sw_table.proofs.FullLanes.{full_lanes, set_holds, vacant_between}
+use Rattle.sw_table.proofs.FullLanes.{set_holds, vacant_between}
 use Rattle.sw_table.proofs.table.Table.next_full.Goals as goal
 
 pub lowest_from-requires : goal.lowest_from-requires
 lowest_from-requires g c =
-    let i = c.loop-at.invariant in let bs = c.self.inside.ctrl in let at = c.loop-at.at in
-    (i.lane, full_lanes bs at (omega (arith, c.loop-at-test.true, c.len-groups.ensures.len)) c.match_full.result (c.match_full.ensures ∙ ap (map is_full) c.group.ensures))
+    c.loop-at.invariant.lane
 
 pub returns-in-Some-clause-full : goal.returns-in-Some-clause-full
 returns-in-Some-clause-full g c =

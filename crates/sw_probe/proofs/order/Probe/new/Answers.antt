@@ -1,9 +1,0 @@
-use Rattle.std.proofs.Common.{◌/◌, ◌∙◌}
-use Rattle.sw_probe.proofs.Once.{group_number-first}
-use Rattle.sw_probe.proofs.Powers.{masked, count-pos}
-use Rattle.sw_probe.proofs.order.Probe.new.Goals as goal
-
-pub invariant_of-result : goal.invariant_of-result
-invariant_of-result c =
-    let g = c.args.groups in let h = c.args.hash / 128 in
-    record { power = c.requires; standing = count-pos g c.requires; here = masked h g c.requires ∙ group_number-first h g }

@@ -1,0 +1,74 @@
+//! The order in which the groups of a table are tried.
+ghost use Rattle.std.specs.Prelude.{◌≡◌, ◌↔◌, ◌+◌, ◌/◌, ◌<◌, IsTrue};
+ghost use Rattle.std.specs.Bool.{OnTrue, OnFalse};
+ghost use Rattle.sw_probe.specs.Order.{IsGroupCount, Walk, group_of, h1_of, moved};
+
+use crate::hash_parts::h1;
+use std::marker::Model;
+
+/// A walk over the groups of a table, from the one where a hash begins.
+///
+/// Contracts see it as where it started, the number of groups, and which step it stands at.
+#[derive(Drop)]
+pub struct Probe {
+    // Where the walk began. No code reads it: it is what contracts count the steps from.
+    start: u64,
+    groups: usize,
+    index: usize,
+    group: usize,
+}
+
+impl Model for Probe {
+    ghost use Rattle.sw_probe.specs.Order.{Walk};
+
+    ghost Value = { Walk };
+
+    ghost use Rattle.sw_probe.specs.Inside.{walk_of, IsWalk};
+
+    ghost view = { walk_of };
+
+    ghost invariant = { IsWalk };
+}
+
+impl Probe {
+    /// The walk of a key with this hash, at its first group. The number of groups is a power of
+    /// two, at most 2^24.
+    #[inline]
+    pub fn new(hash: u64, groups: usize) -> Probe
+        requires { IsGroupCount groups }
+        ensures { result ≡ record { start = h1_of hash; groups = groups; index = 0 } }
+    {
+        let start = h1(hash);
+        Probe {
+            start,
+            groups,
+            index: 0,
+            group: start as usize & (groups - 1),
+        }
+    }
+
+    /// The group where the walk stands.
+    #[inline]
+    pub fn group(&self) -> usize
+        ensures group { result ≡ group_of self.now }
+        ensures in_range { result < self.now.groups }
+    {
+        self.group
+    }
+
+    /// Goes on to the next group. `false` where the walk has come to all of them: it then stays
+    /// where it was, at its last group.
+    #[inline]
+    pub fn advance(&mut self) -> bool
+        ensures more { IsTrue result ↔ (self.old.index + 1 < self.old.groups) }
+        ensures moves { OnTrue result (self.new ≡ moved self.old) }
+        ensures stays { OnFalse result (self.new ≡ self.old) }
+    {
+        if self.index + 1 == self.groups {
+            return false;
+        }
+        self.index += 1;
+        self.group = (self.group + self.index) & (self.groups - 1);
+        true
+    }
+}
