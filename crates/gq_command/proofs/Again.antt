@@ -2,11 +2,11 @@
 use Rattle.std.proofs.Common.{◌≡◌, ℕ, zero, suc, ◌≤◌, ◌<◌, Bool, true, false, List, [], ◌∷◌, ◌++◌, Option, Some, None, length, refl, sym, ap, ◌∙◌, append_assoc, arith, length-append}
 use Rattle.std.proofs.lemmas.List.{append-nil}
 use Rattle.std.specs.Prelude.{◌&&◌}
-use Rattle.gq_command.specs.declared.token.Terminal.{Terminal}
-use Rattle.gq_command.specs.declared.token.Terminal.TheVariants as terminal
+use Rattle.gq_token.specs.declared.token.Terminal.{Terminal}
+use Rattle.gq_token.specs.declared.token.Terminal.TheVariants as terminal
 use Rattle.gq_row.specs.declared.schema.Kind.TheVariants as kind
-use Rattle.gq_command.specs.declared.token.Token.{Token}
-use Rattle.gq_command.specs.declared.token.Token.TheVariants.{Fixed, Name}
+use Rattle.gq_token.specs.declared.token.Token.{Token}
+use Rattle.gq_token.specs.declared.token.Token.TheVariants.{Fixed, Name}
 use Rattle.gq_command.specs.Commands.{Bytes, counts_alone, separated, parenthesized, name_words, names_words, column_words, literal_words, key_words, phrase, some, grammatical, keeps_rules, SaysTokens}
 use Rattle.gq_command.specs.declared.command.Command.{Command}
 use Rattle.gq_command.specs.declared.command.Command.TheVariants.{Create, Drop, Load, Upsert, Delete, Show, Group, Distinct}
@@ -17,7 +17,8 @@ use Rattle.gq_command.specs.declared.command.Exists.{Exists}
 use Rattle.gq_row.specs.declared.value.Value.{Value}
 use Rattle.gq_row.specs.declared.value.Value.TheVariants as value
 use Rattle.gq_row.specs.declared.schema.Column.{Column}
-use Rattle.gq_command.specs.Reading.{skip, name_at, literal_at, kind_at, column_at, items_within, items_at, names_at, literals_at, column_comma, columns_at, in_parentheses, key_at, ended, create_at, upsert_at, group_at, form_at, command_of}
+use Rattle.gq_token.specs.Queue.{skip, column_comma}
+use Rattle.gq_command.specs.Reading.{name_at, literal_at, kind_at, column_at, items_within, items_at, names_at, literals_at, columns_at, in_parentheses, key_at, ended, create_at, upsert_at, group_at, form_at, command_of}
 
 -- an item that is written is read, whatever follows it
 abbrev pub Again : {A : Type 0} → (List Token → Option (A × List Token)) → (A → List Token) → Type 0

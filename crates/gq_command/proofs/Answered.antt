@@ -4,20 +4,21 @@ use Rattle.std.proofs.lemmas.Bool.{ltb-false, ltb-true}
 use Rattle.std.specs.Prelude.{Err, IsErrOf}
 use Rattle.gq_row.specs.declared.limits.Bounds.{Bounds}
 use Rattle.gq_command.specs.declared.command.Command.{Command}
-use Rattle.gq_command.specs.declared.gather.Opening.{Opening}
-use Rattle.gq_command.specs.declared.gather.Opening.TheVariants as opening
-use Rattle.gq_command.specs.declared.gather.OpenLine.{OpenLine}
+use Rattle.gq_script.specs.declared.gather.Opening.{Opening}
+use Rattle.gq_script.specs.declared.gather.Opening.TheVariants as opening
+use Rattle.gq_script.specs.declared.gather.OpenLine.{OpenLine}
 use Rattle.gq_command.specs.declared.lines.LineRefusal.{LineRefusal}
 use Rattle.gq_command.specs.declared.lines.LineRefusal.TheVariants as refusal
 use Rattle.gq_command.specs.declared.reader.Item.TheVariants as item
 use Rattle.gq_command.specs.Commands.{Bytes, fits}
-use Rattle.gq_command.specs.Gathering.{Gathers, is_skippable, opening_of}
+use Rattle.gq_script.specs.Gathering.{Gathers, is_skippable, opening_of}
 use Rattle.gq_command.specs.Items.{IsReadAs}
-use Rattle.gq_command.specs.Lexing.{skip_blanks}
+use Rattle.gq_token.specs.Lexing.{skip_blanks}
 use Rattle.gq_command.specs.Lines.{Says}
-use Rattle.gq_command.specs.Script.{Plain, is_skipped}
-use Rattle.gq_command.proofs.Gathered.{kept_blank, dash_line, opening_tells}
-use Rattle.gq_command.proofs.Trimmed.{says_trimmed, says_whole, trimmed_shorter, dash_says_none}
+use Rattle.gq_script.specs.Script.{Plain, is_skipped}
+use Rattle.gq_script.proofs.Gathered.{kept_blank, dash_line, opening_tells}
+use Rattle.gq_token.proofs.Trimmed.{trimmed_shorter}
+use Rattle.gq_command.proofs.Trimmed.{says_trimmed, says_whole, dash_says_none}
 
 short : (most : ℕ) (line : OpenLine) (text : Bytes) → Gathers most line text → line.too_long ≡ false → length text ≤ most
 short most line text h e = ltb-false most (length text) (sym h.too_long ∙ e)

@@ -2,11 +2,12 @@
 use Rattle.std.proofs.Common.{◌≡◌, List, Option, Some, None, refl, sym, ◌∙◌, Bool, true, false, IsUtf8}
 use Rattle.std.specs.Str.{is_utf8}
 use Rattle.std.proofs.lemmas.Str.{IsUtf8-from_is_utf8}
-use Rattle.gq_command.specs.declared.token.Token.{Token}
+use Rattle.gq_token.specs.declared.token.Token.{Token}
 use Rattle.gq_command.specs.Commands.{Bytes, SaysTokens, is_command}
 use Rattle.gq_command.specs.declared.command.Command.{Command}
-use Rattle.gq_command.specs.Reading.{◌>>=◌, command_of}
-use Rattle.gq_command.specs.Lexing.{tokens}
+use Rattle.gq_token.specs.Results.{◌>>=◌}
+use Rattle.gq_command.specs.Reading.{command_of}
+use Rattle.gq_token.specs.Lexing.{tokens}
 use Rattle.gq_command.specs.Lines.{Says, command_on}
 use Rattle.gq_command.proofs.Sound.{command_sound}
 use Rattle.gq_command.proofs.Again.{command_again}

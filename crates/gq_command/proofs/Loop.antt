@@ -1,9 +1,10 @@
 -- Items one after the other, as a loop reads them.
 use Rattle.std.proofs.Common.{◌≡◌, ℕ, suc, ◌-◌, ◌+◌, ◌≤◌, ◌<◌, List, [], ◌∷◌, ◌++◌, Option, Some, None, refl, sym, ap, ◌∙◌, append_assoc, arith}
-use Rattle.gq_command.specs.declared.parsing.Fault.{Fault}
-use Rattle.gq_command.specs.declared.parsing.Fault.TheVariants as fault
-use Rattle.gq_command.specs.declared.token.Token.{Token}
-use Rattle.gq_command.specs.Reading.{◌>>=◌, Fails, items_within}
+use Rattle.gq_token.specs.declared.parse_error.ParseError.{ParseError}
+use Rattle.gq_token.specs.declared.parse_error.ParseError.TheVariants as error
+use Rattle.gq_token.specs.declared.token.Token.{Token}
+use Rattle.gq_token.specs.Results.{◌>>=◌, Fails}
+use Rattle.gq_command.specs.Reading.{items_within}
 
 -- what was read before, and what is still read
 abbrev pub with_front : {A : Type 0} → List A → Option (List A × List Token) → Option (List A × List Token)
@@ -33,11 +34,11 @@ module _ {A : Type 0} (item : List Token → Option (A × List Token)) (next : L
       sym so_far ∙ one
 
   -- no item
-  pub fails : (e : Fault) (front : List A) (count i : ℕ) (ts : List Token) (total : Option (List A × List Token)) → i < count → Fails e (item ts)
+  pub fails : (e : ParseError) (front : List A) (count i : ℕ) (ts : List Token) (total : Option (List A × List Token)) → i < count → Fails e (item ts)
       → with_front front (items_within item next (count - i) ts) ≡ total → Fails e total
   unfolding items_within
-  fails fault.Memory front count i ts total lt h so_far = tt
-  fails fault.Syntax front count i ts total lt h so_far =
+  fails error.Memory front count i ts total lt h so_far = tt
+  fails error.Syntax front count i ts total lt h so_far =
       let k : count - i ≡ suc (count - (i + 1)) = omega arith in
       let one : with_front front (items_within item next (count - i) ts) ≡ None = rw (k, h) refl in
       sym so_far ∙ one

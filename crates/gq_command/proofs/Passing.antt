@@ -2,16 +2,17 @@
 use Rattle.std.proofs.Common.{◌≡◌, ℕ, ◌+◌, Bool, true, false, cond, List, [], ◌∷◌, ◌++◌, length, Option, Some, None, refl, sym, ap, subst, ◌∙◌, arith, length-append, append_assoc}
 use Rattle.std.specs.Prelude.{IfSome}
 use Rattle.std.proofs.lemmas.List.{append-nil}
-use Rattle.std.specs.Str.{bytes_eq}
 use Rattle.std.specs.Io.KnownBytes.{Consumes, IsAtEnd}
 use Rattle.gq_row.specs.declared.limits.Bounds.{Bounds}
 use Rattle.gq_command.specs.declared.reader.Item.{Item}
-use Rattle.gq_command.specs.declared.gather.OpenLine.{OpenLine}
+use Rattle.gq_script.specs.declared.gather.OpenLine.{OpenLine}
 use Rattle.gq_command.specs.Commands.{Bytes}
-use Rattle.gq_command.specs.Script.{Stream, Takes, raw_lines, content, is_skipped, first_entry, Passed, Counts, Plain, Entry, Loading, first_entry_by, entries_by, InOrder, payload_of, items_left, takes_payload}
-use Rattle.gq_command.specs.Gathering.{TookLine}
+use Rattle.gq_script.specs.Script.{Stream, Takes, raw_lines, content, is_skipped, first_entry, Passed, Counts, Plain, Entry, Loading, first_entry_by, entries_by, InOrder, payload_of, is_end_mark, items_left, takes_payload}
+use Rattle.gq_script.specs.declared.payload.Kept.{Kept}
+use Rattle.gq_script.specs.Gathering.{TookLine}
+use Rattle.gq_script.specs.Payloads.{IsPayloadOf, KeptTold, TookPayload}
 use Rattle.gq_command.specs.Items.{Gave, IsReadAs}
-use Rattle.gq_command.proofs.Front.{Known}
+use Rattle.gq_script.proofs.Front.{Known, Rises}
 
 some_is : {A : Type 0} (x y : A) → Some x ≡ Some y → x ≡ y
 some_is x y e = cc
@@ -27,13 +28,13 @@ Closed loads line begun es o = elim o [ None ↦ es ≡ Loading line None ∷ []
 closed : (loads : Bytes → Bool) (line begun : Bytes) (ls : List Bytes) → Closed loads line begun (entries_by loads (Some (line, begun)) ls) (payload_of ls)
 unfolding entries_by
 closed loads line begun [] = refl
-closed loads line begun (l ∷ ls) = by_mark (bytes_eq (content l) (92 ∷ 46 ∷ [])) refl (closed loads line (begun ++ l) ls)
+closed loads line begun (l ∷ ls) = by_mark (is_end_mark (content l)) refl (closed loads line (begun ++ l) ls)
   where
     by_rest : (o : Option (Bytes × List Bytes)) (es : List Entry) → Closed loads line (begun ++ l) es o → Closed loads line begun es (elim o [ None ↦ None | Some x ↦ Some (l ++ x.0, x.1) ])
     by_rest None es h = h
     by_rest (Some x) es h = h ∙ ap (λ (p : Bytes). Loading line (Some p) ∷ entries_by loads None x.1) (append_assoc begun l x.0)
 
-    by_mark : (b : Bool) → bytes_eq (content l) (92 ∷ 46 ∷ []) ≡ b → Closed loads line (begun ++ l) (entries_by loads (Some (line, begun ++ l)) ls) (payload_of ls)
+    by_mark : (b : Bool) → is_end_mark (content l) ≡ b → Closed loads line (begun ++ l) (entries_by loads (Some (line, begun ++ l)) ls) (payload_of ls)
         → Closed loads line begun (entries_by loads (Some (line, begun)) (l ∷ ls)) (payload_of (l ∷ ls))
     by_mark true e next =
         let es : entries_by loads (Some (line, begun)) (l ∷ ls) ≡ Loading line (Some begun) ∷ entries_by loads None ls = ap (λ (b : Bool). cond b (Loading line (Some begun) ∷ entries_by loads None ls) (entries_by loads (Some (line, begun ++ l)) ls)) e in
@@ -83,11 +84,17 @@ next_left bounds ls e rest h = subst (Next (takes_payload bounds) (entries_by (t
 
 -- the loop that passes blank lines and comments
 
-first_skipped : (bounds : Bounds) (raw : Bytes) (ls : List Bytes) → is_skipped (content raw) ≡ true → first_entry bounds (raw ∷ ls) ≡ first_entry bounds ls
-first_skipped bounds raw ls e = ap (λ (b : Bool). cond b (first_entry bounds ls) (Some (Plain (content raw), ls))) e
+abbrev with_told : Bytes → Option (Bytes × List Bytes) → Option (Entry × List Bytes)
+with_told line o = elim o [ None ↦ Some (Loading line None, []) | Some x ↦ Some (Loading line (Some x.0), x.1) ]
 
-first_plain : (bounds : Bounds) (raw : Bytes) (ls : List Bytes) → is_skipped (content raw) ≡ false → first_entry bounds (raw ∷ ls) ≡ Some (Plain (content raw), ls)
-first_plain bounds raw ls e = ap (λ (b : Bool). cond b (first_entry bounds ls) (Some (Plain (content raw), ls))) e
+first_skipped : (bounds : Bounds) (raw : Bytes) (ls : List Bytes) → is_skipped (content raw) ≡ true → first_entry bounds (raw ∷ ls) ≡ first_entry bounds ls
+first_skipped bounds raw ls e = ap (λ (b : Bool). cond b (first_entry bounds ls) (cond (takes_payload bounds (content raw)) (with_told (content raw) (payload_of ls)) (Some (Plain (content raw), ls)))) e
+
+-- the first entry of a line that isn't skipped, by whether it takes a payload
+first_of : (bounds : Bounds) (raw : Bytes) (ls : List Bytes) (t : Bool) → is_skipped (content raw) ≡ false → takes_payload bounds (content raw) ≡ t → first_entry bounds (raw ∷ ls) ≡ cond t (with_told (content raw) (payload_of ls)) (Some (Plain (content raw), ls))
+first_of bounds raw ls t e f =
+    ap (λ (a : Bool). cond a (first_entry bounds ls) (cond (takes_payload bounds (content raw)) (with_told (content raw) (payload_of ls)) (Some (Plain (content raw), ls)))) e
+    ∙ ap (λ (a : Bool). cond a (with_told (content raw) (payload_of ls)) (Some (Plain (content raw), ls))) f
 
 abbrev pub PassedBy : Bounds → Known → Known → ℕ → ℕ → Type 0
 PassedBy bounds k m g0 g1 = IfSome k (λ xs. (ys : Bytes) × (m ≡ Some ys) × (first_entry bounds (raw_lines xs) ≡ first_entry bounds (raw_lines ys)) × (g1 + length ys ≡ g0 + length xs))
@@ -99,7 +106,7 @@ by_none bounds (Some xs) g = (xs, refl, refl, refl)
 pub passed_none : (bounds : Bounds) (s : Stream) → Passed bounds s s
 passed_none bounds s = by_none bounds s.left s.given
 
-by_line : (bounds : Bounds) (k m n : Known) (g0 g1 g2 : ℕ) (raw : Bytes) → PassedBy bounds k m g0 g1 → Consumes m n raw → g2 ≡ g1 + length raw → IfSome m (λ xs. IfSome n (λ ys. raw_lines xs ≡ raw ∷ raw_lines ys)) → is_skipped (content raw) ≡ true
+by_line : (bounds : Bounds) (k m n : Known) (g0 g1 g2 : ℕ) (raw : Bytes) → PassedBy bounds k m g0 g1 → Consumes m n raw → Rises m g1 g2 (length raw) → IfSome m (λ xs. IfSome n (λ ys. raw_lines xs ≡ raw ∷ raw_lines ys)) → is_skipped (content raw) ≡ true
     → PassedBy bounds k n g0 g2
 by_line bounds None m n g0 g1 g2 raw h c g f e = tt
 by_line bounds (Some xs) None n g0 g1 g2 raw h c g f e = let q = h.1 in absurd cc
@@ -114,7 +121,7 @@ by_line bounds (Some xs) (Some zs) (Some ws) g0 g1 g2 raw h c g f e =
 pub passed_line : (bounds : Bounds) (a b c : Stream) (line : OpenLine) (t : TookLine bounds b c line) → Passed bounds a b → is_skipped (content t.raw) ≡ true → Passed bounds a c
 passed_line bounds a b c line t h e = by_line bounds a.left b.left c.left a.given b.given c.given t.raw h t.taken.bytes_are t.taken.counted t.first e
 
-by_end : (bounds : Bounds) (k m n : Known) (g0 g1 g2 : ℕ) → PassedBy bounds k m g0 g1 → Consumes m n [] → IsAtEnd m → g2 ≡ g1 + 0 → IfSome k (λ xs. (items_left bounds xs ≡ []) × (n ≡ Some [])) × IfSome k (λ xs. IfSome n (λ ys. g2 + length ys ≡ g0 + length xs))
+by_end : (bounds : Bounds) (k m n : Known) (g0 g1 g2 : ℕ) → PassedBy bounds k m g0 g1 → Consumes m n [] → IsAtEnd m → Rises m g1 g2 0 → IfSome k (λ xs. (items_left bounds xs ≡ []) × (n ≡ Some [])) × IfSome k (λ xs. IfSome n (λ ys. g2 + length ys ≡ g0 + length xs))
 by_end bounds None m n g0 g1 g2 h c e g = (tt, tt)
 by_end bounds (Some xs) None n g0 g1 g2 h c e g = let q = h.1 in absurd cc
 by_end bounds (Some xs) (Some zs) None g0 g1 g2 h c e g = absurd c
@@ -129,17 +136,17 @@ by_end bounds (Some xs) (Some zs) (Some ws) g0 g1 g2 h c e g =
 pub passed_all : (bounds : Bounds) (a b c : Stream) → Passed bounds a b → Takes b c [] → IsAtEnd b.left → IfSome a.left (λ xs. (items_left bounds xs ≡ []) × (c.left ≡ Some [])) × Counts a c
 passed_all bounds a b c h t e = by_end bounds a.left b.left c.left a.given b.given c.given h t.bytes_are e t.counted
 
-by_item : (bounds : Bounds) (k m n : Known) (g0 g1 g2 : ℕ) (raw : Bytes) (it : Item) → PassedBy bounds k m g0 g1 → Consumes m n raw → g2 ≡ g1 + length raw → IfSome m (λ xs. IfSome n (λ ys. raw_lines xs ≡ raw ∷ raw_lines ys)) → is_skipped (content raw) ≡ false
+by_item : (bounds : Bounds) (k m n : Known) (g0 g1 g2 : ℕ) (raw : Bytes) (it : Item) → PassedBy bounds k m g0 g1 → Consumes m n raw → Rises m g1 g2 (length raw) → IfSome m (λ xs. IfSome n (λ ys. raw_lines xs ≡ raw ∷ raw_lines ys)) → is_skipped (content raw) ≡ false → takes_payload bounds (content raw) ≡ false
     → IsReadAs bounds (Plain (content raw)) it → IfSome k (λ xs. Gave bounds xs n it) × IfSome k (λ xs. IfSome n (λ ys. g2 + length ys ≡ g0 + length xs))
-by_item bounds None m n g0 g1 g2 raw it h c g f e i = (tt, tt)
-by_item bounds (Some xs) None n g0 g1 g2 raw it h c g f e i = let q = h.1 in absurd cc
-by_item bounds (Some xs) (Some zs) None g0 g1 g2 raw it h c g f e i = absurd c
-by_item bounds (Some xs) (Some zs) (Some ws) g0 g1 g2 raw it h c g f e i =
+by_item bounds None m n g0 g1 g2 raw it h c g f e q i = (tt, tt)
+by_item bounds (Some xs) None n g0 g1 g2 raw it h c g f e q i = let none = h.1 in absurd cc
+by_item bounds (Some xs) (Some zs) None g0 g1 g2 raw it h c g f e q i = absurd c
+by_item bounds (Some xs) (Some zs) (Some ws) g0 g1 g2 raw it h c g f e q i =
     let same : zs ≡ h.0 = some_is zs h.0 h.1 in
     let len : length zs ≡ length raw + length ws = ap length c ∙ length-append raw ws in
     let len1 : length zs ≡ length h.0 = ap length same in
     let len2 : g1 + length h.0 ≡ g0 + length xs = h.3 in
-    let told : first_entry bounds (raw_lines xs) ≡ Some (Plain (content raw), raw_lines ws) = h.2 ∙ ap (λ (y : Bytes). first_entry bounds (raw_lines y)) (sym same) ∙ ap (first_entry bounds) f ∙ first_plain bounds raw (raw_lines ws) e in (
+    let told : first_entry bounds (raw_lines xs) ≡ Some (Plain (content raw), raw_lines ws) = h.2 ∙ ap (λ (y : Bytes). first_entry bounds (raw_lines y)) (sym same) ∙ ap (first_entry bounds) f ∙ first_of bounds raw (raw_lines ws) false e q in (
       record {
         entry = Plain (content raw);
         rest = ws;
@@ -151,5 +158,57 @@ by_item bounds (Some xs) (Some zs) (Some ws) g0 g1 g2 raw it h c g f e i =
       omega arith,
     )
 
-pub passed_to : (bounds : Bounds) (a b c : Stream) (line : OpenLine) (t : TookLine bounds b c line) (it : Item) → Passed bounds a b → is_skipped (content t.raw) ≡ false → IsReadAs bounds (Plain (content t.raw)) it → IfSome a.left (λ xs. Gave bounds xs c.left it) × Counts a c
-passed_to bounds a b c line t it h e i = by_item bounds a.left b.left c.left a.given b.given c.given t.raw it h t.taken.bytes_are t.taken.counted t.first e i
+pub passed_to : (bounds : Bounds) (a b c : Stream) (line : OpenLine) (t : TookLine bounds b c line) (it : Item) → Passed bounds a b → is_skipped (content t.raw) ≡ false → takes_payload bounds (content t.raw) ≡ false → IsReadAs bounds (Plain (content t.raw)) it → IfSome a.left (λ xs. Gave bounds xs c.left it) × Counts a c
+passed_to bounds a b c line t it h e q i = by_item bounds a.left b.left c.left a.given b.given c.given t.raw it h t.taken.bytes_are t.taken.counted t.first e q i
+
+-- a line with its payload
+
+gave_told : (bounds : Bounds) (xs : Bytes) (line : Bytes) (o : Option (Bytes × List Bytes)) (left : Known) (p : Option Kept) (it : Item) → first_entry bounds (raw_lines xs) ≡ with_told line o → IsPayloadOf bounds.payload o left p
+    → ((told : Option Bytes) → KeptTold bounds.payload told p → IsReadAs bounds (Loading line told) it) → Gave bounds xs left it
+gave_told bounds xs line None left p it e is reads = record {
+  entry = Loading line None;
+  rest = [];
+  first = e;
+  left_is = is.1;
+  order = next_left bounds (raw_lines xs) (Loading line None) [] e;
+  reads = reads None is.0;
+}
+gave_told bounds xs line (Some x) left p it e is reads =
+    let first : first_entry bounds (raw_lines xs) ≡ Some (Loading line (Some x.0), raw_lines is.0) = e ∙ ap (λ (ls : List Bytes). Some (Loading line (Some x.0), ls)) is.2 in
+    record {
+      entry = Loading line (Some x.0);
+      rest = is.0;
+      first = first;
+      left_is = is.1;
+      order = next_left bounds (raw_lines xs) (Loading line (Some x.0)) (raw_lines is.0) first;
+      reads = reads (Some x.0) is.3;
+    }
+
+by_load : (bounds : Bounds) (k m n o : Known) (g0 g1 g2 g3 : ℕ) (raw : Bytes) (p : Option Kept) (it : Item) → PassedBy bounds k m g0 g1 → Consumes m n raw → Rises m g1 g2 (length raw) → IfSome m (λ xs. IfSome n (λ ys. raw_lines xs ≡ raw ∷ raw_lines ys)) → is_skipped (content raw) ≡ false → takes_payload bounds (content raw) ≡ true
+    → IfSome n (λ xs. IsPayloadOf bounds.payload (payload_of (raw_lines xs)) o p) → IfSome n (λ xs. IfSome o (λ ys. g3 + length ys ≡ g2 + length xs)) → ((told : Option Bytes) → KeptTold bounds.payload told p → IsReadAs bounds (Loading (content raw) told) it)
+    → IfSome k (λ xs. Gave bounds xs o it) × IfSome k (λ xs. IfSome o (λ ys. g3 + length ys ≡ g0 + length xs))
+by_load bounds None m n o g0 g1 g2 g3 raw p it h c g f e q is d reads = (tt, tt)
+by_load bounds (Some xs) None n o g0 g1 g2 g3 raw p it h c g f e q is d reads = let none = h.1 in absurd cc
+by_load bounds (Some xs) (Some zs) None o g0 g1 g2 g3 raw p it h c g f e q is d reads = absurd c
+by_load bounds (Some xs) (Some zs) (Some ws) o g0 g1 g2 g3 raw p it h c g f e q is d reads =
+    let same : zs ≡ h.0 = some_is zs h.0 h.1 in
+    let len : length zs ≡ length raw + length ws = ap length c ∙ length-append raw ws in
+    let len1 : length zs ≡ length h.0 = ap length same in
+    let len2 : g1 + length h.0 ≡ g0 + length xs = h.3 in
+    let first : first_entry bounds (raw_lines xs) ≡ with_told (content raw) (payload_of (raw_lines ws)) =
+    h.2 ∙ ap (λ (y : Bytes). first_entry bounds (raw_lines y)) (sym same) ∙ ap (first_entry bounds) f ∙ first_of bounds raw (raw_lines ws) true e q in
+    (gave_told bounds xs (content raw) (payload_of (raw_lines ws)) o p it first is reads, by_left o d)
+  where
+    by_left : (o : Known) → IfSome o (λ ys. g3 + length ys ≡ g2 + length ws) → IfSome o (λ ys. g3 + length ys ≡ g0 + length xs)
+    by_left None d = tt
+    by_left (Some ys) d =
+        let same : zs ≡ h.0 = some_is zs h.0 h.1 in
+        let len : length zs ≡ length raw + length ws = ap length c ∙ length-append raw ws in
+        let len1 : length zs ≡ length h.0 = ap length same in
+        let len2 : g1 + length h.0 ≡ g0 + length xs = h.3 in
+        omega arith
+
+pub passed_load : (bounds : Bounds) (a b c d : Stream) (line : OpenLine) (t : TookLine bounds b c line) (p : Option Kept) (it : Item) → Passed bounds a b → is_skipped (content t.raw) ≡ false → takes_payload bounds (content t.raw) ≡ true → TookPayload bounds.payload c d p
+    → ((told : Option Bytes) → KeptTold bounds.payload told p → IsReadAs bounds (Loading (content t.raw) told) it) → IfSome a.left (λ xs. Gave bounds xs d.left it) × Counts a d
+passed_load bounds a b c d line t p it h e q k reads =
+    by_load bounds a.left b.left c.left d.left a.given b.given c.given d.given t.raw p it h t.taken.bytes_are t.taken.counted t.first e q k.is k.counted reads

@@ -3,13 +3,13 @@ use Rattle.std.proofs.Common.{◌≡◌, ℕ, zero, suc, Bool, true, false, cond
 use Rattle.std.specs.Prelude.{if◌then◌else◌, ◌&&◌}
 use Rattle.std.proofs.lemmas.List.{append-nil}
 use Rattle.std.proofs.lemmas.Bool.{eqb-true}
-use Rattle.gq_command.specs.declared.token.Terminal.{Terminal}
-use Rattle.gq_command.specs.declared.token.Terminal.TheVariants as terminal
+use Rattle.gq_token.specs.declared.token.Terminal.{Terminal}
+use Rattle.gq_token.specs.declared.token.Terminal.TheVariants as terminal
 use Rattle.gq_row.specs.declared.schema.Kind.{Kind}
 use Rattle.gq_row.specs.declared.schema.Kind.TheVariants as kind
-use Rattle.gq_command.specs.Tokens.{place_of, same}
-use Rattle.gq_command.specs.declared.token.Token.{Token}
-use Rattle.gq_command.specs.declared.token.Token.TheVariants.{Fixed, Name, Number, Text}
+use Rattle.gq_token.specs.Tokens.{place_of, same}
+use Rattle.gq_token.specs.declared.token.Token.{Token}
+use Rattle.gq_token.specs.declared.token.Token.TheVariants.{Fixed, Name, Number, Text}
 use Rattle.gq_command.specs.Commands.{Bytes, separated, parenthesized, name_words, names_words, kind_word, column_words, literal_words, key_words, phrase, some, grammatical, keeps_rules, SaysTokens}
 use Rattle.gq_command.specs.declared.command.Command.{Command}
 use Rattle.gq_command.specs.declared.command.Command.TheVariants.{Create, Upsert, Group}
@@ -17,7 +17,9 @@ use Rattle.gq_command.specs.declared.command.Aggregate.TheVariants.{CountAll}
 use Rattle.gq_row.specs.declared.value.Value.{Value}
 use Rattle.gq_row.specs.declared.value.Value.TheVariants as value
 use Rattle.gq_row.specs.declared.schema.Column.{Column}
-use Rattle.gq_command.specs.Reading.{◌>>=◌, skip, name_at, literal_at, kind_at, column_at, items_within, names_at, literals_at, column_comma, columns_at, in_parentheses, key_at, ended, create_at, upsert_at, group_at, form_at, command_of}
+use Rattle.gq_token.specs.Results.{◌>>=◌}
+use Rattle.gq_token.specs.Queue.{skip, column_comma}
+use Rattle.gq_command.specs.Reading.{name_at, literal_at, kind_at, column_at, items_within, names_at, literals_at, columns_at, in_parentheses, key_at, ended, create_at, upsert_at, group_at, form_at, command_of}
 
 -- a terminal by its number
 terminal_at : ℕ → Terminal

@@ -7,16 +7,16 @@ use Rattle.std.specs.List.{list_all, slice_index}
 use Rattle.gq_row.specs.Limits.{GREATEST}
 use Rattle.gq_row.specs.declared.schema.Kind.TheVariants as kind
 use Rattle.gq_row.specs.declared.value.Value.TheVariants as value
-use Rattle.gq_command.specs.declared.token.Terminal.TheVariants as terminal
-use Rattle.gq_command.specs.declared.token.Token.{Token}
-use Rattle.gq_command.specs.declared.token.Token.TheVariants.{Fixed, Name, Number, Text}
+use Rattle.gq_token.specs.declared.token.Terminal.TheVariants as terminal
+use Rattle.gq_token.specs.declared.token.Token.{Token}
+use Rattle.gq_token.specs.declared.token.Token.TheVariants.{Fixed, Name, Number, Text}
 use Rattle.gq_command.specs.declared.command.Aggregate.TheVariants.{CountAll}
 use Rattle.gq_command.specs.declared.command.Command.{Command}
 use Rattle.gq_command.specs.declared.command.Command.TheVariants.{Create, Drop, Upsert, Group}
 use Rattle.gq_command.specs.Commands.{Bytes, phrase, is_command, fits}
-use Rattle.gq_command.specs.Lexing.{tokens, lexed, tokens_within, token_at, word_at, word, sign_at, digits_at, name_in_quotes, text_in_quotes}
+use Rattle.gq_token.specs.Lexing.{tokens, lexed, tokens_within, token_at, word_at, word, sign_at, digits_at, name_in_quotes, text_in_quotes}
 use Rattle.gq_command.specs.Lines.{Says}
-use Rattle.gq_command.specs.Script.{Plain, items, entries_by}
+use Rattle.gq_script.specs.Script.{Plain, Loading, items, entries_by}
 use Rattle.gq_command.proofs.Again.{both_true}
 
 -- a line of ASCII is text, so its tokens are computed
@@ -117,9 +117,14 @@ name_at_limit : fits GREATEST (Create (codes "aaaaaaaaaaaaaaaaaaaaaaaaaaaaaaaaaa
 name_at_limit = refl
 
 -- a byte-order mark, a blank line, a comment, LF and CR LF, and a last line without an end
-mixed : items GREATEST (239 ∷ 187 ∷ 191 ∷ 32 ∷ 9 ∷ 13 ∷ 10 ∷ (codes "-- note" ++ (10 ∷ (codes " show s" ++ (13 ∷ 10 ∷ 45 ∷ 10 ∷ codes "load s"))))) ≡ Plain (codes " show s") ∷ Plain (codes "-") ∷ Plain (codes "load s") ∷ []
+mixed : items GREATEST (239 ∷ 187 ∷ 191 ∷ 32 ∷ 9 ∷ 13 ∷ 10 ∷ (codes "-- note" ++ (10 ∷ (codes " show s" ++ (13 ∷ 10 ∷ 45 ∷ 10 ∷ codes "load s"))))) ≡ Plain (codes " show s") ∷ Plain (codes "-") ∷ Loading (codes "load s") None ∷ []
 unfolding entries_by
 mixed = refl
+
+-- a payload keeps its line ends, and the line that ends it is no item
+with_payload : items GREATEST (codes "Load s" ++ (10 ∷ 49 ∷ 13 ∷ 10 ∷ 92 ∷ 46 ∷ 10 ∷ codes "show s")) ≡ Loading (codes "Load s") (Some (49 ∷ 13 ∷ 10 ∷ [])) ∷ Plain (codes "show s") ∷ []
+unfolding entries_by
+with_payload = refl
 
 empty_script : items GREATEST [] ≡ []
 unfolding entries_by

@@ -8,10 +8,11 @@ use Rattle.gq_row.specs.declared.schema.Kind.{Kind}
 use Rattle.gq_row.specs.declared.schema.Kind.TheVariants as kind
 use Rattle.gq_row.specs.declared.value.Value.{Value}
 use Rattle.gq_row.specs.declared.value.Value.TheVariants as value
-use Rattle.gq_command.specs.declared.token.Terminal.{Terminal}
-use Rattle.gq_command.specs.declared.token.Terminal.TheVariants as terminal
-use Rattle.gq_command.specs.declared.token.Token.{Token}
-use Rattle.gq_command.specs.declared.token.Token.TheVariants.{Fixed, Name, Number, Text}
+pub use Rattle.gq_token.specs.Texts.{Bytes, some}
+use Rattle.gq_token.specs.declared.token.Terminal.{Terminal}
+use Rattle.gq_token.specs.declared.token.Terminal.TheVariants as terminal
+use Rattle.gq_token.specs.declared.token.Token.{Token}
+use Rattle.gq_token.specs.declared.token.Token.TheVariants.{Fixed, Name, Number, Text}
 use Rattle.gq_command.specs.declared.command.Aggregate.{Aggregate}
 use Rattle.gq_command.specs.declared.command.Aggregate.TheVariants.{CountAll, Count, CountDistinct, Sum, Min, Max}
 use Rattle.gq_command.specs.declared.command.Operand.{Operand}
@@ -25,10 +26,6 @@ use Rattle.gq_command.specs.declared.command.Payload.{Payload}
 use Rattle.gq_command.specs.declared.command.Payload.TheVariants as payload
 use Rattle.gq_command.specs.declared.command.Command.{Command}
 use Rattle.gq_command.specs.declared.command.Command.TheVariants.{Create, Drop, Load, Upsert, Delete, Show, Group, Distinct}
-
--- a text or a name by its bytes
-abbrev pub Bytes : Type 0
-Bytes = List ℕ
 
 -- the tokens that the grammar writes
 
@@ -121,10 +118,6 @@ phrase (Distinct t on tests) =
     ++ clause terminal.Where terminal.And test_words tests
 
 -- which commands there are
-
-abbrev pub some : {A : Type 0} → List A → Bool
-some [] = false
-some (x ∷ xs) = true
 
 -- what stands behind `by` is one count of rows, and nothing else
 abbrev pub counts_alone : List Aggregate → List Test → Option Exists → List Test → Bool

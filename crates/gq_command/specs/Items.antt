@@ -11,7 +11,7 @@ use Rattle.gq_command.specs.declared.command.Command.{Command}
 use Rattle.gq_command.specs.declared.command.Command.TheVariants.{Load}
 use Rattle.gq_command.specs.Commands.{Bytes, is_command, fits}
 use Rattle.gq_command.specs.Lines.{Says}
-use Rattle.gq_command.specs.Script.{Entry, Plain, Loading, line_of, raw_lines, first_entry, items_left}
+use Rattle.gq_script.specs.Script.{Entry, Plain, Loading, line_of, raw_lines, first_entry, items_left}
 
 -- what stands for the payload told, which is None where it is open
 abbrev pub StandsFor : ℕ → Option Bytes → Payload → Type 0
@@ -19,6 +19,10 @@ StandsFor most told (payload.Bytes bytes) = (told ≡ Some bytes) × (length byt
 StandsFor most told payload.Open = told ≡ None
 StandsFor most told payload.TooLong = (bytes : Bytes) × (told ≡ Some bytes) × (most < length bytes)
 StandsFor most told payload.NoMemory = ⊥
+
+-- what stands in for a payload of these bytes, where memory may be wanting
+abbrev pub StandsInFor : ℕ → Bytes → Payload → Type 0
+StandsInFor most bytes p = StandsFor most (Some bytes) p ⊎ (p ≡ payload.NoMemory)
 
 -- the entry is the command, which is within the limits
 abbrev pub IsCommandOf : Bounds → Entry → Command → Type 0
@@ -54,6 +58,11 @@ pub record Gave (b : Bounds) (bytes : Bytes) (left : Option Bytes) (it : Item) :
   pub left_is : left ≡ Some rest
   pub order : items_left b bytes ≡ entry ∷ items_left b rest
   pub reads : IsReadAs b entry it
+
+-- the item with this payload, where it is a load
+abbrev pub with_payload : Payload → Item → Item
+with_payload p (item.Command (Load table carried)) = item.Command (Load table p)
+with_payload p it = it
 
 -- a reader, by the bytes that it has left, how many it gave, and whether a read failed
 pub record Pending : Type 0 where

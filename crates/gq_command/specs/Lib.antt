@@ -1,9 +1,6 @@
 pub mod Commands
-pub mod Gathering
 pub mod Items
-pub mod Lexing
 pub mod Lines
 pub mod Reading
+pub mod Readings
 pub mod Script
-pub mod Spelling
-pub mod Tokens

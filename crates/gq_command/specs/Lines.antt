@@ -2,8 +2,9 @@
 use Rattle.std.specs.Prelude.{◌≡◌, Option}
 use Rattle.gq_command.specs.declared.command.Command.{Command}
 use Rattle.gq_command.specs.Commands.{Bytes, SaysTokens}
-use Rattle.gq_command.specs.Reading.{◌>>=◌, command_of}
-use Rattle.gq_command.specs.Lexing.{tokens}
+use Rattle.gq_token.specs.Results.{◌>>=◌}
+use Rattle.gq_command.specs.Reading.{command_of}
+use Rattle.gq_token.specs.Lexing.{tokens}
 
 -- the line says the command
 abbrev pub Says : Bytes → Command → Type 0

@@ -1,14 +1,13 @@
 -- Reading tokens from left to right.
-use Rattle.std.specs.Prelude.{◌≡◌, ℕ, zero, suc, Bool, true, false, List, [], ◌∷◌, length, Option, Some, None, Result, Ok, Err, if◌then◌else◌}
-use Rattle.gq_command.specs.declared.token.Terminal.{Terminal}
-use Rattle.gq_command.specs.declared.token.Terminal.TheVariants as terminal
+use Rattle.std.specs.Prelude.{ℕ, zero, suc, List, [], ◌∷◌, length, Option, Some, None, if◌then◌else◌}
+use Rattle.gq_token.specs.declared.token.Terminal.TheVariants as terminal
 use Rattle.gq_row.specs.declared.schema.Kind.{Kind}
 use Rattle.gq_row.specs.declared.schema.Kind.TheVariants as kind
-use Rattle.gq_command.specs.declared.parsing.Fault.{Fault}
-use Rattle.gq_command.specs.declared.parsing.Fault.TheVariants as fault
-use Rattle.gq_command.specs.Tokens.{same}
-use Rattle.gq_command.specs.declared.token.Token.{Token}
-use Rattle.gq_command.specs.declared.token.Token.TheVariants.{Fixed, Name, Number, Text}
+use Rattle.gq_token.specs.Results.{◌>>=◌}
+use Rattle.gq_token.specs.Queue.{skip, column_comma}
+use Rattle.gq_token.specs.Tokens.{same}
+use Rattle.gq_token.specs.declared.token.Token.{Token}
+use Rattle.gq_token.specs.declared.token.Token.TheVariants.{Fixed, Name, Number, Text}
 use Rattle.gq_command.specs.Commands.{Bytes, keeps_rules}
 use Rattle.gq_command.specs.declared.command.Command.{Command}
 use Rattle.gq_command.specs.declared.command.Command.TheVariants.{Create, Upsert, Group}
@@ -16,40 +15,6 @@ use Rattle.gq_command.specs.declared.command.Aggregate.TheVariants.{CountAll}
 use Rattle.gq_row.specs.declared.value.Value.{Value}
 use Rattle.gq_row.specs.declared.value.Value.TheVariants as value
 use Rattle.gq_row.specs.declared.schema.Column.{Column}
-
-infixl 10 ◌>>=◌
-abbrev pub ◌>>=◌ : {A B : Type 0} → Option A → (A → Option B) → Option B
-(Some x) >>= f = f x
-None >>= f = None
-
--- what a function returned, seen by view, is what reading gives, unless memory ran out
-abbrev pub Fails : {Y : Type 0} → Fault → Option Y → Type 0
-Fails fault.Memory read = Unit {0}
-Fails fault.Syntax read = read ≡ None
-
-abbrev pub Gives : {X Y : Type 0} → (X → Y) → Result X Fault → Option Y → Type 0
-Gives view (Ok x) read = read ≡ Some (view x)
-Gives view (Err e) read = Fails e read
-
-abbrev pub skip : Terminal → List Token → Option (List Token)
-skip t [] = None
-skip t (Fixed u ∷ rest) = if same u t then Some rest else None
-skip t (Name n ∷ rest) = None
-skip t (Number z ∷ rest) = None
-skip t (Text s ∷ rest) = None
-
--- whether the first token is the terminal
-abbrev pub leads : Terminal → List Token → Bool
-leads t [] = false
-leads t (Fixed u ∷ rest) = same u t
-leads t (Name n ∷ rest) = false
-leads t (Number z ∷ rest) = false
-leads t (Text s ∷ rest) = false
-
--- what a function that passes a token told, and the tokens that it left
-abbrev pub Skips : Option (List Token) → Bool → List Token → List Token → Type 0
-Skips read true old new = read ≡ Some new
-Skips read false old new = (read ≡ None) × (new ≡ old)
 
 unfoldable pub name_at : List Token → Option (Bytes × List Token)
 name_at [] = None
@@ -91,10 +56,6 @@ names_at ts = items_at name_at (skip terminal.Comma) ts
 
 abbrev pub literals_at : List Token → Option (List Value × List Token)
 literals_at ts = items_at literal_at (skip terminal.Comma) ts
-
--- a comma that leads to another column, and not to the key
-unfoldable pub column_comma : List Token → Option (List Token)
-column_comma ts = skip terminal.Comma ts >>= λ after. elim (skip terminal.Key after) [ None ↦ Some after | Some rest ↦ None ]
 
 abbrev pub columns_at : List Token → Option (List Column × List Token)
 columns_at ts = items_at column_at column_comma ts

@@ -4,6 +4,10 @@
 //! spaces and tabs, and one whose first bytes behind these are `--`, is nothing. Each other line is
 //! an item: the command that it says, or why it says none.
 //!
+//! Where the first word of a line is `load`, in any case, the lines behind it up to the first that
+//! is exactly `\.` are its payload, whether the line says a command or not. Without such a line the
+//! payload is open, and the script is at its end.
+//!
 //! A line is cut into tokens, the longest each time, with spaces and tabs between them. Braces
 //! repeat, square brackets are optional:
 //!
@@ -29,22 +33,17 @@
 //! in order, in whatever pieces the bytes come. A command is one that its line says, within the
 //! limits; [`LineRefusal::Syntax`] comes only where the line says none, [`LineRefusal::Limit`] only
 //! where it says one past a limit, [`LineRefusal::LineTooLong`] by the line's length alone, before
-//! all else. The laws in [`laws`] say what that rests on: no line says two commands, and each token
-//! is the longest that the text spells.
+//! all else. The laws in [`laws`] say what that rests on: no line says two commands, each item is
+//! read as one thing, and each token is the longest that the text spells.
 #![tactic(auto)]
 
 mod command;
-mod gather;
 pub mod laws;
-mod lexing;
 mod lines;
 mod parsing;
-mod queue;
 mod reader;
-mod source;
-mod token;
 
 pub use command::{Aggregate, Command, Comparison, Exists, Operand, Payload, Test};
+pub use gq_script::ReadFault;
 pub use lines::{LineRefusal, parse_line};
 pub use reader::{CommandReader, Item};
-pub use source::ReadFault;

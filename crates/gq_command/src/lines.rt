@@ -3,30 +3,35 @@ ghost use Rattle.std.specs.Prelude.{true, false, ◌≡◌, ◌↔◌, ◌<◌, 
 ghost use Rattle.std.specs.List.{list_all};
 ghost use Rattle.gq_command.specs.Commands.{is_command, fits, is_at_most, literal_texts};
 ghost use Rattle.gq_command.specs.Lines.{command_on, Says};
-ghost use Rattle.gq_command.specs.Reading.{Gives};
+ghost use Rattle.gq_token.specs.Results.{Gives};
 
 use crate::command::Command;
-use crate::lexing::lex;
-use crate::parsing::{Fault, command_in};
+use crate::parsing::command_in;
 use gq_row::{Bounds, Column, Limits, Text, Value};
+use gq_token::{ParseError, lex};
 use std::alloc::Global;
+use thiserror::Error;
 
 /// Why a line gives no command.
-#[derive(Debug, Drop)]
+#[derive(Debug, Drop, Error)]
 pub enum LineRefusal {
     /// The line says no command.
+    #[error("the line says no command")]
     Syntax,
     /// The line has more bytes than a line may have.
+    #[error("the line is too long")]
     LineTooLong,
     /// The line says a command with a name or a text that is too long, with too many columns, or
     /// with too many aggregates.
+    #[error("a name or a text is too long, or there are too many columns or aggregates")]
     Limit,
     /// There was no memory to read the line.
+    #[error("no memory to read the line")]
     Memory,
 }
 
-#[tactic(auto, unfolding(crate::specs::Lexing::tokens))]
-fn parse(alloc: Global, line: &[u8]) -> Result<Command, Fault>
+#[tactic(auto, unfolding(gq_token::specs::Lexing::tokens))]
+fn parse(alloc: Global, line: &[u8]) -> Result<Command, ParseError>
     ensures { Gives (λ c. c) result (command_on line.now) }
 {
     match str::from_utf8(line) {
@@ -34,7 +39,7 @@ fn parse(alloc: Global, line: &[u8]) -> Result<Command, Fault>
             let tokens = lex(alloc, text)?;
             command_in(alloc, tokens)
         }
-        Err(_) => Err(Fault::Syntax),
+        Err(_) => Err(ParseError::Syntax),
     }
 }
 
@@ -119,8 +124,8 @@ pub fn parse_line(alloc: Global, line: &[u8], limits: &Limits) -> Result<Command
         return Err(LineRefusal::LineTooLong);
     }
     match parse(alloc, line) {
-        Err(Fault::Memory) => Err(LineRefusal::Memory),
-        Err(Fault::Syntax) => Err(LineRefusal::Syntax),
+        Err(ParseError::Memory) => Err(LineRefusal::Memory),
+        Err(ParseError::Syntax) => Err(LineRefusal::Syntax),
         Ok(command) => {
             if fits(&command, &limits.bounds) {
                 Ok(command)

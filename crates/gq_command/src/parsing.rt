@@ -3,76 +3,54 @@
 ghost use Rattle.std.specs.Prelude.{◌≡◌, IfOk, IfErr, None, [], ◌∷◌, bytes_eq};
 ghost use Rattle.gq_row.specs.Repeats.{no_repeats};
 ghost use Rattle.gq_command.specs.Commands.{column_names, keeps_rules};
-ghost use Rattle.gq_command.specs.Reading.{Gives, skip, name_at, literal_at, kind_at, column_at, names_at, literals_at, column_comma, columns_at, key_at, create_at, upsert_at, group_at, form_at, command_of};
+ghost use Rattle.gq_token.specs.Results.{Gives};
+ghost use Rattle.gq_token.specs.Queue.{skip, column_comma};
+ghost use Rattle.gq_command.specs.Reading.{name_at, literal_at, kind_at, column_at, names_at, literals_at, columns_at, key_at, create_at, upsert_at, group_at, form_at, command_of};
 ghost use Rattle.gq_command.specs.declared.command.Aggregate.TheVariants.{CountAll};
 ghost use Rattle.gq_command.specs.declared.command.Command.TheVariants.{Group};
-ghost use Rattle.gq_command.specs.declared.parsing.Fault.TheVariants.{Memory};
+ghost use Rattle.gq_token.specs.declared.parse_error.ParseError.TheVariants.{Memory};
 
 use crate::command::{Aggregate, Command, Payload};
-use crate::queue::Tokens;
-use crate::token::{Terminal, Token};
 use gq_row::{Column, Kind, Row, Sequence, Text, Value};
-use std::alloc::{AllocError, AllocFailed, Global};
+use gq_token::{ParseError, Terminal, Token, Tokens};
+use std::alloc::Global;
 use std::collections::BTreeSet;
 
-/// Why tokens could not be read.
-#[derive(Debug, Drop)]
-pub enum Fault {
-    Memory,
-    Syntax,
-}
-
-impl From<AllocError> for Fault {
-    ghost from_gives = { λ _ e. e ≡ Memory };
-
-    fn from(_e: AllocError) -> Fault {
-        Fault::Memory
-    }
-}
-
-impl<T: Drop> From<AllocFailed<T>> for Fault {
-    ghost from_gives = { λ _ e. e ≡ Memory };
-
-    fn from(_e: AllocFailed<T>) -> Fault {
-        Fault::Memory
-    }
-}
-
 /// Passes this word or sign, which must be the first token.
-fn expect(tokens: &mut Tokens, terminal: Terminal) -> Result<(), Fault>
+fn expect(tokens: &mut Tokens, terminal: Terminal) -> Result<(), ParseError>
     ensures { Gives (λ _. tokens.new) result (skip terminal tokens.old) }
 {
     if tokens.skip(terminal) {
         Ok(())
     } else {
-        Err(Fault::Syntax)
+        Err(ParseError::Syntax)
     }
 }
 
 #[tactic(auto, unfolding(crate::specs::Reading::name_at))]
-fn name_of(tokens: &mut Tokens) -> Result<Text, Fault>
+fn name_of(tokens: &mut Tokens) -> Result<Text, ParseError>
     ensures { Gives (λ name. (name, tokens.new)) result (name_at tokens.old) }
 {
     match tokens.take() {
         Some(Token::Name(name)) => Ok(name),
-        _ => Err(Fault::Syntax),
+        _ => Err(ParseError::Syntax),
     }
 }
 
 #[tactic(auto, unfolding(crate::specs::Reading::literal_at))]
-fn literal_of(tokens: &mut Tokens) -> Result<Value, Fault>
+fn literal_of(tokens: &mut Tokens) -> Result<Value, ParseError>
     ensures { Gives (λ value. (value, tokens.new)) result (literal_at tokens.old) }
 {
     match tokens.take() {
         Some(Token::Fixed(Terminal::Null)) => Ok(Value::Null),
         Some(Token::Number(number)) => Ok(Value::Int(number)),
         Some(Token::Text(text)) => Ok(Value::Text(text)),
-        _ => Err(Fault::Syntax),
+        _ => Err(ParseError::Syntax),
     }
 }
 
 #[tactic(auto, unfolding(crate::specs::Reading::kind_at))]
-fn kind_of(tokens: &mut Tokens) -> Result<Kind, Fault>
+fn kind_of(tokens: &mut Tokens) -> Result<Kind, ParseError>
     ensures { Gives (λ kind. (kind, tokens.new)) result (kind_at tokens.old) }
 {
     if tokens.skip(Terminal::Int) {
@@ -80,12 +58,12 @@ fn kind_of(tokens: &mut Tokens) -> Result<Kind, Fault>
     } else if tokens.skip(Terminal::Text) {
         Ok(Kind::Text)
     } else {
-        Err(Fault::Syntax)
+        Err(ParseError::Syntax)
     }
 }
 
 #[tactic(auto, unfolding(crate::specs::Reading::column_at))]
-fn column_of(tokens: &mut Tokens) -> Result<Column, Fault>
+fn column_of(tokens: &mut Tokens) -> Result<Column, ParseError>
     ensures { Gives (λ column. (column, tokens.new)) result (column_at tokens.old) }
 {
     let name = name_of(tokens)?;
@@ -93,7 +71,7 @@ fn column_of(tokens: &mut Tokens) -> Result<Column, Fault>
     Ok(Column { name, kind })
 }
 
-fn names_of(alloc: Global, tokens: &mut Tokens) -> Result<Vec<Text>, Fault>
+fn names_of(alloc: Global, tokens: &mut Tokens) -> Result<Vec<Text>, ParseError>
     ensures { Gives (λ names. (names.items, tokens.new)) result (names_at tokens.old) }
 {
     let mut names = Vec::new(alloc);
@@ -104,10 +82,10 @@ fn names_of(alloc: Global, tokens: &mut Tokens) -> Result<Vec<Text>, Fault>
             return Ok(names);
         }
     }
-    Err(Fault::Syntax)
+    Err(ParseError::Syntax)
 }
 
-fn literals_of(alloc: Global, tokens: &mut Tokens) -> Result<Vec<Value>, Fault>
+fn literals_of(alloc: Global, tokens: &mut Tokens) -> Result<Vec<Value>, ParseError>
     ensures { Gives (λ values. (values.items, tokens.new)) result (literals_at tokens.old) }
 {
     let mut values = Vec::new(alloc);
@@ -118,10 +96,10 @@ fn literals_of(alloc: Global, tokens: &mut Tokens) -> Result<Vec<Value>, Fault>
             return Ok(values);
         }
     }
-    Err(Fault::Syntax)
+    Err(ParseError::Syntax)
 }
 
-fn columns_of(alloc: Global, tokens: &mut Tokens) -> Result<Vec<Column>, Fault>
+fn columns_of(alloc: Global, tokens: &mut Tokens) -> Result<Vec<Column>, ParseError>
     ensures { Gives (λ columns. (columns.items, tokens.new)) result (columns_at tokens.old) }
 {
     let mut columns = Vec::new(alloc);
@@ -132,11 +110,11 @@ fn columns_of(alloc: Global, tokens: &mut Tokens) -> Result<Vec<Column>, Fault>
             return Ok(columns);
         }
     }
-    Err(Fault::Syntax)
+    Err(ParseError::Syntax)
 }
 
 #[tactic(auto, unfolding(crate::specs::Reading::key_at, crate::specs::Reading::in_parentheses))]
-fn key_of(alloc: Global, tokens: &mut Tokens) -> Result<Vec<Text>, Fault>
+fn key_of(alloc: Global, tokens: &mut Tokens) -> Result<Vec<Text>, ParseError>
     ensures { Gives (λ key. (key.items, tokens.new)) result (key_at tokens.old) }
 {
     if !tokens.skip(Terminal::Comma) {
@@ -150,7 +128,7 @@ fn key_of(alloc: Global, tokens: &mut Tokens) -> Result<Vec<Text>, Fault>
 }
 
 #[tactic(auto, unfolding(crate::specs::Reading::create_at))]
-fn create_of(alloc: Global, tokens: &mut Tokens) -> Result<Command, Fault>
+fn create_of(alloc: Global, tokens: &mut Tokens) -> Result<Command, ParseError>
     ensures { Gives (λ command. (command, tokens.new)) result (create_at tokens.old) }
 {
     let table = name_of(tokens)?;
@@ -166,7 +144,7 @@ fn create_of(alloc: Global, tokens: &mut Tokens) -> Result<Command, Fault>
 }
 
 #[tactic(auto, unfolding(crate::specs::Reading::upsert_at, crate::specs::Reading::in_parentheses))]
-fn upsert_of(alloc: Global, tokens: &mut Tokens) -> Result<Command, Fault>
+fn upsert_of(alloc: Global, tokens: &mut Tokens) -> Result<Command, ParseError>
     ensures { Gives (λ command. (command, tokens.new)) result (upsert_at tokens.old) }
 {
     let table = name_of(tokens)?;
@@ -180,7 +158,7 @@ fn upsert_of(alloc: Global, tokens: &mut Tokens) -> Result<Command, Fault>
 }
 
 #[tactic(auto, unfolding(crate::specs::Reading::group_at))]
-fn group_of(alloc: Global, tokens: &mut Tokens) -> Result<Command, Fault>
+fn group_of(alloc: Global, tokens: &mut Tokens) -> Result<Command, ParseError>
     ensures { Gives (λ command. (command, tokens.new)) result (group_at tokens.old) }
 {
     let table = name_of(tokens)?;
@@ -195,7 +173,7 @@ fn group_of(alloc: Global, tokens: &mut Tokens) -> Result<Command, Fault>
 }
 
 /// `group table by names show count(*)`.
-fn counted(alloc: Global, table: Text, by: Vec<Text>) -> Result<Command, Fault>
+fn counted(alloc: Global, table: Text, by: Vec<Text>) -> Result<Command, ParseError>
     ensures ok { IfOk result (λ c. c ≡ Group table by.items (CountAll ∷ []) [] None []) }
     ensures err { IfErr result (λ e. e ≡ Memory) }
 {
@@ -212,7 +190,7 @@ fn counted(alloc: Global, table: Text, by: Vec<Text>) -> Result<Command, Fault>
 }
 
 #[tactic(auto, unfolding(crate::specs::Reading::form_at))]
-fn form_of(alloc: Global, tokens: &mut Tokens) -> Result<Command, Fault>
+fn form_of(alloc: Global, tokens: &mut Tokens) -> Result<Command, ParseError>
     ensures { Gives (λ command. (command, tokens.new)) result (form_at tokens.old) }
 {
     if tokens.skip(Terminal::Create) {
@@ -222,12 +200,12 @@ fn form_of(alloc: Global, tokens: &mut Tokens) -> Result<Command, Fault>
     } else if tokens.skip(Terminal::Group) {
         group_of(alloc, tokens)
     } else {
-        Err(Fault::Syntax)
+        Err(ParseError::Syntax)
     }
 }
 
 /// Whether no name stands twice among these.
-fn names_differ(alloc: Global, names: &[Text]) -> Result<bool, Fault>
+fn names_differ(alloc: Global, names: &[Text]) -> Result<bool, ParseError>
     ensures ok { IfOk result (λ differ. differ ≡ no_repeats bytes_eq names.now) }
     ensures err { IfErr result (λ e. e ≡ Memory) }
 {
@@ -241,7 +219,7 @@ fn names_differ(alloc: Global, names: &[Text]) -> Result<bool, Fault>
 }
 
 /// Whether no two of these columns have one name.
-fn columns_differ(alloc: Global, columns: &[Column]) -> Result<bool, Fault>
+fn columns_differ(alloc: Global, columns: &[Column]) -> Result<bool, ParseError>
     ensures ok { IfOk result (λ differ. differ ≡ no_repeats bytes_eq (column_names columns.now)) }
     ensures err { IfErr result (λ e. e ≡ Memory) }
 {
@@ -255,7 +233,7 @@ fn columns_differ(alloc: Global, columns: &[Column]) -> Result<bool, Fault>
 }
 
 /// Whether a command keeps the rules beside the grammar.
-fn keeps_rules(alloc: Global, command: &Command) -> Result<bool, Fault>
+fn keeps_rules(alloc: Global, command: &Command) -> Result<bool, ParseError>
     ensures ok { IfOk result (λ kept. kept ≡ keeps_rules command.now) }
     ensures err { IfErr result (λ e. e ≡ Memory) }
 {
@@ -281,16 +259,16 @@ fn keeps_rules(alloc: Global, command: &Command) -> Result<bool, Fault>
 
 /// The command that all of these tokens say.
 #[tactic(auto, unfolding(crate::specs::Reading::command_of, crate::specs::Reading::ended))]
-pub fn command_in(alloc: Global, mut tokens: Tokens) -> Result<Command, Fault>
+pub fn command_in(alloc: Global, mut tokens: Tokens) -> Result<Command, ParseError>
     ensures { Gives (λ c. c) result (command_of tokens) }
 {
     let command = form_of(alloc, &mut tokens)?;
     if !tokens.is_empty() {
-        return Err(Fault::Syntax);
+        return Err(ParseError::Syntax);
     }
     if keeps_rules(alloc, &command)? {
         Ok(command)
     } else {
-        Err(Fault::Syntax)
+        Err(ParseError::Syntax)
     }
 }

@@ -1,15 +1,15 @@
 //! The commands of a script.
-ghost use Rattle.std.specs.Prelude.{◌≡◌, ◌≤◌, [], false, Some, IfOk, IfSome, IfNone, OnOk};
+ghost use Rattle.std.specs.Prelude.{◌≡◌, ◌≤◌, ℕ, [], false, Some, None, IfOk, IfSome, IfNone, OnOk};
 ghost use Rattle.gq_command.specs.Commands.{Bytes};
-ghost use Rattle.gq_command.specs.Script.{raw_lines, first_entry, items_left, is_skipped, Counts, Plain};
-ghost use Rattle.gq_command.specs.Gathering.{Gathers};
-ghost use Rattle.gq_command.specs.Items.{Gave, IsReadAs, IsReady};
+ghost use Rattle.gq_script.specs.Script.{raw_lines, first_entry, items_left, is_skipped, Counts, Plain};
+ghost use Rattle.gq_script.specs.Gathering.{Gathers};
+ghost use Rattle.gq_command.specs.Items.{Gave, IsReadAs, IsReady, StandsInFor, with_payload};
+ghost use Rattle.gq_script.specs.Payloads.{Holds, KeptOf};
 
-use crate::command::Command;
-use crate::gather::{OpenLine, Opening, take_line};
+use crate::command::{Command, Payload};
 use crate::lines::{LineRefusal, parse_line};
-use crate::source::{ReadFault, Source};
-use gq_row::Limits;
+use gq_row::{Limits, Sequence};
+use gq_script::{Kept, OpenLine, Opening, ReadFault, Source, take_line, take_payload};
 use std::alloc::Global;
 use std::io::Read;
 use std::marker::Model;
@@ -42,6 +42,41 @@ fn item_of(alloc: Global, line: OpenLine, limits: &Limits) -> Item
     }
 }
 
+/// The payload of a refused line is passed without memory.
+fn kept_for(alloc: Global, item: &Item) -> Kept
+    ensures { (most : ℕ) → Holds most result [] }
+{
+    match item {
+        Item::Command(_) => Kept::new(alloc),
+        Item::Refused(_) => Kept::Nothing,
+    }
+}
+
+/// What stands for a payload of which this was kept, or for an open one.
+fn payload_of(kept: Option<Kept>) -> Payload
+    ensures open_is { kept ≡ None → result ≡ Payload.Open }
+    ensures closed { (most : ℕ) (bytes : Bytes) → KeptOf most bytes kept → StandsInFor most bytes result }
+{
+    match kept {
+        None => Payload::Open,
+        Some(Kept::Bytes(bytes)) => Payload::Bytes(Sequence::new(bytes)),
+        Some(Kept::TooLong) => Payload::TooLong,
+        Some(Kept::Nothing) => Payload::NoMemory,
+    }
+}
+
+/// The item with this payload, where it is a load.
+fn with_payload(item: Item, payload: Payload) -> Item
+    ensures { result ≡ with_payload payload item }
+{
+    match item {
+        Item::Command(Command::Load { table, .. }) => {
+            Item::Command(Command::Load { table, payload })
+        }
+        other => other,
+    }
+}
+
 /// The first item of what is left, or `None` where there is none.
 fn next_item<R: Read>(
     alloc: Global,
@@ -59,7 +94,13 @@ fn next_item<R: Read>(
             return Ok(None);
         };
         if !line.is_skipped() {
-            return Ok(Some(item_of(alloc, line, limits)));
+            let loads = line.takes_payload();
+            let item = item_of(alloc, line, limits);
+            if !loads {
+                return Ok(Some(item));
+            }
+            let kept = take_payload(kept_for(alloc, &item), source, &limits.bounds)?;
+            return Ok(Some(with_payload(item, payload_of(kept))));
         }
     }
     Err(ReadFault)
@@ -84,12 +125,13 @@ impl<R: Read> Model for CommandReader<R> {
 impl<R: Read> CommandReader<R> {
     ghost use Rattle.std.specs.Prelude.{◌≡◌, ◌≤◌, ◌+◌, [], true, false, Some, IfOk, IfSome, IfNone, OnOk, IsErr, length};
     ghost use Rattle.gq_command.specs.Items.{Gave, IsReady};
-    ghost use Rattle.gq_command.specs.Script.{items_left, without_mark};
+    ghost use Rattle.gq_script.specs.Script.{items_left, without_mark};
 
     /// A reader of a whole script.
     pub fn new(reader: R) -> CommandReader<R>
         ensures left { IfSome (R.remaining reader) (λ bytes. result.left ≡ Some (without_mark bytes)) }
-        ensures given { result.given ≡ 0 }
+        // The bytes of a mark are given before all others.
+        ensures given { IfSome (R.remaining reader) (λ bytes. result.given + length (without_mark bytes) ≡ length bytes) }
         ensures failed { result.failed ≡ false }
     {
         CommandReader {

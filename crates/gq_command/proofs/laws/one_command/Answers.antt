@@ -1,4 +1,4 @@
-use Rattle.gq_command.specs.Lexing.{tokens}
+use Rattle.gq_token.specs.Lexing.{tokens}
 use Rattle.gq_command.proofs.Again.{one_command}
 use Rattle.gq_command.proofs.laws.one_command.Goals as goal
 

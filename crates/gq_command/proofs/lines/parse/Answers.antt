@@ -1,7 +1,7 @@
 use Rattle.std.proofs.Common.{ap, sym, ◌∙◌, refl}
 use Rattle.gq_command.proofs.Line.{not_utf8}
 use Rattle.std.proofs.lemmas.Str.{is_utf8-from_IsUtf8}
-use Rattle.gq_command.specs.Lexing.{tokens, lexed}
+use Rattle.gq_token.specs.Lexing.{tokens, lexed}
 use Rattle.gq_command.proofs.lines.parse.Goals as goal
 
 pub returns-in_ok-tokens-in-Ok : goal.returns-in_ok-tokens-in-Ok

@@ -1,5 +1,5 @@
 use Rattle.std.proofs.Common.{sym, subst, ◌∙◌}
-use Rattle.gq_command.specs.Reading.{Fails}
+use Rattle.gq_token.specs.Results.{Fails}
 use Rattle.gq_command.specs.Lines.{command_on}
 use Rattle.gq_command.proofs.Line.{line_sound, line_command, none_said}
 use Rattle.gq_command.proofs.lines.parse_line.Goals as goal

@@ -1,7 +1,8 @@
 use Rattle.std.proofs.Common.{◌≡◌, ◌++◌, ◌∷◌, ◌<◌, ◌≤◌, [], length, arith}
 use Rattle.std.proofs.lemmas.Result.{err_from_is_err_and}
-use Rattle.gq_command.specs.declared.token.Terminal.TheVariants as terminal
-use Rattle.gq_command.specs.Reading.{skip, items_at, literal_at}
+use Rattle.gq_token.specs.declared.token.Terminal.TheVariants as terminal
+use Rattle.gq_token.specs.Queue.{skip}
+use Rattle.gq_command.specs.Reading.{items_at, literal_at}
 use Rattle.gq_command.proofs.Loop.{goes_on, stops, fails, runs_out}
 use Rattle.gq_command.proofs.parsing.literals_of.Goals as goal
 

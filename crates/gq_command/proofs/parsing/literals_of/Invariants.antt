@@ -1,6 +1,7 @@
 use Rattle.std.proofs.Common.{◌≡◌, ◌-◌, length}
-use Rattle.gq_command.specs.declared.token.Terminal.TheVariants as terminal
-use Rattle.gq_command.specs.Reading.{skip, items_within, items_at, literal_at}
+use Rattle.gq_token.specs.declared.token.Terminal.TheVariants as terminal
+use Rattle.gq_token.specs.Queue.{skip}
+use Rattle.gq_command.specs.Reading.{items_within, items_at, literal_at}
 use Rattle.gq_command.proofs.Loop.{with_front}
 use Rattle.gq_command.proofs.parsing.literals_of.Given as goal
 

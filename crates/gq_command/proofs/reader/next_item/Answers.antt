@@ -1,22 +1,10 @@
-use Rattle.std.proofs.Common.{◌≡◌, ◌∙◌, sym, true, false}
-use Rattle.gq_command.specs.Script.{content, is_skipped}
-use Rattle.gq_command.specs.Gathering.{TookLine}
-use Rattle.gq_command.proofs.Passing.{passed_line, passed_to, passed_all}
+use Rattle.std.proofs.Common.{◌≡◌, ◌∙◌, sym, true, false, subst}
+use Rattle.gq_script.specs.Script.{Loading, content, is_skipped, takes_payload}
+use Rattle.gq_script.specs.Gathering.{TookLine}
+use Rattle.gq_command.specs.Items.{IsReadAs}
+use Rattle.gq_command.proofs.Loaded.{loaded}
+use Rattle.gq_command.proofs.Passing.{passed_line, passed_to, passed_load, passed_all}
 use Rattle.gq_command.proofs.reader.next_item.Goals as goal
-
-pub returns-then-not-is_skipped-clause-item : goal.returns-then-not-is_skipped-clause-item
-returns-then-not-is_skipped-clause-item g c =
-    let l = c.args.limits.now.bounds in
-    let t : TookLine l c.loop.source c.take_line.new.source c.in-Some.line = rw c.in-Some.is at c.in_ok-line.ensures.line in
-    let e : is_skipped (content t.raw) ≡ false = sym (c.is_skipped.ensures l.line (content t.raw) t.gathers) ∙ c.if-not-is_skipped.true in
-    (passed_to l c.args.source.now c.loop.source c.take_line.new.source c.in-Some.line t c.item_of.result c.loop.invariant e (c.item_of.ensures.reads (content t.raw) t.gathers e)).0
-
-pub returns-then-not-is_skipped-clause-counted : goal.returns-then-not-is_skipped-clause-counted
-returns-then-not-is_skipped-clause-counted g c =
-    let l = c.args.limits.now.bounds in
-    let t : TookLine l c.loop.source c.take_line.new.source c.in-Some.line = rw c.in-Some.is at c.in_ok-line.ensures.line in
-    let e : is_skipped (content t.raw) ≡ false = sym (c.is_skipped.ensures l.line (content t.raw) t.gathers) ∙ c.if-not-is_skipped.true in
-    (passed_to l c.args.source.now c.loop.source c.take_line.new.source c.in-Some.line t c.item_of.result c.loop.invariant e (c.item_of.ensures.reads (content t.raw) t.gathers e)).1
 
 pub loop-preserved : goal.loop-preserved
 loop-preserved g c =
@@ -29,3 +17,37 @@ pub returns-in_default-clause-end : goal.returns-in_default-clause-end
 returns-in_default-clause-end g c =
     let h = rw c.in_default.is at c.in_ok-line.ensures.end in
     (passed_all c.args.limits.now.bounds c.args.source.now c.loop.source c.take_line.new.source c.loop.invariant h.0 h.1).0
+
+pub returns-then-not-loads-clause-item : goal.returns-then-not-loads-clause-item
+returns-then-not-loads-clause-item g c =
+    let l = c.args.limits.now.bounds in
+    let t : TookLine l c.loop.source c.take_line.new.source c.in-Some.line = rw c.in-Some.is at c.in_ok-line.ensures.line in
+    let e : is_skipped (content t.raw) ≡ false = sym (c.is_skipped.ensures l.line (content t.raw) t.gathers) ∙ c.if-not-is_skipped.true in
+    let q : takes_payload l (content t.raw) ≡ false = sym (c.takes_payload-loads.ensures l (content t.raw) t.gathers) ∙ c.if-not-loads.true in
+    (passed_to l c.args.source.now c.loop.source c.take_line.new.source c.in-Some.line t c.item_of-item.result c.loop.invariant e q (c.item_of-item.ensures.reads (content t.raw) t.gathers e)).0
+
+pub returns-then-not-loads-clause-counted : goal.returns-then-not-loads-clause-counted
+returns-then-not-loads-clause-counted g c =
+    let l = c.args.limits.now.bounds in
+    let t : TookLine l c.loop.source c.take_line.new.source c.in-Some.line = rw c.in-Some.is at c.in_ok-line.ensures.line in
+    let e : is_skipped (content t.raw) ≡ false = sym (c.is_skipped.ensures l.line (content t.raw) t.gathers) ∙ c.if-not-is_skipped.true in
+    let q : takes_payload l (content t.raw) ≡ false = sym (c.takes_payload-loads.ensures l (content t.raw) t.gathers) ∙ c.if-not-loads.true in
+    (passed_to l c.args.source.now c.loop.source c.take_line.new.source c.in-Some.line t c.item_of-item.result c.loop.invariant e q (c.item_of-item.ensures.reads (content t.raw) t.gathers e)).1
+
+pub returns-then-not-is_skipped-clause-item : goal.returns-then-not-is_skipped-clause-item
+returns-then-not-is_skipped-clause-item g c =
+    let l = c.args.limits.now.bounds in
+    let t : TookLine l c.loop.source c.take_line.new.source c.in-Some.line = rw c.in-Some.is at c.in_ok-line.ensures.line in
+    let e : is_skipped (content t.raw) ≡ false = sym (c.is_skipped.ensures l.line (content t.raw) t.gathers) ∙ c.if-not-is_skipped.true in
+    let q : takes_payload l (content t.raw) ≡ true = sym (c.takes_payload-loads.ensures l (content t.raw) t.gathers) ∙ c.if-not-loads.false in
+    (passed_load l c.args.source.now c.loop.source c.take_line.new.source c.take_payload.new.source c.in-Some.line t c.in_ok-kept.kept c.with_payload.result c.loop.invariant e q c.in_ok-kept.ensures.taken
+    (λ told s. subst (IsReadAs l (Loading (content t.raw) told)) (sym c.with_payload.ensures) (loaded l (content t.raw) told c.payload_of.result c.item_of-item.result q (c.item_of-item.ensures.reads (content t.raw) t.gathers e)))).0
+
+pub returns-then-not-is_skipped-clause-counted : goal.returns-then-not-is_skipped-clause-counted
+returns-then-not-is_skipped-clause-counted g c =
+    let l = c.args.limits.now.bounds in
+    let t : TookLine l c.loop.source c.take_line.new.source c.in-Some.line = rw c.in-Some.is at c.in_ok-line.ensures.line in
+    let e : is_skipped (content t.raw) ≡ false = sym (c.is_skipped.ensures l.line (content t.raw) t.gathers) ∙ c.if-not-is_skipped.true in
+    let q : takes_payload l (content t.raw) ≡ true = sym (c.takes_payload-loads.ensures l (content t.raw) t.gathers) ∙ c.if-not-loads.false in
+    (passed_load l c.args.source.now c.loop.source c.take_line.new.source c.take_payload.new.source c.in-Some.line t c.in_ok-kept.kept c.with_payload.result c.loop.invariant e q c.in_ok-kept.ensures.taken
+    (λ told s. subst (IsReadAs l (Loading (content t.raw) told)) (sym c.with_payload.ensures) (loaded l (content t.raw) told c.payload_of.result c.item_of-item.result q (c.item_of-item.ensures.reads (content t.raw) t.gathers e)))).1

@@ -1,0 +1,11 @@
+pub mod EachRow
+pub mod Filling
+pub mod Fits
+pub mod Names
+pub mod Numbers
+pub mod Onward
+pub mod Places
+pub mod Spelling
+pub mod Taking
+pub mod Texts
+pub mod Vectors

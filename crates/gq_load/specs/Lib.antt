@@ -1,0 +1,8 @@
+pub mod Answers
+pub mod Fields
+pub mod Fitting
+pub mod Headers
+pub mod Laws
+pub mod Numbers
+pub mod Payloads
+pub mod Unread

@@ -1,0 +1,26 @@
+//! Laws: what the definitions come to, in the subject's own words. Each is the contract of a
+//! function that does nothing.
+ghost use Rattle.gq_load.specs.Laws.{ReadsInts, ReadsNulls, ReadsRecords, StandsUnderItsName};
+
+/// The value of a field stands in the column that the header names above it.
+pub fn stands_under_its_name()
+    ensures { StandsUnderItsName }
+{}
+
+/// Data records have one row each, in their order; or the fault is that of the first faulty record,
+/// with its number.
+pub fn reads_records()
+    ensures { ReadsRecords }
+{}
+
+/// `\N` is null in every column, whether it was quoted or not. An empty field is null in an INT
+/// column, and the empty text in a TEXT column.
+pub fn reads_nulls()
+    ensures { ReadsNulls }
+{}
+
+/// A field is read as a number exactly where it is spaces, an optional sign, digits and spaces, and
+/// the number fits 64 bits.
+pub fn reads_ints()
+    ensures { ReadsInts }
+{}

@@ -1,0 +1,161 @@
+//! Loads while memory runs out: first with none, then with a little more each time, so that each
+//! request is the first to be refused in some run.
+use crate::tables::{Table, schema};
+use gq_load::{LoadRefusal, load_rows};
+use gq_row::{Limits, Row, Sequence, Value};
+use std::alloc::{AllocError, Global};
+use std::test::Fail;
+
+// The size of a pool in bytes, small enough that the allocator keeps it among its own.
+const POOL: usize = 100_000;
+
+// More pools than there are steps.
+const POOLS: usize = 1_000;
+
+// By how many bytes what is left grows with each step.
+const STEP: usize = 16;
+
+// More blocks than there are of any size that is tried.
+const BLOCKS: usize = 500_000;
+
+// The first size that is tried, in bytes: half of what a process can address.
+const GREATEST: usize = 1 << 46;
+
+/// All memory that there was, some of it in pools that can be given back.
+#[derive(Drop)]
+struct Starved {
+    held: Vec<Vec<u8>>,
+    pools: Vec<Vec<u8>>,
+}
+
+impl Starved {
+    /// Takes the pools, and then blocks of the greatest size until none is had, then of half of it,
+    /// down to one byte.
+    fn new(alloc: Global) -> Result<Starved, AllocError> {
+        let mut pools = Vec::with_capacity(alloc, POOLS)?;
+        for _ in 0..POOLS {
+            pools.push(Vec::with_capacity(alloc, POOL)?)?;
+        }
+        let mut starved = Starved {
+            held: Vec::with_capacity(alloc, BLOCKS)?,
+            pools,
+        };
+        for halvings in 0..=46u32 {
+            starved.take_all(alloc, GREATEST >> halvings);
+        }
+        Ok(starved)
+    }
+
+    // Takes blocks of one size until none is had.
+    fn take_all(&mut self, alloc: Global, size: usize) {
+        for _ in self.held.len()..self.held.capacity() {
+            let Ok(block) = Vec::with_capacity(alloc, size) else {
+                return;
+            };
+            let _ = self.held.push(block);
+        }
+    }
+
+    // Takes what little there is: blocks of each small size, then of half the size each time, then of
+    // each small size.
+    fn take_rest(&mut self, alloc: Global) {
+        for k in 0..64usize {
+            self.take_all(alloc, 24 + 16 * k);
+        }
+        for halvings in 0..=17u32 {
+            self.take_all(alloc, (1 << 17) >> halvings);
+        }
+        for k in 0..64usize {
+            self.take_all(alloc, 24 + 16 * k);
+        }
+    }
+
+    /// Leaves so many bytes, or none where there is no pool any more, for one run.
+    fn leave(&mut self, alloc: Global, bytes: usize) -> Result<Vec<u8>, AllocError> {
+        drop(self.pools.pop());
+        Vec::with_capacity(alloc, POOL.saturating_sub(bytes))
+    }
+
+    /// Takes back what a run had, and what was kept from it.
+    fn end(&mut self, alloc: Global, kept: Vec<u8>) {
+        if self.held.len() < self.held.capacity() {
+            let _ = self.held.push(kept);
+        }
+        self.take_rest(alloc);
+    }
+}
+
+const PAYLOAD: &[u8] =
+    b"city,id\nOslo,1\n\"a city of a name that takes a block of its own\",2\nRome,3\n,4\n\\N,5\nBern,6\n";
+
+const FAULTY: &[u8] = b"city,id\nOslo,1\nBern,2\nRome,3.5\n";
+
+fn is_city(row: &Row, id: i64, city: Option<&str>) -> bool {
+    match row.cells() {
+        [Value::Int(n), Value::Text(text)] => *n == id && city == Some(text.as_str()),
+        [Value::Int(n), Value::Null] => *n == id && city.is_none(),
+        _ => false,
+    }
+}
+
+fn are_cities(rows: &Sequence<Row>) -> bool {
+    match rows.as_slice() {
+        [a, b, c, d, e, f] => {
+            is_city(a, 1, Some("Oslo"))
+                && is_city(b, 2, Some("a city of a name that takes a block of its own"))
+                && is_city(c, 3, Some("Rome"))
+                && is_city(d, 4, Some(""))
+                && is_city(e, 5, None)
+                && is_city(f, 6, Some("Bern"))
+        }
+        _ => false,
+    }
+}
+
+#[test]
+fn each_request_refused_in_turn(rt: HostRuntime) -> Result<(), Fail> {
+    let alloc = rt.alloc();
+    let Some(schema) = schema(alloc, Table::Cities) else {
+        assert!(rt; false);
+        return Ok(());
+    };
+    let limits = Limits::greatest();
+    let mut starved = Starved::new(alloc)?;
+    assert!(rt;
+        matches!(
+            load_rows(alloc, PAYLOAD, &schema, &limits),
+            Err(LoadRefusal::Memory)
+        )
+    );
+    let mut refused = 0usize;
+    let mut told = 0usize;
+    for step in 0..POOLS {
+        let kept = starved.leave(alloc, STEP.saturating_mul(step))?;
+        match load_rows(alloc, FAULTY, &schema, &limits) {
+            Err(LoadRefusal::BadInt(3)) => told = told.saturating_add(1),
+            Err(LoadRefusal::Memory) => {}
+            _ => assert!(rt; false, "step {step}"),
+        }
+        let answer = load_rows(alloc, PAYLOAD, &schema, &limits);
+        let is_whole = match &answer {
+            Ok(rows) => {
+                assert!(rt; are_cities(rows), "step {step}");
+                true
+            }
+            Err(refusal) => {
+                assert_eq!(rt; *refusal, LoadRefusal::Memory);
+                false
+            }
+        };
+        drop(answer);
+        starved.end(alloc, kept);
+        if is_whole {
+            break;
+        }
+        refused = refused.saturating_add(1);
+    }
+    // The requests grow from a few bytes to some hundred, so many steps were refused.
+    assert!(rt; 10 < refused && refused < POOLS, "{refused} refused");
+    assert!(rt; 0 < told, "{refused} refused");
+    Ok(())
+}

@@ -1,0 +1,5 @@
+use Rattle.gq_row.proofs.ClassLemmas.{unequal_key}
+use Rattle.gq_row.proofs.row.Row.has_key.Goals as goal
+
+pub returns-then-positions-key : goal.returns-then-positions-key
+returns-then-positions-key c = unequal_key c.args.positions.now c.args.self.now c.args.key.now c.if-positions-key.true

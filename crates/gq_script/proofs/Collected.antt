@@ -1,0 +1,240 @@
+-- A payload, piece by piece and line by line.
+use Rattle.std.proofs.Common.{◌≡◌, ℕ, ◌+◌, ◌<◌, ◌≤◌, Bool, true, false, cond, List, [], ◌∷◌, ◌++◌, length, Option, Some, None, refl, sym, ap, subst, ◌∙◌, arith, append_assoc, length-append}
+use Rattle.std.proofs.lemmas.List.{append-nil}
+use Rattle.std.specs.Prelude.{IfSome, ◌&&◌}
+use Rattle.std.specs.List.{list_all}
+use Rattle.std.specs.Io.KnownBytes.{Consumes, IsAtEnd}
+use Rattle.gq_script.specs.declared.payload.EndMark.{EndMark}
+use Rattle.gq_script.specs.declared.payload.EndMark.TheVariants as mark
+use Rattle.gq_script.specs.declared.payload.Kept.{Kept}
+use Rattle.gq_token.specs.Texts.{Bytes}
+use Rattle.gq_script.specs.Payloads.{mark_after, mark_of, is_other, is_closing, held, is_plain, Holds, IsPiece, IsPayloadOf, TookPayloadLine, TookPayload, Unclosed}
+use Rattle.gq_script.specs.Script.{Counts, Stream, Takes, raw_lines, content, is_end_mark, payload_of}
+use Rattle.gq_script.proofs.Front.{Known, Rises}
+use Rattle.gq_script.proofs.Ends.{raw_unended}
+use Rattle.gq_script.proofs.Gathered.{took_none, took_more, first_ended, first_unended}
+use Rattle.gq_script.proofs.Marks.{mark_of-append, is_the_other, was_not_other, held_is, closes_unended, closes_ended, ended_other, closing_is_not_other}
+
+-- the pieces of a line, as far as they came
+
+pub record Collecting (most : ℕ) (a b : Stream) (old new : Kept) (m : EndMark) (raw : Bytes) : Type 0 where
+  pub taken : Takes a b raw
+  pub plain : list_all is_plain raw ≡ true
+  pub mark_is : m ≡ mark_of mark.Start raw
+  pub may_be : is_other m ≡ false → new ≡ old
+  pub other : is_other m ≡ true → (front : Bytes) → Holds most old front → Holds most new (front ++ raw)
+
+pub started : (most : ℕ) (s : Stream) (k : Kept) → Collecting most s s k k mark.Start []
+started most s k = record { taken = took_none s; plain = refl; mark_is = refl; may_be = λ e. refl; other = λ e. absurd cc }
+
+-- what adding a piece did
+pub record Added (most : ℕ) (m : EndMark) (piece : Bytes) (old new : Kept) : Type 0 where
+  pub may_be : is_other (mark_of m piece) ≡ false → new ≡ old
+  pub other : is_other (mark_of m piece) ≡ true → (front : Bytes) → Holds most old front → Holds most new (front ++ held m ++ piece)
+
+still_may_be : (most : ℕ) (a b : Stream) (old mid new : Kept) (m : EndMark) (raw piece : Bytes) → Collecting most a b old mid m raw → Added most m piece mid new → is_other (mark_of m piece) ≡ false → new ≡ old
+still_may_be most a b old mid new m raw piece t add e = add.may_be e ∙ t.may_be (was_not_other m piece e)
+
+grown : (most : ℕ) (a b : Stream) (old mid new : Kept) (m : EndMark) (raw piece : Bytes) → Collecting most a b old mid m raw → Added most m piece mid new → is_other (mark_of m piece) ≡ true
+    → (front : Bytes) → Holds most old front → Holds most new (front ++ (raw ++ piece))
+grown most a b old mid new m raw piece t add e front h = by_other (is_other m) refl
+  where
+    by_other : (v : Bool) → is_other m ≡ v → Holds most new (front ++ (raw ++ piece))
+    by_other true f =
+        let none : held m ≡ [] = ap held (is_the_other m f) in
+        let same : ((front ++ raw) ++ held m) ++ piece ≡ front ++ (raw ++ piece) =
+        ap (λ (l : Bytes). ((front ++ raw) ++ l) ++ piece) none ∙ ap (λ (l : Bytes). l ++ piece) (append-nil (front ++ raw)) ∙ append_assoc front raw piece in
+        subst (Holds most new) same (add.other e (front ++ raw) (t.other f front h))
+    by_other false f =
+        let line : held m ≡ raw = ap held t.mark_is ∙ held_is raw t.plain (sym (ap is_other t.mark_is) ∙ f) in
+        let same : (front ++ held m) ++ piece ≡ front ++ (raw ++ piece) = ap (λ (l : Bytes). (front ++ l) ++ piece) line ∙ append_assoc front raw piece in
+        subst (Holds most new) same (add.other e front (subst (λ (k : Kept). Holds most k front) (sym (t.may_be f)) h))
+
+plain_append : (xs ys : Bytes) → list_all is_plain xs ≡ true → list_all is_plain ys ≡ true → list_all is_plain (xs ++ ys) ≡ true
+plain_append [] ys h k = k
+plain_append (x ∷ xs) ys h k = by_test (is_plain x) refl (plain_append xs ys)
+  where
+    by_test : (t : Bool) → is_plain x ≡ t → (list_all is_plain xs ≡ true → list_all is_plain ys ≡ true → list_all is_plain (xs ++ ys) ≡ true) → list_all is_plain (x ∷ (xs ++ ys)) ≡ true
+    by_test true e others = ap (λ (t : Bool). t && list_all is_plain (xs ++ ys)) e ∙ others (sym (ap (λ (t : Bool). t && list_all is_plain xs) e) ∙ h) k
+    by_test false e others = let f : false ≡ true = sym (ap (λ (t : Bool). t && list_all is_plain xs) e) ∙ h in absurd cc
+
+marked : (m : EndMark) (raw piece : Bytes) → m ≡ mark_of mark.Start raw → mark_of m piece ≡ mark_of mark.Start (raw ++ piece)
+marked m raw piece e = ap (λ (v : EndMark). mark_of v piece) e ∙ sym (mark_of-append mark.Start raw piece)
+
+pub fed : (most : ℕ) (a b c : Stream) (old mid new : Kept) (m m1 : EndMark) (raw piece : Bytes) → Collecting most a b old mid m raw → Takes b c piece → m1 ≡ mark_of m piece → Added most m piece mid new → IsPiece false piece
+    → Collecting most a c old new m1 (raw ++ piece)
+fed most a b c old mid new m m1 raw piece t more is add plain = record {
+  taken = took_more a b c raw piece t.taken more;
+  plain = plain_append raw piece t.plain plain;
+  mark_is = is ∙ marked m raw piece t.mark_is;
+  may_be = λ e. still_may_be most a b old mid new m raw piece t add (sym (ap is_other is) ∙ e);
+  other = λ e. grown most a b old mid new m raw piece t add (sym (ap is_other is) ∙ e);
+}
+
+pub ended : (most : ℕ) (a b c : Stream) (old mid new : Kept) (m m1 : EndMark) (raw piece : Bytes) (ends : Bool) → Collecting most a b old mid m raw → Takes b c piece → m1 ≡ mark_of m piece → Added most m piece mid new → IsPiece true piece
+    → ends ≡ is_closing m1 → TookPayloadLine most a c old new ends
+ended most a b c old mid new m m1 raw piece ends t more is add p told =
+    let plain : Bytes = p.0 in
+    let front : Bytes = raw ++ plain in
+    let fine : list_all is_plain front ≡ true = plain_append raw plain t.plain p.2 in
+    let line : raw ++ piece ≡ front ++ 10 ∷ [] = ap (λ (l : Bytes). raw ++ l) p.1 ∙ sym (append_assoc raw plain (10 ∷ [])) in
+    let all : Takes a c (raw ++ piece) = took_more a b c raw piece t.taken more in
+    let now : m1 ≡ mark_of mark.Start (front ++ 10 ∷ []) = is ∙ marked m raw piece t.mark_is ∙ ap (mark_of mark.Start) line in
+    let last : m1 ≡ mark_after (mark_of mark.Start front) 10 = now ∙ mark_of-append mark.Start front (10 ∷ []) in
+    record {
+      raw = raw ++ piece;
+      taken = all;
+      first = subst (λ (l : Bytes). IfSome a.left (λ xs. IfSome c.left (λ ys. raw_lines xs ≡ l ∷ raw_lines ys))) (sym line) (first_ended a.left c.left front fine (subst (Consumes a.left c.left) line all.bytes_are));
+      told = told ∙ ap is_closing now ∙ closes_ended front fine ∙ ap (λ (l : Bytes). is_end_mark (content l)) (sym line);
+      mark = λ e. still_may_be most a b old mid new m raw piece t add (sym (ap is_other is) ∙ closing_is_not_other m1 (sym told ∙ e));
+      line = λ e. grown most a b old mid new m raw piece t add (sym (ap is_other is) ∙ ap is_other last ∙ ended_other (mark_of mark.Start front) (sym (ap is_closing last) ∙ sym told ∙ e));
+    }
+
+-- the script's end behind a mark
+
+some_bytes : (raw : Bytes) → is_closing (mark_of mark.Start raw) ≡ true → 0 < length raw
+some_bytes [] e = absurd cc
+some_bytes (b ∷ raw) e = omega arith
+
+pub marked_at_end : (most : ℕ) (a b c : Stream) (old new : Kept) (m : EndMark) (raw : Bytes) → Collecting most a b old new m raw → Takes b c [] → IsAtEnd b.left → is_closing m ≡ true → TookPayloadLine most a c old new true
+marked_at_end most a b c old new m raw t more e closes =
+    let all : Takes a c raw = subst (Takes a c) (append-nil raw) (took_more a b c raw [] t.taken more) in
+    record {
+      raw = raw;
+      taken = all;
+      first = first_unended a.left b.left c.left raw t.plain (some_bytes raw (sym (ap is_closing t.mark_is) ∙ closes)) t.taken.bytes_are e more.bytes_are;
+      told = sym closes ∙ ap is_closing t.mark_is ∙ closes_unended raw t.plain;
+      mark = λ f. t.may_be (closing_is_not_other m closes);
+      line = λ f. absurd cc;
+    }
+
+-- the script's end behind anything else
+
+counts_by : (k n : Known) (g0 g1 : ℕ) (raw : Bytes) → Consumes k n raw → Rises k g0 g1 (length raw) → IfSome k (λ xs. IfSome n (λ ys. g1 + length ys ≡ g0 + length xs))
+counts_by None n g0 g1 raw c r = tt
+counts_by (Some xs) None g0 g1 raw c r = absurd c
+counts_by (Some xs) (Some ys) g0 g1 raw c r =
+    let len : length xs ≡ length raw + length ys = ap length c ∙ length-append raw ys in
+    omega arith
+
+pub counts : (a b : Stream) (raw : Bytes) → Takes a b raw → Counts a b
+counts a b raw t = counts_by a.left b.left a.given b.given raw t.bytes_are t.counted
+
+closes_not : (raw : Bytes) (ls : List Bytes) → is_end_mark (content raw) ≡ false → payload_of (raw ∷ ls) ≡ elim (payload_of ls) [ None ↦ None | Some x ↦ Some (raw ++ x.0, x.1) ]
+closes_not raw ls e = ap (λ (b : Bool). cond b (Some ([], ls)) (elim (payload_of ls) [ None ↦ None | Some x ↦ Some (raw ++ x.0, x.1) ])) e
+
+none_closes : (raw : Bytes) → list_all is_plain raw ≡ true → is_closing (mark_of mark.Start raw) ≡ false → payload_of (raw_lines raw) ≡ None
+none_closes [] plain e = refl
+none_closes (b ∷ raw) plain e = ap payload_of (raw_unended b raw plain) ∙ closes_not (b ∷ raw) [] (sym (closes_unended (b ∷ raw) plain) ∙ e)
+
+unclosed_by : (k m n : Known) (raw : Bytes) → list_all is_plain raw ≡ true → is_closing (mark_of mark.Start raw) ≡ false → Consumes k m raw → IsAtEnd m → Consumes m n [] → IfSome k (λ xs. (payload_of (raw_lines xs) ≡ None) × (n ≡ Some []))
+unclosed_by None m n raw plain f h e k = tt
+unclosed_by (Some xs) None n raw plain f h e k = absurd h
+unclosed_by (Some xs) (Some zs) None raw plain f h e k = absurd k
+unclosed_by (Some xs) (Some zs) (Some ys) raw plain f h e k =
+    let all : xs ≡ raw = h ∙ ap (λ (l : Bytes). raw ++ l) e ∙ append-nil raw in
+    (ap (λ (l : Bytes). payload_of (raw_lines l)) all ∙ none_closes raw plain f, ap Some (sym k ∙ e))
+
+pub unclosed : (most : ℕ) (a b c : Stream) (old new : Kept) (m : EndMark) (raw : Bytes) → Collecting most a b old new m raw → Takes b c [] → IsAtEnd b.left → is_closing m ≡ false → Unclosed a c
+unclosed most a b c old new m raw t more e none =
+    let all : Takes a c raw = subst (Takes a c) (append-nil raw) (took_more a b c raw [] t.taken more) in
+    record {
+      open_is = unclosed_by a.left b.left c.left raw t.plain (sym (ap is_closing t.mark_is) ∙ none) t.taken.bytes_are e more.bytes_are;
+      counted = counts a c raw all;
+    }
+
+-- the lines of a payload
+
+some_is : {A : Type 0} (x y : A) → Some x ≡ Some y → x ≡ y
+some_is x y e = cc
+
+abbrev pub prefixed : Bytes → Option (Bytes × List Bytes) → Option (Bytes × List Bytes)
+prefixed front None = None
+prefixed front (Some x) = Some (front ++ x.0, x.1)
+
+abbrev pub PassedBy : Bytes → Known → Known → ℕ → ℕ → Type 0
+PassedBy front k m g0 g1 = IfSome k (λ xs. (ys : Bytes) × (m ≡ Some ys) × (payload_of (raw_lines xs) ≡ prefixed front (payload_of (raw_lines ys))) × (g1 + length ys ≡ g0 + length xs))
+
+pub record Within (most : ℕ) (a b : Stream) (k : Kept) (front : Bytes) : Type 0 where
+  pub holds : Holds most k front
+  pub passed : PassedBy front a.left b.left a.given b.given
+
+prefixed_none : (o : Option (Bytes × List Bytes)) → o ≡ prefixed [] o
+prefixed_none None = refl
+prefixed_none (Some x) = refl
+
+begun : (k : Known) (g : ℕ) → PassedBy [] k k g g
+begun None g = tt
+begun (Some xs) g = (xs, refl, prefixed_none (payload_of (raw_lines xs)), refl)
+
+pub within_none : (most : ℕ) (s : Stream) (k : Kept) → Holds most k [] → Within most s s k []
+within_none most s k h = record { holds = h; passed = begun s.left s.given }
+
+line_passed : (raw : Bytes) (ls : List Bytes) → is_end_mark (content raw) ≡ false → payload_of (raw ∷ ls) ≡ prefixed raw (payload_of ls)
+line_passed raw ls e = closes_not raw ls e ∙ as_prefixed (payload_of ls)
+  where
+    as_prefixed : (o : Option (Bytes × List Bytes)) → elim o [ None ↦ None | Some x ↦ Some (raw ++ x.0, x.1) ] ≡ prefixed raw o
+    as_prefixed None = refl
+    as_prefixed (Some x) = refl
+
+line_closes : (raw : Bytes) (ls : List Bytes) → is_end_mark (content raw) ≡ true → payload_of (raw ∷ ls) ≡ Some ([], ls)
+line_closes raw ls e = ap (λ (b : Bool). cond b (Some ([], ls)) (elim (payload_of ls) [ None ↦ None | Some x ↦ Some (raw ++ x.0, x.1) ])) e
+
+twice : (front raw : Bytes) (o : Option (Bytes × List Bytes)) → prefixed front (prefixed raw o) ≡ prefixed (front ++ raw) o
+twice front raw None = refl
+twice front raw (Some x) = ap (λ (l : Bytes). Some (l, x.1)) (sym (append_assoc front raw x.0))
+
+-- one more line, of which goal tells what it comes to
+by_line : (front : Bytes) (k m n : Known) (g0 g1 g2 : ℕ) (raw : Bytes) (P : Bytes → Bytes → Type 0) → PassedBy front k m g0 g1 → Consumes m n raw → Rises m g1 g2 (length raw) → IfSome m (λ xs. IfSome n (λ ys. raw_lines xs ≡ raw ∷ raw_lines ys))
+    → ((xs ws : Bytes) → payload_of (raw_lines xs) ≡ prefixed front (payload_of (raw ∷ raw_lines ws)) → P xs ws) → IfSome k (λ xs. (ys : Bytes) × (n ≡ Some ys) × P xs ys × (g2 + length ys ≡ g0 + length xs))
+by_line front None m n g0 g1 g2 raw P h c g f goal = tt
+by_line front (Some xs) None n g0 g1 g2 raw P h c g f goal = let q = h.1 in absurd cc
+by_line front (Some xs) (Some zs) None g0 g1 g2 raw P h c g f goal = absurd c
+by_line front (Some xs) (Some zs) (Some ws) g0 g1 g2 raw P h c g f goal =
+    let same : zs ≡ h.0 = some_is zs h.0 h.1 in
+    let len : length zs ≡ length raw + length ws = ap length c ∙ length-append raw ws in
+    let len1 : length zs ≡ length h.0 = ap length same in
+    let len2 : g1 + length h.0 ≡ g0 + length xs = h.3 in
+    (ws, refl, goal xs ws (h.2 ∙ ap (λ (l : Bytes). prefixed front (payload_of (raw_lines l))) (sym same) ∙ ap (λ (l : List Bytes). prefixed front (payload_of l)) f), omega arith)
+
+pub within_more : (most : ℕ) (a b c : Stream) (p q : Kept) (ends : Bool) (front : Bytes) (t : TookPayloadLine most b c p q ends) → Within most a b p front → ends ≡ false → Within most a c q (front ++ t.raw)
+within_more most a b c p q ends front t w e = record {
+  holds = t.line e front w.holds;
+  passed = by_line front a.left b.left c.left a.given b.given c.given t.raw (λ (xs ys : Bytes). payload_of (raw_lines xs) ≡ prefixed (front ++ t.raw) (payload_of (raw_lines ys))) w.passed t.taken.bytes_are t.taken.counted t.first
+      (λ xs ws h. h ∙ ap (prefixed front) (line_passed t.raw (raw_lines ws) (sym t.told ∙ e)) ∙ twice front t.raw (payload_of (raw_lines ws)));
+}
+
+closed_by : (most : ℕ) (front : Bytes) (k n : Known) (g0 g2 : ℕ) (q : Kept) → IfSome k (λ xs. (ys : Bytes) × (n ≡ Some ys) × (payload_of (raw_lines xs) ≡ Some (front, raw_lines ys)) × (g2 + length ys ≡ g0 + length xs)) → Holds most q front
+    → IfSome k (λ xs. IsPayloadOf most (payload_of (raw_lines xs)) n (Some q)) × IfSome k (λ xs. IfSome n (λ ys. g2 + length ys ≡ g0 + length xs))
+closed_by most front None n g0 g2 q h s = (tt, tt)
+closed_by most front (Some xs) None g0 g2 q h s = let none = h.1 in absurd cc
+closed_by most front (Some xs) (Some ys) g0 g2 q h s =
+    let len : length ys ≡ length h.0 = ap length (some_is ys h.0 h.1) in
+    let len1 : g2 + length h.0 ≡ g0 + length xs = h.3 in
+    (subst (λ (o : Option (Bytes × List Bytes)). IsPayloadOf most o (Some ys) (Some q)) (sym h.2) (h.0, h.1, refl, s), omega arith)
+
+pub payload_closed : (most : ℕ) (a b c : Stream) (k q : Kept) (ends : Bool) (front : Bytes) (t : TookPayloadLine most b c k q ends) → Within most a b k front → ends ≡ true → TookPayload most a c (Some q)
+payload_closed most a b c k q ends front t w e =
+    let holds : Holds most q front = subst (λ (v : Kept). Holds most v front) (sym (t.mark e)) w.holds in
+    let r = closed_by most front a.left c.left a.given c.given q
+    (by_line front a.left b.left c.left a.given b.given c.given t.raw (λ (xs ys : Bytes). payload_of (raw_lines xs) ≡ Some (front, raw_lines ys)) w.passed t.taken.bytes_are t.taken.counted t.first
+    (λ xs ws h. h ∙ ap (prefixed front) (line_closes t.raw (raw_lines ws) (sym t.told ∙ e)) ∙ ap (λ (l : Bytes). Some (l, raw_lines ws)) (append-nil front)))
+    holds in
+    record { is = r.0; counted = r.1 }
+
+open_by : (most : ℕ) (front : Bytes) (k m n : Known) (g0 g1 g2 : ℕ) → PassedBy front k m g0 g1 → IfSome m (λ xs. (payload_of (raw_lines xs) ≡ None) × (n ≡ Some [])) → IfSome m (λ xs. IfSome n (λ ys. g2 + length ys ≡ g1 + length xs))
+    → IfSome k (λ xs. IsPayloadOf most (payload_of (raw_lines xs)) n None) × IfSome k (λ xs. IfSome n (λ ys. g2 + length ys ≡ g0 + length xs))
+open_by most front None m n g0 g1 g2 h u c = (tt, tt)
+open_by most front (Some xs) None n g0 g1 g2 h u c = let q = h.1 in absurd cc
+open_by most front (Some xs) (Some zs) None g0 g1 g2 h u c = let q = u.1 in absurd cc
+open_by most front (Some xs) (Some zs) (Some ys) g0 g1 g2 h u c =
+    let same : zs ≡ h.0 = some_is zs h.0 h.1 in
+    let len : length zs ≡ length h.0 = ap length same in
+    let len1 : g1 + length h.0 ≡ g0 + length xs = h.3 in
+    let none : payload_of (raw_lines xs) ≡ None = h.2 ∙ ap (λ (l : Bytes). prefixed front (payload_of (raw_lines l))) (sym same) ∙ ap (prefixed front) u.0 in
+    (subst (λ (o : Option (Bytes × List Bytes)). IsPayloadOf most o (Some ys) None) (sym none) (refl, u.1), omega arith)
+
+pub payload_open : (most : ℕ) (a b c : Stream) (k : Kept) (front : Bytes) → Within most a b k front → Unclosed b c → TookPayload most a c None
+payload_open most a b c k front w u =
+    let r = open_by most front a.left b.left c.left a.given b.given c.given w.passed u.open_is u.counted in
+    record { is = r.0; counted = r.1 }

@@ -1,0 +1,6 @@
+mod Collected
+mod Ends
+pub mod Front
+pub mod Gathered
+pub mod LoadWord
+mod Marks

@@ -1,0 +1,4 @@
+pub mod FirstWords
+pub mod Gathering
+pub mod Payloads
+pub mod Script

@@ -1,0 +1,96 @@
+-- What a payload is known by while its bytes come.
+use Rattle.std.specs.Prelude.{◌≡◌, ℕ, ◌≤◌, ◌<◌, ◌+◌, ◌==◌, ◌⊎◌, Bool, true, false, not, List, [], ◌∷◌, ◌++◌, length, Option, Some, None, IfSome, if◌then◌else◌}
+use Rattle.std.specs.List.{list_all}
+use Rattle.gq_script.specs.declared.payload.EndMark.{EndMark}
+use Rattle.gq_script.specs.declared.payload.EndMark.TheVariants as mark
+use Rattle.gq_script.specs.declared.payload.Kept.{Kept}
+use Rattle.gq_script.specs.declared.payload.Kept.TheVariants as kept
+use Rattle.gq_token.specs.Texts.{Bytes}
+use Rattle.gq_script.specs.Script.{Counts, Stream, Takes, raw_lines, content, is_end_mark, payload_of}
+
+-- how much of a line that may end a payload came, once another byte came
+abbrev pub mark_after : EndMark → ℕ → EndMark
+mark_after mark.Start b = if b == 92 then mark.Backslash else mark.Other
+mark_after mark.Backslash b = if b == 46 then mark.Dot else mark.Other
+mark_after mark.Dot b = if b == 13 then mark.Return else (if b == 10 then mark.Ended else mark.Other)
+mark_after mark.Return b = if b == 10 then mark.Ended else mark.Other
+mark_after mark.Ended b = mark.Other
+mark_after mark.Other b = mark.Other
+
+abbrev pub mark_of : EndMark → Bytes → EndMark
+mark_of m [] = m
+mark_of m (b ∷ bs) = mark_of (mark_after m b) bs
+
+abbrev pub is_other : EndMark → Bool
+is_other mark.Start = false
+is_other mark.Backslash = false
+is_other mark.Dot = false
+is_other mark.Return = false
+is_other mark.Ended = false
+is_other mark.Other = true
+
+-- the line ends a payload
+abbrev pub is_closing : EndMark → Bool
+is_closing mark.Start = false
+is_closing mark.Backslash = false
+is_closing mark.Dot = true
+is_closing mark.Return = false
+is_closing mark.Ended = true
+is_closing mark.Other = false
+
+-- the bytes that came, of a line that isn't ended
+abbrev pub held : EndMark → Bytes
+held mark.Start = []
+held mark.Backslash = 92 ∷ []
+held mark.Dot = 92 ∷ 46 ∷ []
+held mark.Return = 92 ∷ 46 ∷ 13 ∷ []
+held mark.Ended = []
+held mark.Other = []
+
+-- these bytes of the payload came
+abbrev pub Holds : ℕ → Kept → Bytes → Type 0
+Holds most (kept.Bytes v) bytes = (v.items ≡ bytes) × (length bytes ≤ most)
+Holds most kept.TooLong bytes = most < length bytes
+Holds most kept.Nothing bytes = Unit {0}
+
+-- what was kept of a payload of these bytes
+abbrev pub KeptOf : ℕ → Bytes → Option Kept → Type 0
+KeptOf most bytes None = ⊥
+KeptOf most bytes (Some kept) = Holds most kept bytes
+
+-- what was kept of a payload that was told, or is open
+abbrev pub KeptTold : ℕ → Option Bytes → Option Kept → Type 0
+KeptTold most None k = k ≡ None
+KeptTold most (Some bytes) k = KeptOf most bytes k
+
+abbrev pub is_plain : ℕ → Bool
+is_plain b = not (b == 10)
+
+-- a line's bytes with its LF, or some of its bytes
+abbrev pub IsPiece : Bool → Bytes → Type 0
+IsPiece true piece = (plain : Bytes) × (piece ≡ plain ++ 10 ∷ []) × (list_all is_plain plain ≡ true)
+IsPiece false piece = list_all is_plain piece ≡ true
+
+-- the first line was taken, and kept where it doesn't end the payload
+pub record TookPayloadLine (most : ℕ) (old new : Stream) (before after : Kept) (ends : Bool) : Type 0 where
+  pub raw : Bytes
+  pub taken : Takes old new raw
+  pub first : IfSome old.left (λ xs. IfSome new.left (λ ys. raw_lines xs ≡ raw ∷ raw_lines ys))
+  pub told : ends ≡ is_end_mark (content raw)
+  pub mark : ends ≡ true → after ≡ before
+  pub line : ends ≡ false → (front : Bytes) → Holds most before front → Holds most after (front ++ raw)
+
+-- all was taken, and no line of it ends a payload
+pub record Unclosed (old new : Stream) : Type 0 where
+  pub open_is : IfSome old.left (λ xs. (payload_of (raw_lines xs) ≡ None) × (new.left ≡ Some []))
+  pub counted : Counts old new
+
+-- what was kept of a payload that was told with the lines behind it, or is open, and what is left behind it
+abbrev pub IsPayloadOf : ℕ → Option (Bytes × List Bytes) → Option Bytes → Option Kept → Type 0
+IsPayloadOf most None left k = (k ≡ None) × (left ≡ Some [])
+IsPayloadOf most (Some told) left k = (rest : Bytes) × (left ≡ Some rest) × (told.1 ≡ raw_lines rest) × KeptOf most told.0 k
+
+-- a payload was taken, with the line that ends it
+pub record TookPayload (most : ℕ) (old new : Stream) (k : Option Kept) : Type 0 where
+  pub is : IfSome old.left (λ xs. IsPayloadOf most (payload_of (raw_lines xs)) new.left k)
+  pub counted : Counts old new

@@ -1,0 +1,43 @@
+//! The first word of a line, while its bytes come.
+ghost use Rattle.std.specs.Prelude.{◌≡◌};
+ghost use Rattle.gq_script.specs.FirstWords.{word_after, is_load};
+
+/// How much of the word `load` came.
+#[derive(Clone, Copy, Debug)]
+pub enum FirstWord {
+    /// Spaces and tabs alone.
+    Blank,
+    L,
+    Lo,
+    Loa,
+    Load,
+    /// `load`, and a byte of no word behind it.
+    Ended,
+    /// Another word, or none.
+    Other,
+}
+
+impl FirstWord {
+    #[inline]
+    pub fn after(self, byte: u8) -> FirstWord
+        ensures { result ≡ word_after self byte }
+    {
+        match self {
+            FirstWord::Blank if byte == b' ' || byte == b'\t' => FirstWord::Blank,
+            FirstWord::Blank if byte == b'l' || byte == b'L' => FirstWord::L,
+            FirstWord::L if byte == b'o' || byte == b'O' => FirstWord::Lo,
+            FirstWord::Lo if byte == b'a' || byte == b'A' => FirstWord::Loa,
+            FirstWord::Loa if byte == b'd' || byte == b'D' => FirstWord::Load,
+            FirstWord::Load if !byte.is_ascii_alphanumeric() && byte != b'_' => FirstWord::Ended,
+            FirstWord::Ended => FirstWord::Ended,
+            _ => FirstWord::Other,
+        }
+    }
+
+    #[inline]
+    pub fn is_load(self) -> bool
+        ensures { result ≡ is_load self }
+    {
+        matches!(self, FirstWord::Load | FirstWord::Ended)
+    }
+}

@@ -1,0 +1,172 @@
+//! Bytes of a reader, one after the other.
+ghost use Rattle.std.specs.Prelude.{◌≡◌, ◌≤◌, ◌<◌, [], ◌∷◌, IfOk, slice_range, length, take, if◌then◌else◌, true};
+ghost use Rattle.std.specs.Io.KnownBytes.{Keeps, Consumes, IsAtEnd};
+ghost use Rattle.std.specs.Str.{bytes_eq};
+ghost use Rattle.gq_script.specs.Script.{IsMarkOf, mark_length, waiting};
+
+use std::io::Read;
+use std::marker::Model;
+use thiserror::Error;
+
+/// A read that failed, or a script that is longer than the limit on its bytes.
+#[derive(Clone, Copy, Debug, PartialEq, Eq, Error)]
+#[error("a read failed, or the script is too long")]
+pub struct ReadFault;
+
+/// Reads four bytes at least, so that a byte-order mark is whole, unless the end comes before.
+fn read_front<R: Read>(reader: &mut R, buffer: &mut [u8]) -> Result<usize, ReadFault>
+    requires { 4 ≤ length buffer.old }
+    ensures within { IfOk result (λ n. n ≤ length buffer.new) }
+    ensures bytes { IfOk result (λ n. Consumes (R.remaining reader.old) (R.remaining reader.new) (take n buffer.new)) }
+    ensures end { IfOk result (λ n. n < 4 → IsAtEnd (R.remaining reader.new)) }
+{
+    let mut len = 0;
+    while len < 4 {
+        match reader.read(&mut buffer[len..]) {
+            Err(_) => return Err(ReadFault),
+            Ok(0) => return Ok(len),
+            Ok(count) => len += count,
+        }
+    }
+    Ok(len)
+}
+
+/// How long the byte-order mark at the front is.
+fn mark_len(bytes: &[u8]) -> usize
+    ensures value { result ≡ mark_length bytes.now }
+    ensures within { result ≤ length bytes.now }
+{
+    match bytes {
+        [0xEF, 0xBB, 0xBF, ..] => 3,
+        _ => 0,
+    }
+}
+
+/// Reads into the buffer, and answers where the bytes of the script begin and end there.
+fn refill<R: Read>(
+    reader: &mut R,
+    buffer: &mut [u8],
+    behind_mark: bool,
+) -> Result<(usize, usize), ReadFault>
+    requires { 4 ≤ length buffer.old }
+    ensures within { IfOk result (λ x. (x.0 ≤ x.1) × (x.1 ≤ length buffer.new)) }
+    ensures bytes { IfOk result (λ x. Keeps (waiting behind_mark [] (R.remaining reader.old)) (waiting true (slice_range buffer.new x.0 x.1) (R.remaining reader.new))) }
+    ensures end { IfOk result (λ x. x.0 ≡ x.1 → IsAtEnd (R.remaining reader.new)) }
+    ensures front { IfOk result (λ x. IsMarkOf behind_mark x.0 (R.remaining reader.old)) }
+{
+    if behind_mark {
+        match reader.read(buffer) {
+            Ok(len) => Ok((0, len)),
+            Err(_) => Err(ReadFault),
+        }
+    } else {
+        let len = read_front(reader, buffer)?;
+        Ok((mark_len(&buffer[..len]), len))
+    }
+}
+
+/// The bytes that a reader gives, read ahead into a fixed buffer, without a byte-order mark.
+/// `given` counts the bytes from the first on, the mark among them.
+#[derive(Drop)]
+pub struct Source<R: Read> {
+    reader: R,
+    buffer: [u8; 8192],
+    start: usize,
+    end: usize,
+    behind_mark: bool,
+    given: u64,
+}
+
+impl<R: Read> Model for Source<R> {
+    ghost use Rattle.gq_script.specs.Script.{Stream, given_with_mark, waiting};
+    ghost use Rattle.std.specs.Prelude.{slice_range, ◌≤◌, ◌≡◌, length, false};
+
+    ghost Value = { Stream };
+
+    ghost view = { λ s. record { left = waiting s.behind_mark (slice_range s.buffer s.start s.end) (R.remaining s.reader); given = given_with_mark s.behind_mark s.given (R.remaining s.reader); ahead = slice_range s.buffer s.start s.end } };
+
+    ghost invariant = { λ s. (s.start ≤ s.end) × (s.end ≤ length s.buffer) × (s.behind_mark ≡ false → (s.start ≡ s.end) × (s.given ≡ 0)) };
+}
+
+impl<R: Read> Source<R> {
+    ghost use Rattle.gq_script.specs.Script.{Takes, given_with_mark, waiting};
+    ghost use Rattle.std.specs.Io.KnownBytes.{IsAtEnd};
+    ghost use Rattle.std.specs.Prelude.{◌≡◌, ◌≤◌, ◌<◌, [], ◌∷◌, IfOk, IfSome, IfNone, OnOk, false, true, length, take};
+
+    pub fn new(reader: R) -> Source<R>
+        ensures left { result.left ≡ waiting false [] (R.remaining reader) }
+        ensures given { result.given ≡ given_with_mark false 0 (R.remaining reader) }
+    {
+        Source {
+            reader,
+            buffer: [0; 8192],
+            start: 0,
+            end: 0,
+            behind_mark: false,
+            given: 0,
+        }
+    }
+
+    /// Reads, where no byte waits that was read ahead. Answers whether one waits then; where none
+    /// does, the script is at its end. Where the mark alone is longer than `most`, that is a fault.
+    #[inline]
+    pub fn fill(&mut self, most: u64) -> Result<bool, ReadFault>
+        ensures same { OnOk result (Takes self.old self.new []) }
+        ensures within { OnOk result (self.new.given ≤ most) }
+        ensures waits { IfOk result (λ waits. waits ≡ true → 0 < length self.new.ahead) }
+        ensures end { IfOk result (λ waits. waits ≡ false → IsAtEnd self.old.left) }
+    {
+        if self.start == self.end {
+            let (start, end) = refill(&mut self.reader, &mut self.buffer, self.behind_mark)?;
+            // What lies before the start is the mark.
+            self.given += start as u64;
+            self.start = start;
+            self.end = end;
+            self.behind_mark = true;
+        }
+        if self.given > most {
+            return Err(ReadFault);
+        }
+        Ok(self.start < self.end)
+    }
+
+    /// The bytes that were read ahead and wait.
+    #[inline]
+    pub fn ahead(&self) -> &[u8]
+        ensures { result.now ≡ self.now.ahead }
+    {
+        let buffer: &[u8] = &self.buffer;
+        &buffer[self.start..self.end]
+    }
+
+    /// Takes so many of the bytes that wait. A byte past the first `most` of the script, a mark
+    /// among them, is a fault.
+    #[inline]
+    pub fn pass(&mut self, len: usize, most: u64) -> Result<(), ReadFault>
+        requires { len ≤ length self.old.ahead }
+        ensures taken { OnOk result (Takes self.old self.new (take len self.old.ahead)) }
+        ensures within { OnOk result (self.old.given ≤ most → self.new.given ≤ most) }
+    {
+        if most.saturating_sub(self.given) < len as u64 {
+            return Err(ReadFault);
+        }
+        self.start += len;
+        self.given += len as u64;
+        Ok(())
+    }
+
+    /// The next byte, or `None` at the end.
+    #[inline]
+    pub fn next_byte(&mut self, most: u64) -> Result<Option<u8>, ReadFault>
+        ensures some { IfOk result (λ b. IfSome b (λ b. Takes self.old self.new (b ∷ []))) }
+        ensures within { OnOk result (self.new.given ≤ most) }
+        ensures end { IfOk result (λ b. IfNone b (Takes self.old self.new [] × IsAtEnd self.old.left)) }
+    {
+        if !self.fill(most)? {
+            return Ok(None);
+        }
+        let byte = self.ahead()[0];
+        self.pass(1, most)?;
+        Ok(Some(byte))
+    }
+}

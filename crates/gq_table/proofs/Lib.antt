@@ -1,0 +1,4 @@
+pub mod LoadLemmas
+pub mod MapRows
+pub mod StandingLemmas
+pub mod StoredLemmas

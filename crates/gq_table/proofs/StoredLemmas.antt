@@ -1,0 +1,317 @@
+-- What a call leaves of a table whose rows stand in a map or in a list, and why it refuses.
+use Rattle.std.proofs.Common.{◌≡◌, ℕ, ◌+◌, ◌<◌, ◌≤◌, ◌⊎◌, inl, inr, Bool, true, false, cond, not, IsTrue, List, [], ◌∷◌, ◌++◌, length, Option, Some, None, Result, Ok, Err, refl, sym, ap, subst, ◌∙◌, arith, IsPermutation, length-append, append-nil, append_assoc}
+use Rattle.std.specs.Prelude.{nat_lt, OnOk, OnErr, IfErr}
+use Rattle.std.specs.List.{list_all}
+use Rattle.std.specs.FinMap.{empty, get-empty}
+use Rattle.std.proofs.lemmas.Bool.Decides.{nat_tests}
+use Rattle.std.proofs.lemmas.List.Sorted.{IsPermutation-refl, IsPermutation-sym, IsPermutation-trans}
+use Rattle.sw_table.specs.View.{View}
+use Rattle.sw_flat.proofs.Classes.{none_some}
+use Rattle.gq_row.specs.declared.value.Value.{Value}
+use Rattle.gq_row.specs.declared.limits.Bounds.{Bounds}
+use Rattle.gq_row.specs.Fitting.{fits_columns, has_null}
+use Rattle.gq_row.specs.Headings.{Heading, is_heading}
+use Rattle.gq_row.specs.Limits.{within_greatest}
+use Rattle.gq_row.specs.Rows.{key_of}
+use Rattle.gq_row.specs.Tables.{PlainTable, put, put_all, delete, has_row, keys_differ}
+use Rattle.gq_row.proofs.MovedLemmas.{put-permutation}
+use Rattle.gq_table.specs.declared.refusal.TableRefusal.{TableRefusal}
+use Rattle.gq_table.specs.declared.refusal.TableRefusal.TheVariants.{TypeMismatch, NullKey, Limit, Memory}
+use Rattle.gq_table.specs.declared.rows.Rows.{Rows}
+use Rattle.gq_table.specs.declared.rows.Rows.TheVariants.{Keyed, Listed}
+use Rattle.gq_table.specs.Changes.{IsPut, IsLoaded, IsDeleted}
+use Rattle.gq_table.specs.Keyed.{OwnKeys, by_key, rows_in}
+use Rattle.gq_table.specs.Refusing.{limit_refusal, row_refusal, load_refusal, rows_with, replaces, WhyNotPut, WhyNotKeyed, WhyNotLoaded}
+use Rattle.gq_table.specs.Standing.{IsStanding}
+use Rattle.gq_table.specs.Stored.{ArePlaced, IsStored, rows_of}
+use Rattle.gq_table.proofs.StandingLemmas.{table, length-put, rows_limit, standing_put, standing_loaded, standing_deleted}
+
+-- ---- a map where the key has columns, a list where it has none
+
+module _ {H : Type 0} where
+  pub keyed_some : (key : List ℕ) (m : View (List Value) (List Value) H) → ArePlaced key (Keyed m) → 0 < length key
+  keyed_some [] m h = absurd h
+  keyed_some (column ∷ columns) m h = omega arith
+
+  pub keyed_own : (key : List ℕ) (m : View (List Value) (List Value) H) → ArePlaced key (Keyed m) → OwnKeys key (by_key m)
+  keyed_own [] m h = absurd h
+  keyed_own (column ∷ columns) m h = h
+
+  placed_again : (key : List ℕ) (m : View (List Value) (List Value) H) → 0 < length key → OwnKeys key (by_key m) → ArePlaced key (Keyed m)
+  placed_again [] m some own = absurd (omega arith)
+  placed_again (column ∷ columns) m some own = own
+
+  abbrev pub IsListed : Rows H → Type 0
+  IsListed (Keyed m) = ⊥
+  IsListed (Listed v) = Unit {0}
+
+  pub listed_key : (key : List ℕ) (r : Rows H) → IsListed r → ArePlaced key r → key ≡ []
+  listed_key [] r e h = refl
+  listed_key (column ∷ columns) (Keyed n) e h = absurd e
+  listed_key (column ∷ columns) (Listed w) e h = absurd h
+
+  listed_placed : (r : Rows H) → IsListed r → ArePlaced [] r
+  listed_placed (Keyed m) e = absurd e
+  listed_placed (Listed v) e = tt
+
+-- ---- refusals
+
+nat_lt_true : (a b : ℕ) → a < b → nat_lt a b ≡ true
+nat_lt_true a b h = grind (arith, nat_tests)
+
+nat_lt_false : (a b : ℕ) → b ≤ a → nat_lt a b ≡ false
+nat_lt_false a b h = grind (arith, nat_tests)
+
+over : (most : ℕ) (rows : List (List Value)) → most < length rows → limit_refusal most rows ≡ Some Limit
+over most rows h = ap (λ b. cond b (Some Limit) None) (nat_lt_true most (length rows) h)
+
+within : (most : ℕ) (rows : List (List Value)) → length rows ≤ most → limit_refusal most rows ≡ None
+within most rows h = ap (λ b. cond b (Some Limit) None) (nat_lt_false most (length rows) h)
+
+past_fit : (f n : Bool) (o : Option TableRefusal) → f ≡ true → n ≡ false → cond (not f) (Some TypeMismatch) (cond n (Some NullKey) o) ≡ o
+past_fit false n o h k = let none : ⊥ = cc in absurd none
+past_fit true true o h k = let none : ⊥ = cc in absurd none
+past_fit true false o h k = refl
+
+pub misfit : (bounds : Bounds) (t : PlainTable) (row : List Value) → fits_columns t.heading.columns row ≡ false → row_refusal bounds t row ≡ Some TypeMismatch
+misfit bounds t row h = ap (λ b. cond (not b) (Some TypeMismatch) (cond (has_null t.heading.key row) (Some NullKey) (limit_refusal bounds.rows (put t.heading.key t.rows row)))) h
+
+pub null_key : (bounds : Bounds) (t : PlainTable) (row : List Value) → fits_columns t.heading.columns row ≡ true → has_null t.heading.key row ≡ true → row_refusal bounds t row ≡ Some NullKey
+null_key bounds t row h k = λ i. cond (not (h i)) (Some TypeMismatch) (cond (k i) (Some NullKey) (limit_refusal bounds.rows (put t.heading.key t.rows row)))
+
+replaces_none : (key : List ℕ) (rows : List (List Value)) (row : List Value) → has_row key rows (key_of key row) ≡ false → replaces key rows row ≡ false
+replaces_none [] rows row h = refl
+replaces_none (column ∷ columns) rows row h = h
+
+put_keyed_rows : (key : List ℕ) (rows out : List (List Value)) (new : List Value) → 0 < length key → IsTrue (keys_differ key rows) → IsPermutation (new ∷ delete key rows (key_of key new)) out → IsPermutation (put key rows new) out
+put_keyed_rows [] rows out new some differ moved = absurd (omega arith)
+put_keyed_rows (column ∷ columns) rows out new some differ moved = IsPermutation-trans _ _ _ (IsPermutation-sym _ _ (put-permutation column columns rows new differ)) moved
+
+-- ---- what the calls on a map and on a list say
+
+pub record PutKeyed {H : Type 0} (most : ℕ) (row : List Value) (m n : View (List Value) (List Value) H) (result : Result (Unit {0}) TableRefusal) (key : List ℕ) : Type 0 where
+  pub own : OwnKeys key (by_key n)
+  pub ok : OnOk result (IsPermutation (row ∷ delete key (rows_in m) (key_of key row)) (rows_in n))
+  pub few : OnOk result (rows_with key (rows_in m) row ≤ most)
+  pub err : OnErr result (n ≡ m)
+  pub why : IfErr result (WhyNotKeyed most key (rows_in m) row)
+
+pub record PutListed (most : ℕ) (row : List Value) (old new : List (List Value)) (result : Result (Unit {0}) TableRefusal) : Type 0 where
+  pub ok : OnOk result (new ≡ old ++ row ∷ [])
+  pub few : OnOk result (length old < most)
+  pub err : OnErr result (new ≡ old)
+  pub why : IfErr result (λ w. ((w ≡ Limit) × (most ≤ length old)) ⊎ ((w ≡ Memory) × (length old < most)))
+
+pub record LoadKeyed {H : Type 0} (most : ℕ) (loaded : List (List Value)) (m n : View (List Value) (List Value) H) (result : Result (Unit {0}) TableRefusal) (key : List ℕ) : Type 0 where
+  pub own : OwnKeys key (by_key n)
+  pub ok : OnOk result (IsPermutation (put_all key (rows_in m) loaded) (rows_in n))
+  pub few : OnOk result (length (put_all key (rows_in m) loaded) ≤ most)
+  pub err : OnErr result (n ≡ m)
+  pub why : IfErr result (λ w. ((w ≡ Limit) × (most < length (put_all key (rows_in m) loaded))) ⊎ (w ≡ Memory))
+
+pub record LoadListed (most : ℕ) (loaded old new : List (List Value)) (result : Result (Unit {0}) TableRefusal) : Type 0 where
+  pub ok : OnOk result (new ≡ old ++ loaded)
+  pub few : OnOk result (length old + length loaded ≤ most)
+  pub err : OnErr result (new ≡ old)
+  pub why : IfErr result (λ w. ((w ≡ Limit) × (most < length old + length loaded)) ⊎ (w ≡ Memory))
+
+-- ---- an upsert
+
+-- what an upsert leaves where the rows are in the end these
+pub record Upserted {H : Type 0} (bounds : Bounds) (old : PlainTable) (row : List Value) (result : Result (Unit {0}) TableRefusal) (new : Rows H) : Type 0 where
+  pub stored : IsStored old.heading new
+  pub ok : OnOk result (IsPut old row (table old.heading (rows_of new)))
+  pub taken : OnOk result (row_refusal bounds old row ≡ None)
+  pub refused : IfErr result (WhyNotPut bounds old row)
+  pub unchanged : OnErr result (table old.heading (rows_of new) ≡ old)
+
+module _ (bounds : Bounds) (h : Heading) (row : List Value) (fits : fits_columns h.columns row ≡ true) (no_null : has_null h.key row ≡ false) where
+  refusal : (rows : List (List Value)) → row_refusal bounds (table h rows) row ≡ limit_refusal bounds.rows (put h.key rows row)
+  refusal rows = past_fit (fits_columns h.columns row) (has_null h.key row) (limit_refusal bounds.rows (put h.key rows row)) fits no_null
+
+put_none : (key : List ℕ) (rows : List (List Value)) (row : List Value) → key ≡ [] → put key rows row ≡ rows ++ row ∷ []
+put_none [] rows row e = refl
+put_none (column ∷ columns) rows row e = let none : ⊥ = cc in absurd none
+
+replaces_listed : (key : List ℕ) (rows : List (List Value)) (row : List Value) → key ≡ [] → replaces key rows row ≡ false
+replaces_listed [] rows row e = refl
+replaces_listed (column ∷ columns) rows row e = let none : ⊥ = cc in absurd none
+
+module _ {H : Type 0} (bounds : Bounds) (limits : IsTrue (within_greatest bounds)) (h : Heading) (row : List Value) (fits : fits_columns h.columns row ≡ true) (no_null : has_null h.key row ≡ false) where
+  upserted_in : (m n : View (List Value) (List Value) H) (result : Result (Unit {0}) TableRefusal) → IsStored h (Keyed m) → PutKeyed bounds.rows row m n result h.key → Upserted bounds (table h (rows_in m)) row result (Keyed n)
+  upserted_in m n (Ok u) stored p =
+      let some = keyed_some h.key m stored.placed in
+      let long = length-put h.key (rows_in m) row some in
+      let few : length (put h.key (rows_in m) row) ≤ bounds.rows = subst (λ l. l ≤ bounds.rows) (sym long) p.few in
+      let most = rows_limit bounds limits in
+      let out = put_keyed_rows h.key (rows_in m) (rows_in n) row some stored.standing.keyed p.ok in
+      record {
+        stored = record {
+          standing = standing_put h (rows_in m) (rows_in n) row stored.standing fits (omega arith) out;
+          placed = placed_again h.key n some p.own;
+        };
+        ok = record { heading = refl; rows = out };
+        taken = refusal bounds h row fits no_null (rows_in m) ∙ within bounds.rows (put h.key (rows_in m) row) few;
+        refused = tt;
+        unchanged = tt;
+      }
+  upserted_in m n (Err why) stored p = record {
+    stored = subst (λ v. IsStored h (Keyed v)) (sym p.err) stored;
+    ok = tt;
+    taken = tt;
+    refused = reason p.why;
+    unchanged = ap (λ v. table h (rows_in v)) p.err;
+  }
+    where
+      long : length (put h.key (rows_in m) row) ≡ rows_with h.key (rows_in m) row
+      long = length-put h.key (rows_in m) row (keyed_some h.key m stored.placed)
+
+      reason : WhyNotKeyed bounds.rows h.key (rows_in m) row why → WhyNotPut bounds (table h (rows_in m)) row why
+      reason (inl w) = inl (refusal bounds h row fits no_null (rows_in m) ∙ over bounds.rows (put h.key (rows_in m) row) (subst (λ l. bounds.rows < l) (sym long) w.1) ∙ ap Some (sym w.0))
+      reason (inr w) = inr (w.0, refusal bounds h row fits no_null (rows_in m) ∙ within bounds.rows (put h.key (rows_in m) row) (subst (λ l. l ≤ bounds.rows) (sym long) w.1), replaces_none h.key (rows_in m) row w.2)
+
+  pub upserted_keyed : (m n : View (List Value) (List Value) H) (result : Result (Unit {0}) TableRefusal) (key : List ℕ) → key ≡ h.key → IsStored h (Keyed m) → PutKeyed bounds.rows row m n result key → Upserted bounds (table h (rows_in m)) row result (Keyed n)
+  upserted_keyed m n result key e stored p = upserted_in m n result stored (subst (PutKeyed bounds.rows row m n result) e p)
+
+  pub upserted_listed : (r n : Rows H) (result : Result (Unit {0}) TableRefusal) → IsListed r → IsListed n → IsStored h r → PutListed bounds.rows row (rows_of r) (rows_of n) result → Upserted bounds (table h (rows_of r)) row result n
+  upserted_listed r n (Ok u) was is stored p =
+      let none = listed_key h.key r was stored.placed in
+      let e = put_none h.key (rows_of r) row none in
+      let long = ap length e ∙ length-append (rows_of r) (row ∷ []) in
+      let few : length (put h.key (rows_of r) row) ≤ bounds.rows = (let few = p.few in omega arith) in
+      let most = rows_limit bounds limits in
+      let out : IsPermutation (put h.key (rows_of r) row) (rows_of n) = subst (IsPermutation (put h.key (rows_of r) row)) (e ∙ sym p.ok) (IsPermutation-refl (put h.key (rows_of r) row)) in
+      record {
+        stored = record {
+          standing = standing_put h (rows_of r) (rows_of n) row stored.standing fits (omega arith) out;
+          placed = subst (λ k. ArePlaced k n) (sym none) (listed_placed n is);
+        };
+        ok = record { heading = refl; rows = out };
+        taken = refusal bounds h row fits no_null (rows_of r) ∙ within bounds.rows (put h.key (rows_of r) row) few;
+        refused = tt;
+        unchanged = tt;
+      }
+  upserted_listed r n (Err why) was is stored p = record {
+    stored = record {
+      standing = subst (λ rows. IsStanding (table h rows)) (sym p.err) stored.standing;
+      placed = subst (λ k. ArePlaced k n) (sym none) (listed_placed n is);
+    };
+    ok = tt;
+    taken = tt;
+    refused = reason p.why;
+    unchanged = ap (table h) p.err;
+  }
+    where
+      none : h.key ≡ []
+      none = listed_key h.key r was stored.placed
+
+      long : length (put h.key (rows_of r) row) ≡ length (rows_of r) + 1
+      long = ap length (put_none h.key (rows_of r) row none) ∙ length-append (rows_of r) (row ∷ [])
+
+      reason : ((why ≡ Limit) × (bounds.rows ≤ length (rows_of r))) ⊎ ((why ≡ Memory) × (length (rows_of r) < bounds.rows)) → WhyNotPut bounds (table h (rows_of r)) row why
+      reason (inl w) = inl (refusal bounds h row fits no_null (rows_of r) ∙ over bounds.rows (put h.key (rows_of r) row) (let far = w.1 in omega (arith, long)) ∙ ap Some (sym w.0))
+      reason (inr w) = inr (w.0, refusal bounds h row fits no_null (rows_of r) ∙ within bounds.rows (put h.key (rows_of r) row) (let near = w.1 in omega (arith, long)), replaces_listed h.key (rows_of r) row none)
+
+-- ---- a load
+
+put_all_none : (key : List ℕ) (old rows : List (List Value)) → key ≡ [] → put_all key old rows ≡ old ++ rows
+put_all_none (column ∷ columns) old rows e = let none : ⊥ = cc in absurd none
+put_all_none [] old rows e = pushed old rows
+  where
+    pushed : (old rows : List (List Value)) → put_all [] old rows ≡ old ++ rows
+    pushed old [] = sym (append-nil old)
+    pushed old (row ∷ rows) = pushed (old ++ row ∷ []) rows ∙ append_assoc old (row ∷ []) rows
+
+pub record LoadedTable {H : Type 0} (bounds : Bounds) (old : PlainTable) (loaded : List (List Value)) (result : Result (Unit {0}) TableRefusal) (new : Rows H) : Type 0 where
+  pub stored : IsStored old.heading new
+  pub ok : OnOk result (IsLoaded old loaded (table old.heading (rows_of new)))
+  pub taken : OnOk result (load_refusal bounds old loaded ≡ None)
+  pub refused : IfErr result (WhyNotLoaded bounds old loaded)
+  pub unchanged : OnErr result (table old.heading (rows_of new) ≡ old)
+
+module _ {H : Type 0} (bounds : Bounds) (limits : IsTrue (within_greatest bounds)) (h : Heading) (rows : List (List Value)) (fits : list_all (fits_columns h.columns) rows ≡ true) where
+  loaded_in : (m n : View (List Value) (List Value) H) (result : Result (Unit {0}) TableRefusal) → IsStored h (Keyed m) → LoadKeyed bounds.rows rows m n result h.key → LoadedTable bounds (table h (rows_in m)) rows result (Keyed n)
+  loaded_in m n (Ok u) stored p =
+      let most = rows_limit bounds limits in
+      record {
+        stored = record {
+          standing = standing_loaded h (rows_in m) rows (rows_in n) stored.standing fits (let few = p.few in omega arith) p.ok;
+          placed = placed_again h.key n (keyed_some h.key m stored.placed) p.own;
+        };
+        ok = record { heading = refl; rows = p.ok };
+        taken = within bounds.rows (put_all h.key (rows_in m) rows) p.few;
+        refused = tt;
+        unchanged = tt;
+      }
+  loaded_in m n (Err why) stored p = record {
+    stored = subst (λ v. IsStored h (Keyed v)) (sym p.err) stored;
+    ok = tt;
+    taken = tt;
+    refused = reason p.why;
+    unchanged = ap (λ v. table h (rows_in v)) p.err;
+  }
+    where
+      reason : ((why ≡ Limit) × (bounds.rows < length (put_all h.key (rows_in m) rows))) ⊎ (why ≡ Memory) → WhyNotLoaded bounds (table h (rows_in m)) rows why
+      reason (inl w) = inl (over bounds.rows (put_all h.key (rows_in m) rows) w.1 ∙ ap Some (sym w.0))
+      reason (inr w) = inr w
+
+  pub loaded_keyed : (m n : View (List Value) (List Value) H) (result : Result (Unit {0}) TableRefusal) (key : List ℕ) → key ≡ h.key → IsStored h (Keyed m) → LoadKeyed bounds.rows rows m n result key → LoadedTable bounds (table h (rows_in m)) rows result (Keyed n)
+  loaded_keyed m n result key e stored p = loaded_in m n result stored (subst (LoadKeyed bounds.rows rows m n result) e p)
+
+  pub loaded_listed : (r n : Rows H) (result : Result (Unit {0}) TableRefusal) → IsListed r → IsListed n → IsStored h r → LoadListed bounds.rows rows (rows_of r) (rows_of n) result → LoadedTable bounds (table h (rows_of r)) rows result n
+  loaded_listed r n (Ok u) was is stored p =
+      let none = listed_key h.key r was stored.placed in
+      let e = put_all_none h.key (rows_of r) rows none in
+      let long = ap length e ∙ length-append (rows_of r) rows in
+      let few : length (put_all h.key (rows_of r) rows) ≤ bounds.rows = (let few = p.few in omega arith) in
+      let most = rows_limit bounds limits in
+      let out : IsPermutation (put_all h.key (rows_of r) rows) (rows_of n) = subst (IsPermutation (put_all h.key (rows_of r) rows)) (e ∙ sym p.ok) (IsPermutation-refl (put_all h.key (rows_of r) rows)) in
+      record {
+        stored = record {
+          standing = standing_loaded h (rows_of r) rows (rows_of n) stored.standing fits (omega arith) out;
+          placed = subst (λ k. ArePlaced k n) (sym none) (listed_placed n is);
+        };
+        ok = record { heading = refl; rows = out };
+        taken = within bounds.rows (put_all h.key (rows_of r) rows) few;
+        refused = tt;
+        unchanged = tt;
+      }
+  loaded_listed r n (Err why) was is stored p = record {
+    stored = record {
+      standing = subst (λ l. IsStanding (table h l)) (sym p.err) stored.standing;
+      placed = subst (λ k. ArePlaced k n) (sym (listed_key h.key r was stored.placed)) (listed_placed n is);
+    };
+    ok = tt;
+    taken = tt;
+    refused = reason p.why;
+    unchanged = ap (table h) p.err;
+  }
+    where
+      long : length (put_all h.key (rows_of r) rows) ≡ length (rows_of r) + length rows
+      long = ap length (put_all_none h.key (rows_of r) rows (listed_key h.key r was stored.placed)) ∙ length-append (rows_of r) rows
+
+      reason : ((why ≡ Limit) × (bounds.rows < length (rows_of r) + length rows)) ⊎ (why ≡ Memory) → WhyNotLoaded bounds (table h (rows_of r)) rows why
+      reason (inl w) = inl (over bounds.rows (put_all h.key (rows_of r) rows) (let far = w.1 in omega (arith, long)) ∙ ap Some (sym w.0))
+      reason (inr w) = inr w
+
+-- ---- a delete, and an empty table
+
+pub deleted_keyed : {H : Type 0} (h : Heading) (m n : View (List Value) (List Value) H) (key : List ℕ) (k : List Value) → key ≡ h.key → IsStored h (Keyed m) → OwnKeys key (by_key n) → IsPermutation (delete key (rows_in m) k) (rows_in n) → IsStored h (Keyed n)
+deleted_keyed h m n key k e stored own moved = record {
+  standing = standing_deleted h (rows_in m) (rows_in n) k stored.standing (subst (λ l. IsPermutation (delete l (rows_in m) k) (rows_in n)) e moved);
+  placed = placed_again h.key n (keyed_some h.key m stored.placed) (subst (λ l. OwnKeys l (by_key n)) e own);
+}
+
+pub stored_empty : {H : Type 0} (h : Heading) (m : View (List Value) (List Value) H) → IsTrue (is_heading h) → (h.key ≡ [] → ⊥) → by_key m ≡ empty → rows_in m ≡ [] → IsStored h (Keyed m)
+stored_empty h m heading some none no_rows = record {
+  standing = subst (λ rows. IsStanding (table h rows)) (sym no_rows) (record { heading = heading; fitting = refl; keyed = nothing_differs h.key; few = omega arith });
+  placed = placed_again h.key m (some_long h.key some) (subst (OwnKeys h.key) (sym none) (λ c p e. absurd (none_some p (sym (get-empty _ c) ∙ e))));
+}
+  where
+    nothing_differs : (key : List ℕ) → IsTrue (keys_differ key [])
+    nothing_differs [] = refl
+    nothing_differs (column ∷ columns) = refl
+
+    some_long : (key : List ℕ) → (key ≡ [] → ⊥) → 0 < length key
+    some_long [] k = absurd (k refl)
+    some_long (column ∷ columns) k = omega arith

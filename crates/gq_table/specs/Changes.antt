@@ -1,0 +1,19 @@
+-- What a change leaves of a table: what it leaves of a list of rows, up to their order.
+use Rattle.std.specs.Prelude.{◌≡◌, List, IsPermutation}
+use Rattle.gq_row.specs.declared.value.Value.{Value}
+use Rattle.gq_row.specs.Tables.{PlainTable, put, put_all, delete}
+
+-- a row is put
+pub record IsPut (old : PlainTable) (row : List Value) (new : PlainTable) : Type 0 where
+  pub heading : new.heading ≡ old.heading
+  pub rows : IsPermutation (put old.heading.key old.rows row) new.rows
+
+-- rows are put, one after the other
+pub record IsLoaded (old : PlainTable) (loaded : List (List Value)) (new : PlainTable) : Type 0 where
+  pub heading : new.heading ≡ old.heading
+  pub rows : IsPermutation (put_all old.heading.key old.rows loaded) new.rows
+
+-- the row of a key is taken away
+pub record IsDeleted (old : PlainTable) (key : List Value) (new : PlainTable) : Type 0 where
+  pub heading : new.heading ≡ old.heading
+  pub rows : IsPermutation (delete old.heading.key old.rows key) new.rows

@@ -1,0 +1,8 @@
+mod Bytes
+mod Cut
+mod Longest
+mod Lookup
+mod Numbers
+mod Quotes
+mod Spelled
+pub mod Trimmed

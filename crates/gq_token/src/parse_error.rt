@@ -1,0 +1,33 @@
+//! Why a line says nothing.
+ghost use Rattle.std.specs.Prelude.{◌≡◌};
+ghost use Rattle.gq_token.specs.declared.parse_error.ParseError.TheVariants.{Memory};
+
+use std::alloc::{AllocError, AllocFailed};
+use thiserror::Error;
+
+/// Why a text could not be read.
+#[derive(Debug, Drop, Error)]
+pub enum ParseError {
+    /// There was no memory to read it.
+    #[error("no memory to read the line")]
+    Memory,
+    /// It can't be cut into tokens, or its tokens are no command's.
+    #[error("the line says no command")]
+    Syntax,
+}
+
+impl From<AllocError> for ParseError {
+    ghost from_gives = { λ _ e. e ≡ Memory };
+
+    fn from(_e: AllocError) -> ParseError {
+        ParseError::Memory
+    }
+}
+
+impl<T: Drop> From<AllocFailed<T>> for ParseError {
+    ghost from_gives = { λ _ e. e ≡ Memory };
+
+    fn from(_e: AllocFailed<T>) -> ParseError {
+        ParseError::Memory
+    }
+}
