@@ -12,7 +12,7 @@ use Rattle.gq_row.specs.declared.schema.Kind.TheVariants as kind
 use Rattle.gq_row.specs.Headings.{is_heading, position_of, positions_of}
 use Rattle.gq_row.specs.Repeats.{no_repeats}
 use Rattle.gq_row.specs.Tables.{PlainTable}
-use Rattle.gq_engine.specs.Fitting.{fits_columns, goes_in}
+use Rattle.gq_row.specs.Fitting.{fits_columns, goes_in}
 use Rattle.gq_engine.specs.Standing.{IsStanding}
 use Rattle.gq_engine.proofs.PutLemmas.{two, both}
 

@@ -3,9 +3,14 @@ pub mod ColumnLemmas
 pub mod GroupLemmas
 pub mod KeyLemmas
 pub mod MapLemmas
+pub mod OrderLemmas
 pub mod PlainRuns
+pub mod PlainSteps
 pub mod PutLemmas
+pub mod RepeatedRuns
 pub mod RunLemmas
+pub mod StepLemmas
 pub mod TableLemmas
+pub mod TakenLemmas
 pub mod Texts
 mod Vectors

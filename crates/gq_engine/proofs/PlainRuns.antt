@@ -6,26 +6,18 @@ use Rattle.gq_command.specs.Script.{Entry}
 use Rattle.gq_engine.specs.declared.refusal.Refusal.TheVariants.{Memory}
 use Rattle.gq_engine.specs.declared.reply.Reply.{Reply}
 use Rattle.gq_engine.specs.Databases.{Database}
-use Rattle.gq_engine.specs.Steps.{step, refused}
-use Rattle.gq_engine.specs.Runs.{Setting, LegalAnswer, LegalStep, PlainStep, is_store_fault, OnlyMemoryRefuses}
+use Rattle.gq_engine.specs.Outcomes.{refused}
+use Rattle.gq_engine.specs.Steps.{step}
+use Rattle.gq_engine.specs.Runs.{Setting, LegalAnswer, AsListsAnswer, WantsMemory, StoreFailed, StoreLied, LegalStep, PlainStep, is_store_fault, OnlyMemoryRefuses}
 use Rattle.gq_engine.proofs.RunLemmas.{count_by-first}
 
 -- an answer that tells no failure of an honest store
 plain_answer : (setting : Setting) (old : Database) (it : Item) (answer : Reply) (new : Database) → setting.honest ≡ true → is_store_fault answer ≡ false → LegalAnswer setting old it answer new
     → ((new, answer) ≡ step setting.limits old it) ⊎ ((new ≡ old) × (answer ≡ refused Memory))
-plain_answer setting old it answer new honest no_fault h =
-    elim h as (λ _. ((new, answer) ≡ step setting.limits old it) ⊎ ((new ≡ old) × (answer ≡ refused Memory))) [
-      | inl p ↦ inl p
-      | inr k ↦
-          elim k as (λ _. ((new, answer) ≡ step setting.limits old it) ⊎ ((new ≡ old) × (answer ≡ refused Memory))) [
-            | inl p ↦ inr p
-            | inr j ↦
-                elim j as (λ _. ((new, answer) ≡ step setting.limits old it) ⊎ ((new ≡ old) × (answer ≡ refused Memory))) [
-                  | inl p ↦ let none : ⊥ = cc (sym (ap is_store_fault p.2) ∙ no_fault) in absurd none
-                  | inr p ↦ let none : ⊥ = cc (sym p.2 ∙ honest) in absurd none
-                ]
-          ]
-    ]
+plain_answer setting old it answer new honest no_fault (AsListsAnswer said) = inl said
+plain_answer setting old it answer new honest no_fault (WantsMemory kept memory) = inr (kept, memory)
+plain_answer setting old it answer new honest no_fault (StoreFailed kept grouping fault) = let none : ⊥ = cc (sym (ap is_store_fault fault) ∙ no_fault) in absurd none
+plain_answer setting old it answer new honest no_fault (StoreLied kept grouping lied) = let none : ⊥ = cc (sym lied ∙ honest) in absurd none
 
 plain_step : (setting : Setting) (old : Database) (entry : Entry) (answer : Reply) (new : Database) → setting.honest ≡ true → is_store_fault answer ≡ false → LegalStep setting old entry answer new → PlainStep setting.limits old entry answer new
 plain_step setting old entry answer new honest no_fault h =

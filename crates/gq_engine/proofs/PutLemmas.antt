@@ -9,19 +9,12 @@ use Rattle.gq_row.specs.declared.limits.Bounds.{Bounds}
 use Rattle.gq_row.specs.Order.{same_key}
 use Rattle.gq_row.specs.Rows.{key_of, cell}
 use Rattle.gq_row.specs.Tables.{PlainTable, put, put_by_key}
-use Rattle.gq_engine.specs.Fitting.{fits_columns, is_null}
+use Rattle.gq_row.specs.Fitting.{fits_columns, is_null}
 use Rattle.gq_row.specs.Limits.{within_greatest, from_one}
-use Rattle.gq_engine.specs.declared.refusal.Refusal.TheVariants.{TypeMismatch, NullKey, Limit}
-use Rattle.gq_engine.specs.Refusing.{row_refusal}
+use Rattle.gq_engine.specs.declared.table.Placing.{Placing}
+use Rattle.gq_engine.specs.Refusing.{rows_with, IsPlacing}
 use Rattle.gq_row.proofs.TableLemmas.{keys_differ-put}
 use Rattle.gq_engine.specs.Standing.{IsStanding}
-
--- what is known where a row isn't refused
-passed : (fits null over : Bool) → cond (not fits) (Some TypeMismatch) (cond null (Some NullKey) (cond over (Some Limit) None)) ≡ None → (fits ≡ true) × (over ≡ false)
-passed false null over h = let none : ⊥ = cc in absurd none
-passed true true over h = let none : ⊥ = cc in absurd none
-passed true false true h = let none : ⊥ = cc in absurd none
-passed true false false h = (refl, refl)
 
 pub two : (a b : Bool) → (a && b) ≡ true → (a ≡ true) × (b ≡ true)
 two true b h = (refl, h)
@@ -53,22 +46,18 @@ eighth : (a b c d e f g h i : Bool) → (a && (b && (c && (d && (e && (f && (g &
 eighth a b c d e f g h i k = (two h i (two g (h && i) (two f (g && (h && i)) (two e (f && (g && (h && i))) (two d (e && (f && (g && (h && i)))) (two c (d && (e && (f && (g && (h && i))))) (two b (c && (d && (e && (f && (g && (h && i)))))) (two a (b && (c && (d && (e && (f && (g && (h && i))))))) k).1).1).1).1).1).1).1).0
 
 -- the limit on rows is at most its greatest value
-rows_limit : (bounds : Bounds) → IsTrue (within_greatest bounds) → bounds.rows ≤ 16777216
+pub rows_limit : (bounds : Bounds) → IsTrue (within_greatest bounds) → bounds.rows ≤ 16777216
 rows_limit b h =
     leb-true b.rows 16777216 (two (nat_lt 0 b.rows) (nat_le b.rows 16777216)
     (eighth (from_one b.tables 64) (from_one b.columns 32) (from_one b.aggregates 8) (from_one b.name 63) (from_one b.text 65535) (from_one b.line 65536) (from_one b.payload 268435456) (from_one b.rows 16777216) (from_one b.script 1099511627776) h)).1
 
-not_above : (a b : ℕ) → nat_lt a b ≡ false → b ≤ a
-not_above a b h = grind (arith, nat_tests)
-
-pub stands : (bounds : Bounds) (table : PlainTable) (row : List Value) (rows : List (List Value)) → IsTrue (within_greatest bounds) → IsStanding table → row_refusal bounds table row ≡ None
-    → rows ≡ put table.heading.key table.rows row → IsStanding (record table { rows = rows })
-stands bounds table row rows limits old h e =
-    let fine = passed (fits_columns table.heading.columns row) (list_any (λ column. is_null (cell row column)) table.heading.key) (nat_lt bounds.rows (length (put table.heading.key table.rows row))) h in
+-- a row that may be put leaves what is true of the table
+pub stands : (table : PlainTable) (row : List Value) (placing : Placing) (rows : List (List Value)) → IsStanding table → IsPlacing table row placing → rows ≡ rows_with table row → IsStanding (record table { rows = rows })
+stands table row placing rows old h e =
     let P : List (List Value) → Type 0 = λ l. IsStanding (record table { rows = l }) in
     subst P (sym e) (record {
       heading = old.heading;
-      fitting = all_put (fits_columns table.heading.columns) table.heading.key table.rows row old.fitting fine.0;
+      fitting = all_put (fits_columns table.heading.columns) table.heading.key table.rows row old.fitting h.fitting;
       keyed = keys_differ-put table.heading.key table.rows row old.keyed;
-      few = omega (arith, not_above _ _ fine.1, rows_limit bounds limits);
+      few = h.few;
     })

@@ -18,7 +18,8 @@ use Rattle.gq_engine.specs.declared.reply.Reply.{Reply}
 use Rattle.gq_engine.specs.declared.reply.Reply.TheVariants as reply
 use Rattle.gq_engine.specs.Databases.{Database}
 use Rattle.gq_engine.specs.Replies.{text}
-use Rattle.gq_engine.specs.Steps.{step, refused}
+use Rattle.gq_engine.specs.Outcomes.{refused}
+use Rattle.gq_engine.specs.Steps.{step}
 
 abbrev after : Bounds → Database → Command → Database
 after limits db command = (step limits db (item.Command command)).0

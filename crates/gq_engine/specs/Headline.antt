@@ -1,18 +1,15 @@
 -- What a run of an engine did.
-use Rattle.std.specs.Prelude.{◌≡◌, ⊤, ℕ, List, ◌∷◌, ◌++◌, [], length, flat_map, count_by, Option, Some, None, Result, Ok, Err}
+use Rattle.std.specs.Prelude.{◌≡◌, ◌≤◌, ⊤, ℕ, List, ◌∷◌, ◌++◌, [], length, flat_map, count_by, Option, Some, None, Result, Ok, Err}
 use Rattle.std.specs.Io.KnownBytes.{Appends}
-use Rattle.gq_command.specs.declared.reader.Item.{Item}
 use Rattle.gq_command.specs.Commands.{Bytes}
 use Rattle.gq_command.specs.Script.{Entry, items}
 use Rattle.gq_engine.specs.declared.reply.Reply.{Reply}
 use Rattle.gq_engine.specs.declared.run.Summary.{Summary}
 use Rattle.gq_engine.specs.declared.run.Fault.{Fault}
 use Rattle.gq_engine.specs.declared.run.Fault.TheVariants as fault
-use Rattle.gq_engine.specs.declared.sending.WriteFault.{WriteFault}
 use Rattle.gq_engine.specs.Databases.{Database}
 use Rattle.gq_engine.specs.Replies.{text, is_refusal}
-use Rattle.gq_engine.specs.Runs.{Setting, LegalAnswer, LegalRun, SameTables, FaultsHappened}
-use Rattle.gq_engine.specs.Sending.{AppendsFront}
+use Rattle.gq_engine.specs.Runs.{Setting, LegalRun, SameTables, FaultsHappened}
 
 -- what a run changes of an engine: its tables, and its run store's count of failures
 pub record State : Type 0 where
@@ -26,8 +23,9 @@ pub record Answered (setting : Setting) (old : State) (entries : List Entry) (ne
   pub same : SameTables last new.database
   pub faults : FaultsHappened replies old.failures new.failures
 
--- A run that came to the script's end wrote the texts of the replies to all its items, and counted them.
+-- A run that came to the script's end wrote the texts of the replies to all its items, and counted them; the script is within the limit on its bytes.
 pub record RanToEnd (setting : Setting) (old : State) (script : Bytes) (new : State) (before after : Option Bytes) (summary : Summary) : Type 0 where
+  pub within : length script ≤ setting.limits.script
   pub replies : List Reply
   pub answered : Answered setting old (items setting.limits script) new replies
   pub written : Appends before after (flat_map text replies)
@@ -62,20 +60,3 @@ Ran setting old None new before after ended = ⊤
 Ran setting old (Some script) new before after (Ok summary) = RanToEnd setting old script new before after summary
 Ran setting old (Some script) new before after (Err fault.Read) = StoppedReading setting old script new before after
 Ran setting old (Some script) new before after (Err fault.Write) = StoppedWriting setting old script new before after
-
--- an item was answered, and the reply's text written
-pub record Wrote (setting : Setting) (old : State) (it : Item) (new : State) (before after : Option Bytes) (answer : Reply) : Type 0 where
-  pub legal : LegalAnswer setting old.database it answer new.database
-  pub faults : FaultsHappened (answer ∷ []) old.failures new.failures
-  pub written : Appends before after (text answer)
-
--- an item was answered, and a front of the reply's text written
-pub record WroteFront (setting : Setting) (old : State) (it : Item) (new : State) (before after : Option Bytes) : Type 0 where
-  pub answer : Reply
-  pub legal : LegalAnswer setting old.database it answer new.database
-  pub faults : FaultsHappened (answer ∷ []) old.failures new.failures
-  pub written : AppendsFront before after (text answer)
-
-abbrev pub Served : Setting → State → Item → State → Option Bytes → Option Bytes → Result Reply WriteFault → Type 0
-Served setting old it new before after (Ok answer) = Wrote setting old it new before after answer
-Served setting old it new before after (Err e) = WroteFront setting old it new before after

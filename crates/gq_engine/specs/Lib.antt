@@ -1,12 +1,18 @@
-pub mod Answers
+-- definitions for readers
 pub mod Databases
-pub mod Engines
-pub mod Fitting
-pub mod Headline
-pub mod Records
-pub mod Refusing
+pub mod Steps
+pub mod Answers
 pub mod Replies
 pub mod Runs
+pub mod Headline
+pub mod Orders
+pub mod Repeating
+-- and what they stand on
+pub mod Outcomes
+pub mod Refusing
+pub mod Engines
+-- contracts of single functions
+pub mod Records
 pub mod Sending
 pub mod Standing
-pub mod Steps
+pub mod Serving

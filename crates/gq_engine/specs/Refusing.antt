@@ -1,18 +1,45 @@
--- Why a table refuses a row.
-use Rattle.std.specs.Prelude.{not, List, length, if◌then◌else◌, nat_lt, Option, Some, None}
+-- What a table takes.
+use Rattle.std.specs.Prelude.{◌≡◌, ◌⊎◌, ◌≤◌, ◌<◌, ◌++◌, ◌∷◌, [], ℕ, Bool, not, IsTrue, List, length, nat_le, slice_set, Result, Ok, Err}
 use Rattle.std.specs.List.{list_any}
 use Rattle.gq_row.specs.declared.value.Value.{Value}
 use Rattle.gq_row.specs.declared.limits.Bounds.{Bounds}
 use Rattle.gq_row.specs.Rows.{cell}
 use Rattle.gq_row.specs.Tables.{PlainTable, put}
-use Rattle.gq_engine.specs.Fitting.{fits_columns, is_null}
-use Rattle.gq_engine.specs.declared.refusal.Refusal.{Refusal}
-use Rattle.gq_engine.specs.declared.refusal.Refusal.TheVariants.{TypeMismatch, NullKey, Limit}
+use Rattle.gq_row.specs.Fitting.{fits_columns, is_null}
+use Rattle.gq_engine.specs.Outcomes.{◌>>=◌, true_or, unnumbered}
+use Rattle.gq_engine.specs.declared.refusal.Refusal.TheVariants.{TypeMismatch, NullKey, Limit, Memory}
+use Rattle.gq_engine.specs.declared.refusal.Refused.{Refused}
+use Rattle.gq_engine.specs.declared.table.Placing.{Placing}
+use Rattle.gq_engine.specs.declared.table.Placing.TheVariants as placing
 
--- the values don't fit the columns; else one of a key column is null; else there would be too many rows
-abbrev pub row_refusal : Bounds → PlainTable → List Value → Option Refusal
-row_refusal bounds table row =
-    if not (fits_columns table.heading.columns row) then Some TypeMismatch
-    else if list_any (λ column. is_null (cell row column)) table.heading.key then Some NullKey
-    else if nat_lt bounds.rows (length (put table.heading.key table.rows row)) then Some Limit
-    else None
+-- whether a row has null in a key column
+abbrev pub has_null_key : PlainTable → List Value → Bool
+has_null_key table row = list_any (λ column. is_null (cell row column)) table.heading.key
+
+-- the rows of a table after a row was put
+abbrev pub rows_with : PlainTable → List Value → List (List Value)
+rows_with table row = put table.heading.key table.rows row
+
+-- those rows, where the table takes the row
+abbrev pub put_within : Bounds → PlainTable → List Value → Result (List (List Value)) Refused
+put_within limits table row = do
+  fitting ← true_or TypeMismatch (fits_columns table.heading.columns row)
+  keyed ← true_or NullKey (not (has_null_key table row))
+  few ← true_or Limit (nat_le (length (rows_with table row)) limits.rows)
+  Ok (rows_with table row)
+
+-- where a row goes: in the place of the row that has its key, or behind all rows
+abbrev pub Goes : Placing → PlainTable → List Value → Type 0
+Goes (placing.Over i) table row = (i < length table.rows) × (rows_with table row ≡ slice_set table.rows i row)
+Goes placing.New table row = rows_with table row ≡ table.rows ++ row ∷ []
+
+-- a row may be put there
+pub record IsPlacing (table : PlainTable) (row : List Value) (placing : Placing) : Type 0 where
+  pub fitting : IsTrue (fits_columns table.heading.columns row)
+  pub few : length (rows_with table row) ≤ 16777216
+  pub goes : Goes placing table row
+
+-- the table took a row, or left it: as the steps say, or for want of memory
+abbrev pub TakesRow : {X : Type 0} → Bounds → List Value → Result X Refused → PlainTable → PlainTable → Type 0
+TakesRow limits row (Ok x) old new = (put_within limits old row ≡ Ok (rows_with old row)) × (new ≡ record old { rows = rows_with old row })
+TakesRow limits row (Err why) old new = (new ≡ old) × ((why ≡ unnumbered Memory) ⊎ (put_within limits old row ≡ Err why))

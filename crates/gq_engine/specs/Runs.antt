@@ -1,7 +1,8 @@
 -- Legal runs: how the items of a script may be answered, one after the other.
 use Rattle.std.specs.Prelude.{◌≡◌, ◌⊎◌, ◌+◌, ◌≤◌, ℕ, Bool, true, false, List, [], ◌∷◌, count_by, IsPermutation}
 use Rattle.gq_row.specs.declared.limits.Bounds.{Bounds}
-use Rattle.gq_command.specs.declared.command.Command.TheVariants.{Create, Drop, Load, Upsert, Delete, Show, Group, Distinct}
+use Rattle.gq_command.specs.declared.command.Command.{Command}
+use Rattle.gq_command.specs.declared.command.Command.TheVariants.{Group, Distinct}
 use Rattle.gq_command.specs.declared.reader.Item.{Item}
 use Rattle.gq_command.specs.declared.reader.Item.TheVariants as item
 use Rattle.gq_command.specs.Script.{Entry}
@@ -10,43 +11,37 @@ use Rattle.gq_engine.specs.declared.refusal.Refusal.TheVariants.{Memory, SumRang
 use Rattle.gq_engine.specs.declared.reply.Reply.{Reply}
 use Rattle.gq_engine.specs.declared.reply.Reply.TheVariants as reply
 use Rattle.gq_engine.specs.Databases.{Database}
-use Rattle.gq_engine.specs.Steps.{step, refused}
+use Rattle.gq_engine.specs.Outcomes.{refused}
+use Rattle.gq_engine.specs.Steps.{step}
 
 -- what an engine runs under: its limits, and whether its run store reads back what was written
 pub record Setting : Type 0 where
   pub limits : Bounds
   pub honest : Bool
 
--- the commands that group rows, and so may use the run store
-abbrev pub IsGrouping : Item → Type 0
-IsGrouping (item.Command (Create table columns key)) = ⊥
-IsGrouping (item.Command (Drop table)) = ⊥
-IsGrouping (item.Command (Load table payload)) = ⊥
-IsGrouping (item.Command (Upsert table values)) = ⊥
-IsGrouping (item.Command (Delete table values)) = ⊥
-IsGrouping (item.Command (Show table)) = ⊥
-IsGrouping (item.Command (Group table by shown tests exists having)) = Unit {0}
-IsGrouping (item.Command (Distinct table on tests)) = Unit {0}
-IsGrouping (item.Refused why) = ⊥
+-- the commands that group rows
+abbrev pub is_grouping : Command → Bool
+is_grouping (Group table by shown tests exists having) = true
+is_grouping (Distinct table on tests) = true
+is_grouping _ = false
 
 -- the replies that only grouping finds
 abbrev pub IsGrouped : Reply → Type 0
-IsGrouped (reply.Done n) = ⊥
 IsGrouped (reply.Rows header rows) = Unit {0}
+IsGrouped (reply.Done n) = ⊥
 IsGrouped (reply.Refused why number) = why ≡ SumRange
 
--- whether answering the item takes the run store
-abbrev pub UsesStore : Setting → Database → Item → Type 0
-UsesStore setting old it = IsGrouping it × IsGrouped (step setting.limits old it).1
+-- whether answering the item gets as far as grouping, which may take the run store
+abbrev pub ReachesGrouping : Bounds → Database → Item → Type 0
+ReachesGrouping limits old (item.Command c) = (is_grouping c ≡ true) × IsGrouped (step limits old (item.Command c)).1
+ReachesGrouping limits old (item.Refused why) = ⊥
 
--- From the database old an item may be answered by this reply and leave new:
--- as plain lists answer it; or for want of memory; or, where it takes the run store, because that failed; or in any way, where that lied. The last three leave the database.
-abbrev pub LegalAnswer : Setting → Database → Item → Reply → Database → Type 0
-LegalAnswer setting old it answer new =
-    ((new, answer) ≡ step setting.limits old it)
-    ⊎ (((new ≡ old) × (answer ≡ refused Memory))
-    ⊎ (((new ≡ old) × UsesStore setting old it × (answer ≡ refused StoreFault))
-    ⊎ ((new ≡ old) × UsesStore setting old it × (setting.honest ≡ false))))
+-- From the database old an item may be answered by this reply and leave new: as plain lists answer it; or for want of memory; or, where it gets as far as grouping, because the run store failed, or in any way where that lied. The last three leave the database.
+pub data LegalAnswer (setting : Setting) (old : Database) (it : Item) (answer : Reply) (new : Database) : Type 0 where
+  AsListsAnswer : (said : (new, answer) ≡ step setting.limits old it) → LegalAnswer setting old it answer new
+  WantsMemory : (kept : new ≡ old) (memory : answer ≡ refused Memory) → LegalAnswer setting old it answer new
+  StoreFailed : (kept : new ≡ old) (grouping : ReachesGrouping setting.limits old it) (fault : answer ≡ refused StoreFault) → LegalAnswer setting old it answer new
+  StoreLied : (kept : new ≡ old) (grouping : ReachesGrouping setting.limits old it) (lied : setting.honest ≡ false) → LegalAnswer setting old it answer new
 
 -- The same of an entry of a script, by what it is read as; or for want of memory to read it.
 abbrev pub LegalStep : Setting → Database → Entry → Reply → Database → Type 0
@@ -79,11 +74,17 @@ SameTables [] (b ∷ bs) = ⊥
 SameTables (a ∷ rest) [] = ⊥
 SameTables (a ∷ rest) (b ∷ bs) = (a.0 ≡ b.0) × (a.1.heading ≡ b.1.heading) × IsPermutation a.1.rows b.1.rows × SameTables rest bs
 
--- only a command that was carried out may leave another database
+-- an item was answered legally from the database old, up to the order of rows within tables
+pub record AnsweredAlike (setting : Setting) (old : Database) (it : Item) (answer : Reply) (new : Database) : Type 0 where
+  pub last : Database
+  pub legal : LegalAnswer setting old it answer last
+  pub same : SameTables last new
+
+-- only a command that was carried out may leave other tables
 abbrev pub KeptUnlessDone : Reply → Database → Database → Type 0
 KeptUnlessDone (reply.Done n) old new = Unit {0}
-KeptUnlessDone (reply.Rows header rows) old new = new ≡ old
-KeptUnlessDone (reply.Refused why number) old new = new ≡ old
+KeptUnlessDone (reply.Rows header rows) old new = SameTables old new
+KeptUnlessDone (reply.Refused why number) old new = SameTables old new
 
 -- What is left of a legal run where the run store neither failed nor lied: each entry is answered as plain lists answer it, or refused for want of memory.
 abbrev pub PlainStep : Bounds → Database → Entry → Reply → Database → Type 0

@@ -3,7 +3,7 @@ use Rattle.std.specs.Prelude.{◌≤◌, IsTrue, length}
 use Rattle.std.specs.List.{list_all}
 use Rattle.gq_row.specs.Tables.{PlainTable, keys_differ}
 use Rattle.gq_row.specs.Headings.{is_heading}
-use Rattle.gq_engine.specs.Fitting.{fits_columns}
+use Rattle.gq_row.specs.Fitting.{fits_columns}
 
 -- the heading is one, the rows fit it, no two have the same key, and there are at most 2^24
 pub record IsStanding (table : PlainTable) : Type 0 where

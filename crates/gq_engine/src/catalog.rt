@@ -1,10 +1,10 @@
 //! The tables of a database, by their names.
-ghost use Rattle.std.specs.Prelude.{◌≡◌, ◌++◌, ◌∷◌, [], IfOk, OnOk, OnErr, length, option_copied, IsSome, IfSome, MatchOption, None};
-ghost use Rattle.std.specs.Option.{ForSome};
-ghost use Rattle.gq_row.specs.Tables.{put};
-ghost use Rattle.gq_engine.specs.Databases.{table_at, with_table, StandsAt};
-ghost use Rattle.gq_engine.specs.Refusing.{row_refusal};
+ghost use Rattle.std.specs.Prelude.{◌≡◌, ◌++◌, ◌∷◌, [], IfOk, OnOk, OnErr, length, option_copied, MatchOption, None};
+ghost use Rattle.gq_engine.specs.Databases.{table_at, StandsAt, IsKeyed};
+ghost use Rattle.gq_engine.specs.Serving.{Changes};
+ghost use Rattle.gq_engine.specs.Steps.{with_row};
 
+use crate::refusal::{Refusal, Refused};
 use crate::table::Table;
 use gq_row::{Limits, Row, Schema, Text};
 use std::alloc::{AllocError, Global};
@@ -26,9 +26,9 @@ impl Model for Catalog {
     ghost view = { λ c. c.tables.items };
 
     ghost use Rattle.std.specs.Prelude.{IsTrue};
-    ghost use Rattle.gq_engine.specs.Databases.{names_differ};
+    ghost use Rattle.gq_engine.specs.Databases.{names_differ, IsKeyed};
 
-    ghost invariant = { λ c. IsTrue (names_differ c.tables.items) };
+    ghost invariant = { λ c. IsTrue (names_differ c.tables.items) × IsKeyed c.tables.items };
 }
 
 impl Catalog {
@@ -43,7 +43,8 @@ impl Catalog {
 
     /// The number of its tables.
     pub fn len(&self) -> usize
-        ensures { result ≡ length self.now }
+        ensures count { result ≡ length self.now }
+        ensures keyed { IsKeyed self.now }
     {
         self.tables.len()
     }
@@ -56,19 +57,18 @@ impl Catalog {
         Some(&self.tables[i].1)
     }
 
-    /// Puts a row into the table of a name, which takes it.
-    pub fn put(&mut self, name: &str, row: Row, limits: &Limits) -> Result<(), AllocError>
-        requires table { IsSome (table_at self.old name.now) }
-        requires taken { ForSome (table_at self.old name.now) (λ table. row_refusal limits.now.bounds table row ≡ None) }
-        ensures ok { OnOk result (IfSome (table_at self.old name.now) (λ table. self.new ≡ with_table self.old name.now (record table { rows = put table.heading.key table.rows row }))) }
-        ensures err { OnErr result (self.new ≡ self.old) }
+    /// Puts a row into the table of a name.
+    pub fn upsert(&mut self, name: &str, row: Row, limits: &Limits) -> Result<(), Refused>
+        ensures { Changes (with_row limits.now.bounds self.old name.now row) result self.old self.new }
     {
         match find_table(self.tables.as_slice(), name) {
             Some(i) => {
                 let table = &mut self.tables[i].1;
-                table.put(row, limits)
+                let taken = table.upsert(row, limits);
+                let _standing = table.rows();
+                taken
             }
-            None => unreachable!(),
+            None => Err(Refused::from(Refusal::NoTable)),
         }
     }
 

@@ -3,10 +3,9 @@ ghost use Rattle.std.specs.Prelude.{◌≡◌, length};
 ghost use Rattle.std.specs.List.{list_any};
 ghost use Rattle.gq_row.specs.Order.{same_key, same_value};
 ghost use Rattle.gq_row.specs.Rows.{cell, key_of};
-ghost use Rattle.gq_engine.specs.Fitting.{fits_columns, goes_in, is_null as null};
+ghost use Rattle.gq_row.specs.Fitting.{fits_columns, goes_in, is_null as null};
 
-use gq_row::{Column, Kind, Value, compare};
-use std::cmp::Ordering;
+use gq_row::{Column, Kind, Value};
 
 /// Whether two rows have the same values in some columns. A row that is too short has null there.
 pub fn have_same_key(key: &[usize], a: &[Value], b: &[Value]) -> bool
@@ -24,7 +23,7 @@ fn have_same_cell(column: usize, a: &[Value], b: &[Value]) -> bool
     ensures { result ≡ same_value (cell a.now column) (cell b.now column) }
 {
     match (a.get(column), b.get(column)) {
-        (Some(x), Some(y)) => matches!(compare(x, y), Ordering::Equal),
+        (Some(x), Some(y)) => x == y,
         (Some(x), None) => is_null(x),
         (None, Some(y)) => is_null(y),
         (None, None) => true,
@@ -50,7 +49,7 @@ fn has_cell(column: usize, row: &[Value], value: &Value) -> bool
     ensures { result ≡ same_value (cell row.now column) value.now }
 {
     match row.get(column) {
-        Some(found) => matches!(compare(found, value), Ordering::Equal),
+        Some(found) => found == value,
         None => is_null(value),
     }
 }

@@ -1,6 +1,8 @@
 //! Laws: what the definitions come to, in the subject's own words. Each is the contract of a
 //! function that does nothing.
 ghost use Rattle.gq_engine.specs.Databases.{IsFiniteMap};
+ghost use Rattle.gq_engine.specs.Orders.{OrderIsUnseen};
+ghost use Rattle.gq_engine.specs.Repeating.{AnswersOnce};
 ghost use Rattle.gq_engine.specs.Runs.{OnlyMemoryRefuses};
 
 /// A database is a finite map from names to tables, and no name stands in it twice.
@@ -12,4 +14,16 @@ pub fn database_is_a_map()
 /// answer it, or refused for want of memory with the database as it was.
 pub fn only_memory_refuses()
     ensures { OnlyMemoryRefuses }
+{}
+
+/// Databases that differ only in the order of rows within tables give the same replies to every
+/// list of items, and databases that again differ only so.
+pub fn order_is_unseen()
+    ensures { OrderIsUnseen }
+{}
+
+/// Two runs of one script give the same replies, and leave tables that differ at most in the order
+/// of rows, where they began so and no reply tells want of memory.
+pub fn answers_once()
+    ensures { AnswersOnce }
 {}

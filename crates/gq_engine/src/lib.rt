@@ -29,7 +29,6 @@
 
 mod catalog;
 mod cells;
-mod columns;
 mod engine;
 mod grouping;
 pub mod laws;

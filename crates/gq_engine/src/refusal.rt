@@ -1,6 +1,10 @@
 //! Why a command is refused.
 ghost use Rattle.std.specs.Prelude.{◌≡◌, ◌≤◌, length};
+ghost use Rattle.gq_engine.specs.Outcomes.{unnumbered};
 ghost use Rattle.gq_engine.specs.Replies.{code_of, name_of};
+ghost use Rattle.gq_engine.specs.declared.refusal.Refusal.TheVariants.{Memory};
+
+use std::alloc::AllocError;
 
 /// Why a command was refused. Refused commands change no table.
 #[derive(Clone, Copy, Debug, PartialEq, Eq)]
@@ -95,5 +99,29 @@ impl Refusal {
             Refusal::Damaged => "Damaged",
             Refusal::LoadOpen => "LoadOpen",
         }
+    }
+}
+
+/// Why a command was refused, and the number of the faulty record where a payload has one.
+#[derive(Clone, Copy, Debug, PartialEq, Eq)]
+pub struct Refused {
+    pub why: Refusal,
+    /// 1 is the record behind the header.
+    pub number: Option<u64>,
+}
+
+impl From<Refusal> for Refused {
+    ghost from_gives = { λ why refused. refused ≡ unnumbered why };
+
+    fn from(why: Refusal) -> Refused {
+        Refused { why, number: None }
+    }
+}
+
+impl From<AllocError> for Refused {
+    ghost from_gives = { λ _ refused. refused ≡ unnumbered Memory };
+
+    fn from(_e: AllocError) -> Refused {
+        Refused::from(Refusal::Memory)
     }
 }

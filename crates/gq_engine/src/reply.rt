@@ -1,8 +1,9 @@
 //! Replies.
 ghost use Rattle.std.specs.Prelude.{◌≡◌};
+ghost use Rattle.gq_engine.specs.Outcomes.{refused, told};
 ghost use Rattle.gq_engine.specs.Replies.{is_refusal as refuses};
 
-use crate::refusal::Refusal;
+use crate::refusal::{Refusal, Refused};
 use gq_row::{Row, Sequence, Text};
 
 /// The reply to a command.
@@ -23,6 +24,23 @@ pub enum Reply {
 }
 
 impl Reply {
+    /// A refusal that names no record.
+    pub fn refused(why: Refusal) -> Reply
+        ensures { result ≡ refused why }
+    {
+        Reply::told(Refused::from(why))
+    }
+
+    /// The reply that tells a refusal.
+    pub(crate) fn told(refused: Refused) -> Reply
+        ensures { result ≡ told refused }
+    {
+        Reply::Refused {
+            code: refused.why,
+            number: refused.number,
+        }
+    }
+
     /// Whether the command was refused.
     pub fn is_refusal(&self) -> bool
         ensures { result ≡ refuses self.now }

@@ -4,7 +4,7 @@ ghost use Rattle.gq_command.specs.Items.{IsReady};
 ghost use Rattle.gq_engine.specs.Replies.{text, IsLine, is_refusal};
 ghost use Rattle.gq_engine.specs.Steps.{line_refusal};
 
-use crate::engine::{Engine, refused};
+use crate::engine::Engine;
 use crate::line::line_of;
 use crate::refusal::Refusal;
 use crate::reply::Reply;
@@ -50,9 +50,10 @@ impl Engine {
     ghost use Rattle.std.specs.Prelude.{◌≡◌, ◌∷◌, [], IfSome, IfNone};
     ghost use Rattle.gq_command.specs.Items.{IsReady};
     ghost use Rattle.gq_engine.specs.Engines.{database, failures_of, setting_of, state_of};
-    ghost use Rattle.gq_engine.specs.Headline.{Ran, Served};
+    ghost use Rattle.gq_engine.specs.Headline.{Ran};
+    ghost use Rattle.gq_engine.specs.Serving.{Served};
     ghost use Rattle.gq_engine.specs.Replies.{text, IsLine};
-    ghost use Rattle.gq_engine.specs.Runs.{LegalAnswer, FaultsHappened};
+    ghost use Rattle.gq_engine.specs.Runs.{AnsweredAlike, FaultsHappened, KeptUnlessDone};
 
     /// Answers the items of a script, one after the other, and writes each reply and flushes. A
     /// reply's whole text is made before its first byte is written, and the lines `ok` and `err`
@@ -66,6 +67,7 @@ impl Engine {
         ensures ran { Ran (setting_of self.old) (state_of self.old) (R.remaining reader) (state_of self.new) (W.contents writer.old) (W.contents writer.new) result }
         ensures setting { setting_of self.new ≡ setting_of self.old }
     {
+        let _tables = self.tables();
         let mut script = CommandReader::new(reader);
         let mut summary = Summary {
             commands: 0,
@@ -99,23 +101,34 @@ impl Engine {
         Ok(reply)
     }
 
+    // The reply to an item.
+    fn reply_to(&mut self, item: Item) -> Reply
+        requires { IsReady (setting_of self.old).limits item }
+        ensures legal { AnsweredAlike (setting_of self.old) (database self.old) item result (database self.new) }
+        ensures faults { FaultsHappened (result ∷ []) (failures_of self.old) (failures_of self.new) }
+        ensures kept { KeptUnlessDone result (database self.old) (database self.new) }
+        ensures setting { setting_of self.new ≡ setting_of self.old }
+    {
+        match item {
+            Item::Command(command) => return self.execute(command),
+            Item::Refused(why) => return Reply::refused(refusal_of(why)),
+        }
+    }
+
     // The reply to an item, and its text where that needs memory.
     fn answer(&mut self, item: Item) -> (Reply, Option<Vec<u8>>)
         requires { IsReady (setting_of self.old).limits item }
-        ensures legal { LegalAnswer (setting_of self.old) (database self.old) item result.0 (database self.new) }
+        ensures legal { AnsweredAlike (setting_of self.old) (database self.old) item result.0 (database self.new) }
         ensures faults { FaultsHappened (result.0 ∷ []) (failures_of self.old) (failures_of self.new) }
         ensures setting { setting_of self.new ≡ setting_of self.old }
         ensures text { IfSome result.1 (λ bytes. bytes.items ≡ text result.0) }
         ensures line { IfNone result.1 (IsLine result.0) }
     {
-        let reply = match item {
-            Item::Command(command) => self.execute(command),
-            Item::Refused(why) => refused(refusal_of(why)),
-        };
+        let reply = self.reply_to(item);
         match &reply {
             Reply::Rows { header, rows } => match rows_text(self.alloc(), header, rows) {
                 Ok(text) => (reply, Some(text)),
-                Err(AllocError) => (refused(Refusal::Memory), None),
+                Err(AllocError) => (Reply::refused(Refusal::Memory), None),
             },
             _ => (reply, None),
         }

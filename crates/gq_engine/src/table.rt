@@ -2,13 +2,19 @@
 ghost use Rattle.std.specs.Prelude.{◌≡◌, ◌<◌, ◌≤◌, ◌∷◌, ◌++◌, ◌^◌, OnOk, OnErr, MatchOption, IsNone, length, slice_set, [], All};
 ghost use Rattle.gq_row.specs.Tables.{PlainTable, put, put_by_key};
 ghost use Rattle.gq_row.specs.Headings.{Heading};
-ghost use Rattle.gq_engine.specs.Refusing.{row_refusal};
 
 use crate::cells::{fit_columns, has_null, have_same_key};
-use crate::refusal::Refusal;
+use crate::refusal::{Refusal, Refused};
 use gq_row::{Limits, Row, Schema, Value};
 use std::alloc::{AllocError, Global};
 use std::marker::Model;
+
+/// Where a row goes: in the place of another, or behind all rows.
+#[derive(Clone, Copy, Debug)]
+pub enum Placing {
+    Over(usize),
+    New,
+}
 
 /// A table: its schema, and its rows in a list. Each row fits the columns, no two rows have the
 /// same key, and there are at most 2^24 of them.
@@ -31,9 +37,8 @@ impl Model for Table {
 
 impl Table {
     ghost use Rattle.gq_engine.specs.Standing.{IsStanding};
-    ghost use Rattle.std.specs.Prelude.{◌≡◌, ◌≤◌, ◌^◌, [], OnOk, OnErr, length, true, None};
-    ghost use Rattle.gq_row.specs.Tables.{put};
-    ghost use Rattle.gq_engine.specs.Refusing.{row_refusal};
+    ghost use Rattle.std.specs.Prelude.{◌≡◌, [], OnOk, OnErr, IfOk, IfErr};
+    ghost use Rattle.gq_engine.specs.Refusing.{put_within, rows_with, IsPlacing, TakesRow};
 
     /// A table without rows.
     pub fn new(alloc: Global, schema: Schema) -> Table
@@ -60,40 +65,51 @@ impl Table {
         self.rows.as_slice()
     }
 
-    /// Why the table refuses a row, if it does.
-    pub fn refuses(&self, row: &Row, limits: &Limits) -> Option<Refusal>
-        ensures { result ≡ row_refusal limits.now.bounds self.now row.now }
+    /// Where a row goes, or why the table refuses it.
+    pub fn place_for(&self, row: &Row, limits: &Limits) -> Result<Placing, Refused>
+        ensures ok { IfOk result (λ placing. (put_within limits.now.bounds self.now row.now ≡ Ok (rows_with self.now row.now)) × IsPlacing self.now row.now placing) }
+        ensures err { IfErr result (λ why. put_within limits.now.bounds self.now row.now ≡ Err why) }
     {
         if !fit_columns(self.schema.columns(), row.cells()) {
-            return Some(Refusal::TypeMismatch);
+            return Err(Refused::from(Refusal::TypeMismatch));
         }
         if has_null(self.schema.key(), row.cells()) {
-            return Some(Refusal::NullKey);
+            return Err(Refused::from(Refusal::NullKey));
         }
-        let grows = place_for(self.schema.key(), &self.rows, row.cells()).is_none();
         let most = limits.bounds.rows;
-        if most < self.rows.len() || (grows && most == self.rows.len()) {
-            return Some(Refusal::Limit);
+        match place_of(self.schema.key(), &self.rows, row.cells()) {
+            Some(_) if most < self.rows.len() => Err(Refused::from(Refusal::Limit)),
+            None if most <= self.rows.len() => Err(Refused::from(Refusal::Limit)),
+            Some(i) => Ok(Placing::Over(i)),
+            None => Ok(Placing::New),
         }
-        None
+    }
+
+    /// Puts a row where it goes.
+    pub fn put(&mut self, placing: Placing, row: Row) -> Result<(), AllocError>
+        requires { IsPlacing self.old row placing }
+        ensures ok { OnOk result (self.new ≡ record self.old { rows = rows_with self.old row }) }
+        ensures err { OnErr result (self.new ≡ self.old) }
+    {
+        match placing {
+            Placing::Over(i) => self.rows[i] = row,
+            Placing::New => self.rows.push(row)?,
+        }
+        Ok(())
     }
 
     /// Replaces the row that has the same key, or adds the row at the end.
-    pub fn put(&mut self, row: Row, limits: &Limits) -> Result<(), AllocError>
-        requires { row_refusal limits.now.bounds self.old row ≡ None }
-        ensures ok { OnOk result (self.new ≡ record self.old { rows = put self.old.heading.key self.old.rows row }) }
-        ensures err { OnErr result (self.new ≡ self.old) }
+    pub fn upsert(&mut self, row: Row, limits: &Limits) -> Result<(), Refused>
+        ensures { TakesRow limits.now.bounds row result self.old self.new }
     {
-        match place_for(self.schema.key(), &self.rows, row.cells()) {
-            Some(place) => self.rows[place] = row,
-            None => self.rows.push(row)?,
-        }
+        let placing = self.place_for(&row, limits)?;
+        self.put(placing, row)?;
         Ok(())
     }
 }
 
 // Where a row goes: to the place of the row that has its key, or to the end.
-fn place_for(key: &[usize], rows: &[Row], row: &[Value]) -> Option<usize>
+fn place_of(key: &[usize], rows: &[Row], row: &[Value]) -> Option<usize>
     ensures { MatchOption result (put key.now rows.now row.now ≡ rows.now ++ row.now ∷ []) (λ i. (i < length rows.now) × (put key.now rows.now row.now ≡ slice_set rows.now i row.now)) }
 {
     if key.is_empty() {

@@ -37,6 +37,7 @@ unfolding clap_on_literals
 takes-one-path = record {
   nothing = λ name. (refl, refl);
   path = λ name path plain. (path-accepted name path plain, path-named name path plain);
+  dash = λ name. (refl, refl);
   any_path = λ name path. (refl, refl);
   help = λ name. refl;
   short_help = λ name. refl;

@@ -9,7 +9,7 @@ use Rattle.gq_shell.specs.Statuses.{AnsweredAll, Course, StatusesTell}
 
 -- a run of these bytes and states ended so
 abbrev RanSo : Course → Result Summary Fault → Type 0
-RanSo c ended = Ran c.setting c.old (Some c.script) c.new c.before c.after ended
+RanSo c ended = Ran c.setting c.old (Some c.script) c.new c.replies.before c.replies.after ended
 
 -- the status of a run to the end, by whether none was refused
 abbrev code : Bool → ℕ
@@ -36,7 +36,7 @@ one-tells c (Ok summary) ran e = (summary, ran, some-refused summary.refused (su
 one-tells c (Err fault) ran e = let bad : 1 ≡ 3 = e in absurd (omega arith)
 
 three-tells : (c : Course) (ended : Result Summary Fault) → RanSo c ended → 3 ≡ status_of ended
-    → StoppedReading c.setting c.old c.script c.new c.before c.after ⊎ StoppedWriting c.setting c.old c.script c.new c.before c.after
+    → StoppedReading c.setting c.old c.script c.new c.replies.before c.replies.after ⊎ StoppedWriting c.setting c.old c.script c.new c.replies.before c.replies.after
 three-tells c (Ok summary) ran e = absurd (not-three (summary.refused == 0) e)
 three-tells c (Err Read) ran e = inl ran
 three-tells c (Err Write) ran e = inr ran

@@ -24,10 +24,11 @@ has_dash (c ∷ cs) = c == 45
 abbrev pub Names : List Text → Option Text → Type 0
 Names words script = (faults_of words ≡ []) × (script_of words ≡ script)
 
--- The same without clap, of the words behind the program's name: a word that has no dash is the script's path, and behind `--` each is; `--help` and `-h` ask for help, behind a path too; a second path is refused, and so are options.
+-- The same without clap, of the words behind the program's name: a word that has no dash at its front is the script's path, and so is a dash alone, and behind `--` each word is; `--help` and `-h` ask for help, behind a path too; a second path is refused, and so are options.
 pub record TakesOnePath : Type 0 where
   pub nothing : (name : Text) → Names (name ∷ []) None
   pub path : (name path : Text) → has_dash path ≡ false → Names (name ∷ path ∷ []) (Some path)
+  pub dash : (name : Text) → Names (name ∷ codes "-" ∷ []) (Some (codes "-"))
   pub any_path : (name path : Text) → Names (name ∷ codes "--" ∷ path ∷ []) (Some path)
   pub help : (name : Text) → faults_of (name ∷ codes "--help" ∷ []) ≡ DisplayHelp ∷ []
   pub short_help : (name : Text) → faults_of (name ∷ codes "-h" ∷ []) ≡ DisplayHelp ∷ []

@@ -6,7 +6,7 @@ use Rattle.gq_engine.specs.declared.run.Fault.{Fault}
 use Rattle.gq_engine.specs.declared.run.Fault.TheVariants.{Read, Write}
 use Rattle.gq_engine.specs.Headline.{Ran, State}
 use Rattle.gq_engine.specs.Runs.{Setting}
-use Rattle.gq_engine.specs.Sending.{AppendsFront}
+use Rattle.gq_shell.specs.Streams.{Stream, GotFront}
 
 -- the exit status: 0 where all commands were accepted, 1 where some were refused, 3 after a fault
 abbrev pub status_of : Result Summary Fault → ℕ
@@ -20,8 +20,8 @@ complaint (Err Read) = codes "groupsh: read fault\n"
 complaint (Err Write) = codes "groupsh: write fault\n"
 
 -- The engine ran and ended in the way for which the status stands; of a fault the standard error was told, as far as it took it.
-pub record EndedWith (setting : Setting) (old : State) (script : Option Bytes) (new : State) (before after told_before told_after : Option Bytes) (status : ℕ) : Type 0 where
+pub record EndedWith (setting : Setting) (old : State) (script : Option Bytes) (new : State) (replies errors : Stream) (status : ℕ) : Type 0 where
   pub ended : Result Summary Fault
-  pub ran : Ran setting old script new before after ended
+  pub ran : Ran setting old script new replies.before replies.after ended
   pub status_is : status ≡ status_of ended
-  pub told : AppendsFront told_before told_after (complaint ended)
+  pub told : GotFront errors (complaint ended)

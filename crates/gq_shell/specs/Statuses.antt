@@ -5,28 +5,27 @@ use Rattle.gq_engine.specs.declared.run.Summary.{Summary}
 use Rattle.gq_engine.specs.Headline.{RanToEnd, State, StoppedReading, StoppedWriting}
 use Rattle.gq_engine.specs.Runs.{Setting}
 use Rattle.gq_shell.specs.Session.{EndedWith}
+use Rattle.gq_shell.specs.Streams.{Stream}
 
--- one session's bytes and states, its status aside
+-- one session's script, streams and states, its status aside
 pub record Course : Type 0 where
   pub setting : Setting
   pub old : State
   pub script : Bytes
   pub new : State
-  pub before : Option Bytes
-  pub after : Option Bytes
-  pub told_before : Option Bytes
-  pub told_after : Option Bytes
+  pub replies : Stream
+  pub errors : Stream
 
 abbrev pub Ends : Course → ℕ → Type 0
-Ends c status = EndedWith c.setting c.old (Some c.script) c.new c.before c.after c.told_before c.told_after status
+Ends c status = EndedWith c.setting c.old (Some c.script) c.new c.replies c.errors status
 
 -- each item of the script was answered, and these are the counts
 abbrev pub AnsweredAll : Course → Summary → Type 0
-AnsweredAll c summary = RanToEnd c.setting c.old c.script c.new c.before c.after summary
+AnsweredAll c summary = RanToEnd c.setting c.old c.script c.new c.replies.before c.replies.after summary
 
 -- 0: each item was answered and none refused. 1: each was answered and some were refused. 3: a fault stopped the run. There is no other.
 pub record StatusesTell : Type 0 where
   pub zero : (c : Course) → Ends c 0 → (summary : Summary) × AnsweredAll c summary × (summary.refused ≡ 0)
   pub one : (c : Course) → Ends c 1 → (summary : Summary) × AnsweredAll c summary × (summary.refused ≢ 0)
-  pub three : (c : Course) → Ends c 3 → StoppedReading c.setting c.old c.script c.new c.before c.after ⊎ StoppedWriting c.setting c.old c.script c.new c.before c.after
+  pub three : (c : Course) → Ends c 3 → StoppedReading c.setting c.old c.script c.new c.replies.before c.replies.after ⊎ StoppedWriting c.setting c.old c.script c.new c.replies.before c.replies.after
   pub only : (c : Course) (status : ℕ) → Ends c status → (status ≡ 0) ⊎ ((status ≡ 1) ⊎ (status ≡ 3))

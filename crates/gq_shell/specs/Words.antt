@@ -1,5 +1,5 @@
 -- What reading a command line answers.
-use Rattle.std.specs.Prelude.{◌≡◌, ◌≢◌, ◌⊎◌, ℕ, List, [], Result, Ok, Err, option_map}
+use Rattle.std.specs.Prelude.{◌≡◌, ◌≢◌, List, [], Result, Ok, Err, option_map}
 use Rattle.clap.specs.Words.{IsAmong, Text}
 use Rattle.clap.specs.declared.error.kind.ErrorKind.{ErrorKind}
 use Rattle.clap.specs.declared.error.kind.ErrorKind.TheVariants as kind
@@ -24,9 +24,3 @@ IsBad words Memory = Unit {0}
 abbrev pub Reads : List Text → Result Options BadLine → Type 0
 Reads words (Ok options) = (faults_of words ≡ []) × (option_map (λ s. s.now) options.script ≡ script_of words)
 Reads words (Err bad) = IsBad words bad
-
--- the exit status: 0 for help, 2 for a mistake, 3 for want of memory and for help that could not be written
-abbrev pub HasStatus : BadLine → ℕ → Type 0
-HasStatus (Help text) status = (status ≡ 0) ⊎ (status ≡ 3)
-HasStatus (Mistake text) status = status ≡ 2
-HasStatus Memory status = status ≡ 3

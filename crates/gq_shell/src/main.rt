@@ -1,94 +1,43 @@
 //! The program `groupsh`: it reads a script of commands, and writes the reply to each.
 //!
-//! It reads its command line first, then opens the script, and then runs it. There is one contract
-//! above each step that decides something. [`words::read_words`] answers the script that the command
-//! line names, and tells help, mistakes and want of memory apart; the law in [`laws`] says what
-//! command lines those are. [`session::session`] runs an engine: what it writes is what the engine's
-//! contract says, and the exit status stands for how that run ended.
+//! It reads its command line first, then opens the script, and then runs it. The contract above it
+//! is that of [`program::run_program`], over what a process has: its words, what opening a path
+//! gives, its standard input, and its two streams. It says which script is run, what each stream
+//! got, and what the exit status stands for; `main` hands in the process's own.
+//!
+//! Below it stand [`words::read_words`], which answers the script that the command line names and
+//! tells help, mistakes and want of memory apart; [`script::run_script`], which opens that script;
+//! [`session::session`], which runs an engine; and [`stopping`], for all that ends before a run. The
+//! laws in [`laws`] say what this comes to for command lines and for statuses.
 #![tactic(auto)]
 
-ghost use Rattle.std.specs.Prelude.{◌≡◌};
-ghost use Rattle.gq_shell.specs.Words.{HasStatus};
-
 pub mod laws;
+mod program;
+mod script;
 mod session;
+mod stopping;
+mod telling;
 #[cfg(test)]
 mod tests;
 mod words;
 
-use crate::session::session;
-use crate::words::{BadLine, Options, read_words};
-use gq_engine::Engine;
-use gq_row::Limits;
-use std::env;
+use crate::program::run_program;
 use std::fs::File;
-use std::io::ErrorKind;
 use std::process::ExitCode;
+use std::{env, io};
 
 fn main(rt: HostRuntime) -> ExitCode {
-    ExitCode::from(status(&rt))
+    let status = run_program(
+        rt.alloc(),
+        arguments(&rt),
+        |path| File::open(&rt, path),
+        rt.reader(),
+        &mut rt.stdout(),
+        &mut rt.stderr(),
+    );
+    ExitCode::from(status)
 }
 
-// Reads the command line, then opens the script, then runs it.
-fn status(rt: &HostRuntime) -> u8 {
-    let words = match env::args(rt) {
-        Ok(words) => words.collect(rt.alloc()),
-        Err(e) if e.kind() == ErrorKind::OutOfMemory => return out_of_memory(rt),
-        Err(_e) => {
-            let _ = eprintln!(rt; "error: the arguments are not UTF-8");
-            return 2;
-        }
-    };
-    let words: Vec<String> = match words {
-        Ok(words) => words,
-        Err(_e) => return out_of_memory(rt),
-    };
-    match read_words(rt.alloc(), words.as_slice()) {
-        Ok(options) => run(rt, options),
-        Err(bad) => answer_bad_line(rt, bad),
-    }
-}
-
-fn run(rt: &HostRuntime, options: Options<'_>) -> u8 {
-    let mut engine = Engine::new(rt.alloc(), Limits::greatest());
-    let mut replies = rt.stdout();
-    let mut errors = rt.stderr();
-    match options.script {
-        None => session(&mut engine, rt.reader(), &mut replies, &mut errors),
-        Some(path) => match File::open(rt, path) {
-            Ok(script) => session(&mut engine, script, &mut replies, &mut errors),
-            Err(e) if e.kind() == ErrorKind::OutOfMemory => out_of_memory(rt),
-            Err(_e) => {
-                let _ = eprintln!(rt; "groupsh: cannot open script");
-                3
-            }
-        },
-    }
-}
-
-// Tells what the command line came to, where it asks for no run.
-fn answer_bad_line(rt: &(impl Print + Eprint), bad: BadLine) -> u8
-    ensures { HasStatus bad result }
-{
-    match bad {
-        BadLine::Help(text) => match print!(rt; "{text}") {
-            Ok(()) => 0,
-            Err(_e) => {
-                let _ = eprintln!(rt; "groupsh: write fault");
-                3
-            }
-        },
-        BadLine::Mistake(text) => {
-            let _ = eprint!(rt; "{text}");
-            2
-        }
-        BadLine::Memory => out_of_memory(rt),
-    }
-}
-
-fn out_of_memory(rt: &impl Eprint) -> u8
-    ensures { result ≡ 3 }
-{
-    let _ = eprintln!(rt; "groupsh: out of memory");
-    3
+fn arguments(rt: &HostRuntime) -> io::Result<Vec<String>> {
+    Ok(env::args(rt)?.collect(rt.alloc())?)
 }

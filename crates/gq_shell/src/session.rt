@@ -1,9 +1,10 @@
 //! One run of an engine, from a script's bytes to the exit status.
 ghost use Rattle.std.specs.Prelude.{◌≡◌};
 ghost use Rattle.gq_engine.specs.Engines.{setting_of, state_of};
-ghost use Rattle.gq_engine.specs.Sending.{AppendsFront};
 ghost use Rattle.gq_shell.specs.Session.{EndedWith, status_of, complaint};
+ghost use Rattle.gq_shell.specs.Streams.{stream};
 
+use crate::telling::tell;
 use gq_engine::{Engine, Fault, Summary};
 use std::io::{Read, Write};
 
@@ -16,11 +17,13 @@ pub fn session<R: Read + Drop, W: Write, E: Write>(
     errors: &mut E,
 ) -> u8
     // What was written is as the engine ran, and the status stands for how that ended.
-    ensures ended { EndedWith (setting_of engine.old) (state_of engine.old) (R.remaining reader) (state_of engine.new) (W.contents writer.old) (W.contents writer.new) (E.contents errors.old) (E.contents errors.new) result }
+    ensures ended { EndedWith (setting_of engine.old) (state_of engine.old) (R.remaining reader)
+        (state_of engine.new) (stream W.contents writer.old writer.new)
+        (stream E.contents errors.old errors.new) result }
     ensures setting { setting_of engine.new ≡ setting_of engine.old }
 {
     let ended = engine.run(reader, writer);
-    tell(complaint(&ended), errors);
+    let _told = tell(complaint(&ended), errors);
     status_of(&ended)
 }
 
@@ -45,21 +48,4 @@ fn complaint(ended: &Result<Summary, Fault>) -> &'static str
         Err(Fault::Read) => "groupsh: read fault\n",
         Err(Fault::Write) => "groupsh: write fault\n",
     }
-}
-
-/// Writes a text. Where a write fails, or takes no byte, the rest is left out.
-fn tell<E: Write>(text: &str, errors: &mut E)
-    ensures { AppendsFront (E.contents errors.old) (E.contents errors.new) text.now }
-{
-    let bytes = text.as_bytes();
-    let mut at = 0;
-    while at < bytes.len() {
-        let (_told, left) = bytes.split_at(at);
-        match errors.write(left) {
-            Ok(0) => return,
-            Ok(n) => at += n,
-            Err(_e) => return,
-        }
-    }
-    let _flushed = errors.flush();
 }

@@ -1,5 +1,8 @@
-//! Command lines and what they ask for, and sessions with their statuses.
+//! Command lines and what they ask for, sessions with their statuses, and the program over streams
+//! in memory.
+use crate::program::run_program;
 use crate::session::session;
+use crate::telling::CutShort;
 use crate::words::{BadLine, read_words};
 use gq_engine::Engine;
 use gq_row::{Bounds, Limits};
@@ -73,6 +76,23 @@ fn help(rt: HostRuntime) -> Result<(), Fail> {
             assert!(rt; text.as_str().contains(part), "{text}");
         }
     }
+    Ok(())
+}
+
+/// The text that each error shows.
+#[test]
+fn errors_show_their_texts(rt: HostRuntime) -> Result<(), Fail> {
+    let help = BadLine::Help(String::from_str(rt.alloc(), "Usage\n")?);
+    let mistake = BadLine::Mistake(String::from_str(rt.alloc(), "error: two\n")?);
+    for (error, text) in [
+        (&help, "Usage\n"),
+        (&mistake, "error: two\n"),
+        (&BadLine::Memory, "out of memory"),
+    ] {
+        assert_eq!(rt; format!(in rt.alloc(); "{error}")?.as_str(), text);
+    }
+    let cut = CutShort;
+    assert_eq!(rt; format!(in rt.alloc(); "{cut}")?.as_str(), "cut short");
     Ok(())
 }
 
@@ -223,6 +243,91 @@ fn a_standard_error_that_takes_little(rt: HostRuntime) -> Result<(), Fail> {
             let (front, _rest) = told.split_at((2 * room).min(told.len()));
             assert_eq!(rt; errors.written.as_slice(), front);
         }
+    }
+    Ok(())
+}
+
+/// What the program answers and writes, where its files are these two.
+fn run_in_memory(
+    alloc: Global,
+    words: io::Result<Vec<String>>,
+    input: &[u8],
+) -> (u8, Vec<u8>, Vec<u8>) {
+    let opener = |path: &str| -> io::Result<&[u8]> {
+        match path {
+            "a.gq" => Ok(b"create s (a int)\n".as_slice()),
+            "-" => Ok(b"create s (a int)\ncreat\n".as_slice()),
+            "locked" => Err(ErrorKind::PermissionDenied.into()),
+            "large" => Err(ErrorKind::OutOfMemory.into()),
+            _ => Err(ErrorKind::NotFound.into()),
+        }
+    };
+    let mut replies = Vec::new(alloc);
+    let mut errors = Vec::new(alloc);
+    let status = run_program(alloc, words, opener, input, &mut replies, &mut errors);
+    (status, replies, errors)
+}
+
+/// Each command line, the status, and what stands on each stream.
+#[test]
+fn programs(rt: HostRuntime) -> Result<(), Fail> {
+    let input = b"creat\n".as_slice();
+    let refused = b"err 1 Syntax\n".as_slice();
+    let both = b"ok 0\nerr 1 Syntax\n".as_slice();
+    let unopened = b"groupsh: cannot open script\n".as_slice();
+    let full = b"groupsh: out of memory\n".as_slice();
+    let cases: [(&[&str], u8, &[u8], &[u8]); 7] = [
+        (&["groupsh"], 1, refused, b""),
+        (&["groupsh", "a.gq"], 0, b"ok 0\n", b""),
+        (&["groupsh", "-"], 1, both, b""),
+        (&["groupsh", "--", "-"], 1, both, b""),
+        (&["groupsh", "b.gq"], 3, b"", unopened),
+        (&["groupsh", "locked"], 3, b"", unopened),
+        (&["groupsh", "large"], 3, b"", full),
+    ];
+    for (words, status, due, told) in cases {
+        let words = owned(rt.alloc(), words)?;
+        let (answered, replies, errors) = run_in_memory(rt.alloc(), Ok(words), input);
+        assert_eq!(rt; answered, status);
+        assert_eq!(rt; replies.as_slice(), due);
+        assert_eq!(rt; errors.as_slice(), told);
+    }
+    Ok(())
+}
+
+#[test]
+fn command_lines_that_run_nothing(rt: HostRuntime) -> Result<(), Fail> {
+    let cases: [(&[&str], u8, &str, &str); 2] = [
+        (&["groupsh", "--help"], 0, "Keeps rows", ""),
+        (&["groupsh", "a.gq", "b.gq"], 2, "", "error: "),
+    ];
+    for (words, status, replies_front, errors_front) in cases {
+        let words = owned(rt.alloc(), words)?;
+        let (answered, replies, errors) = run_in_memory(rt.alloc(), Ok(words), b"creat\n");
+        assert_eq!(rt; answered, status);
+        assert_eq!(rt; replies.is_empty(), replies_front.is_empty());
+        assert_eq!(rt; errors.is_empty(), errors_front.is_empty());
+        assert!(rt; replies.as_slice().starts_with(replies_front.as_bytes()));
+        assert!(rt; errors.as_slice().starts_with(errors_front.as_bytes()));
+    }
+    Ok(())
+}
+
+#[test]
+fn words_that_cannot_be_had(rt: HostRuntime) -> Result<(), Fail> {
+    let cases: [(ErrorKind, u8, &[u8]); 2] = [
+        (ErrorKind::OutOfMemory, 3, b"groupsh: out of memory\n"),
+        (
+            ErrorKind::InvalidData,
+            2,
+            b"error: the arguments are not UTF-8\n",
+        ),
+    ];
+    for (kind, status, told) in cases {
+        let (answered, replies, errors) = run_in_memory(rt.alloc(), Err(kind.into()), b"creat\n");
+        assert_eq!(rt; answered, status);
+        assert!(rt; replies.is_empty());
+        assert_eq!(rt; errors.as_slice(), told);
     }
     Ok(())
 }

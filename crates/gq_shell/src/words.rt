@@ -16,14 +16,17 @@ pub struct Options<'a> {
 }
 
 /// Why a command line asks for no run.
-#[derive(Debug, Drop)]
+#[derive(Debug, Drop, thiserror::Error)]
 pub enum BadLine {
     /// Help was asked for; its text, for the standard output.
+    #[error("{0}")]
     Help(String),
     /// The words are no command line of the program; what is wrong with them, for the standard
     /// error.
+    #[error("{0}")]
     Mistake(String),
     /// A request for memory was refused.
+    #[error("out of memory")]
     Memory,
 }
 

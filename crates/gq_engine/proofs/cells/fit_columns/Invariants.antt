@@ -1,5 +1,5 @@
 use Rattle.std.proofs.Common.{◌≡◌, drop}
-use Rattle.gq_engine.specs.Fitting.{fits_columns}
+use Rattle.gq_row.specs.Fitting.{fits_columns}
 use Rattle.gq_engine.proofs.cells.fit_columns.Given as goal
 
 abbrev pub invariant-loop-i : goal.invariant-loop-i

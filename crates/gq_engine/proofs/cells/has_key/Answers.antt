@@ -1,4 +1,4 @@
-use Rattle.gq_engine.proofs.KeyLemmas.{unequal_key}
+use Rattle.gq_row.proofs.ClassLemmas.{unequal_key}
 use Rattle.gq_engine.proofs.cells.has_key.Goals as goal
 
 pub returns-then-columns-key : goal.returns-then-columns-key

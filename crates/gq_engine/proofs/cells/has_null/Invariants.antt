@@ -1,7 +1,7 @@
 use Rattle.std.proofs.Common.{◌≡◌, drop}
 use Rattle.std.specs.List.{list_any}
 use Rattle.gq_row.specs.Rows.{cell}
-use Rattle.gq_engine.specs.Fitting.{is_null}
+use Rattle.gq_row.specs.Fitting.{is_null}
 use Rattle.gq_engine.proofs.cells.has_null.Given as goal
 
 abbrev pub invariant-loop-column : goal.invariant-loop-column

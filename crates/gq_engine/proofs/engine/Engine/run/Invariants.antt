@@ -8,5 +8,5 @@ invariant-loop-turn g l = record {
   setting : setting_of l.self ≡ setting_of l.fn.self;
   count : l.summary.commands ≡ l._turn;
   few : l.summary.refused ≤ l._turn;
-  going : Going (setting_of l.fn.self) (state_of l.fn.self) (g.R.Read.remaining l.fn.reader) (state_of l.self) l.script.left (g.W.Write.contents l.fn.writer) (g.W.Write.contents l.writer) l.summary.commands l.summary.refused;
+  going : Going (setting_of l.fn.self) (state_of l.fn.self) (g.R.Read.remaining l.fn.reader) (state_of l.self) l.script (g.W.Write.contents l.fn.writer) (g.W.Write.contents l.writer) l.summary.commands l.summary.refused;
 }

@@ -1,0 +1,84 @@
+-- The steps of a command tell no failure of the run store.
+use Rattle.std.proofs.Common.{◌≡◌, ℕ, Bool, true, false, not, List, [], ◌∷◌, length, refl, sym, ap, subst, ◌∙◌, Option, Some, None}
+use Rattle.std.specs.Prelude.{nat_lt, nat_le, is_some, Result, Ok, Err}
+use Rattle.gq_row.specs.declared.value.Value.{Value}
+use Rattle.gq_row.specs.declared.schema.Column.{Column}
+use Rattle.gq_row.specs.declared.limits.Bounds.{Bounds}
+use Rattle.gq_row.specs.Headings.{positions_of}
+use Rattle.gq_row.specs.Tables.{PlainTable}
+use Rattle.gq_command.specs.declared.command.Command.{Command}
+use Rattle.gq_command.specs.declared.command.Command.TheVariants.{Create, Drop, Load, Upsert, Delete, Show, Group, Distinct}
+use Rattle.gq_engine.specs.declared.refusal.Refusal.{Refusal}
+use Rattle.gq_engine.specs.declared.refusal.Refusal.TheVariants.{TypeMismatch, NullKey, Limit, TableExists, NoColumn, NoTable}
+use Rattle.gq_engine.specs.declared.refusal.Refused.{Refused}
+use Rattle.gq_engine.specs.declared.reply.Reply.{Reply}
+use Rattle.gq_engine.specs.Databases.{Database, table_at}
+use Rattle.gq_row.specs.Fitting.{fits_columns}
+use Rattle.gq_engine.specs.Outcomes.{◌>>=◌, some_or, true_or, told, unnumbered}
+use Rattle.gq_engine.specs.Refusing.{has_null_key, rows_with, put_within}
+use Rattle.gq_engine.specs.Runs.{is_store_fault}
+use Rattle.gq_engine.specs.Steps.{Outcome, table_in, settle, outcome, create, with_row, upsert, group}
+
+-- steps whose refusal is no failure of the run store
+abbrev Refuses : {X : Type 0} → (X → Bool) → Result X Refused → Type 0
+Refuses fault (Ok x) = fault x ≡ false
+Refuses fault (Err why) = is_store_fault (told why) ≡ false
+
+then_refuses : {X Y : Type 0} (p : X → Bool) (q : Y → Bool) (m : Result X Refused) (f : X → Result Y Refused) → Refuses p m → ((x : X) → Refuses q (f x)) → Refuses q (m >>= f)
+then_refuses p q (Ok x) f h k = k x
+then_refuses p q (Err why) f h k = h
+
+abbrev never : {X : Type 0} → X → Bool
+never x = false
+
+test_refuses : (why : Refusal) (b : Bool) → is_store_fault (told (unnumbered why)) ≡ false → Refuses never (true_or why b)
+test_refuses why true h = refl
+test_refuses why false h = h
+
+some_refuses : {X : Type 0} (why : Refusal) (o : Option X) → is_store_fault (told (unnumbered why)) ≡ false → Refuses never (some_or why o)
+some_refuses why None h = h
+some_refuses why (Some x) h = refl
+
+abbrev faulty : Database × Reply → Bool
+faulty done = is_store_fault done.1
+
+put_refuses : (limits : Bounds) (table : PlainTable) (row : List Value) → Refuses never (put_within limits table row)
+put_refuses limits table row =
+    then_refuses never never (true_or TypeMismatch (fits_columns table.heading.columns row)) _ (test_refuses TypeMismatch _ refl)
+    (λ _. then_refuses never never (true_or NullKey (not (has_null_key table row))) _ (test_refuses NullKey _ refl)
+    (λ _. then_refuses never never (true_or Limit (nat_le (length (rows_with table row)) limits.rows)) _ (test_refuses Limit _ refl) (λ _. refl)))
+
+module _ (limits : Bounds) (db : Database) where
+  create_refuses : (name : List ℕ) (columns : List Column) (key : List (List ℕ)) → Refuses faulty (create limits db name columns key)
+  create_refuses name columns key =
+      then_refuses never faulty (true_or TableExists (not (is_some (table_at db name)))) _ (test_refuses TableExists _ refl)
+      (λ _. then_refuses never faulty (some_or NoColumn (positions_of columns key)) _ (some_refuses NoColumn _ refl)
+      (λ positions. then_refuses never faulty (true_or Limit (nat_lt (length db) limits.tables)) _ (test_refuses Limit _ refl) (λ _. refl)))
+
+  upsert_refuses : (name : List ℕ) (row : List Value) → Refuses faulty (upsert limits db name row)
+  upsert_refuses name row =
+      then_refuses never faulty (with_row limits db name row) _
+      (then_refuses never never (table_in db name) _ (some_refuses NoTable _ refl)
+      (λ table. then_refuses never never (put_within limits table row) _ (put_refuses limits table row) (λ _. refl)))
+      (λ _. refl)
+
+  group_refuses : (name : List ℕ) (by : List (List ℕ)) → Refuses faulty (group db name by)
+  group_refuses name by =
+      then_refuses never faulty (table_in db name) _ (some_refuses NoTable _ refl)
+      (λ table. then_refuses never faulty (some_or NoColumn (positions_of table.heading.columns by)) _ (some_refuses NoColumn _ refl) (λ _. refl))
+
+  command_refuses : (c : Command) → Refuses faulty (outcome limits db c)
+  command_refuses (Create name columns key) = create_refuses name columns key
+  command_refuses (Drop name) = refl
+  command_refuses (Load name payload) = refl
+  command_refuses (Upsert name values) = upsert_refuses name values
+  command_refuses (Delete name values) = refl
+  command_refuses (Show name) = refl
+  command_refuses (Group name by shown tests exists having) = group_refuses name by
+  command_refuses (Distinct name on tests) = refl
+
+  pub done_tells : (c : Command) (last : Database) (answer : Reply) → outcome limits db c ≡ Ok (last, answer) → is_store_fault answer ≡ false
+  done_tells c last answer e = subst (Refuses faulty) e (command_refuses c)
+
+  pub refused_tells : (c : Command) (why : Refused) → outcome limits db c ≡ Err why → is_store_fault (told why) ≡ false
+  refused_tells c why e = subst (Refuses faulty) e (command_refuses c)

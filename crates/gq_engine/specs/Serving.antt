@@ -1,0 +1,50 @@
+-- What answering one item and writing its reply did.
+use Rattle.std.specs.Prelude.{◌≡◌, ◌⊎◌, ◌∷◌, [], Option, Result, Ok, Err}
+use Rattle.std.specs.Io.KnownBytes.{Appends}
+use Rattle.gq_command.specs.declared.reader.Item.{Item}
+use Rattle.gq_command.specs.Commands.{Bytes}
+use Rattle.gq_engine.specs.declared.refusal.Refusal.TheVariants.{Memory}
+use Rattle.gq_engine.specs.declared.refusal.Refused.{Refused}
+use Rattle.gq_engine.specs.declared.reply.Reply.{Reply}
+use Rattle.gq_engine.specs.declared.sending.WriteFault.{WriteFault}
+use Rattle.gq_engine.specs.Databases.{Database}
+use Rattle.gq_engine.specs.Headline.{State}
+use Rattle.gq_engine.specs.Outcomes.{unnumbered}
+use Rattle.gq_engine.specs.Replies.{text}
+use Rattle.gq_engine.specs.Runs.{Setting, AnsweredAlike, SameTables, KeptUnlessDone, FaultsHappened}
+use Rattle.gq_engine.specs.Sending.{AppendsFront}
+use Rattle.gq_engine.specs.Steps.{Outcome}
+
+-- the steps of a command came to this reply, and to tables that are these but for the order of rows
+pub record CarriedOut (steps : Outcome) (answer : Reply) (old new : Database) : Type 0 where
+  pub last : Database
+  pub done : steps ≡ Ok (last, answer)
+  pub same : SameTables last new
+  pub kept : KeptUnlessDone answer old new
+
+-- what a command did: what its steps come to, or they are refused, or there was no memory; the last two leave the tables but for the order of rows
+abbrev pub Comes : Outcome → Result Reply Refused → Database → Database → Type 0
+Comes steps (Ok answer) old new = CarriedOut steps answer old new
+Comes steps (Err why) old new = SameTables old new × ((why ≡ unnumbered Memory) ⊎ (steps ≡ Err why))
+
+-- what a step that changes tables did, in the same words
+abbrev pub Changes : {X : Type 0} → Result Database Refused → Result X Refused → Database → Database → Type 0
+Changes steps (Ok x) old new = (last : Database) × (steps ≡ Ok last) × SameTables last new
+Changes steps (Err why) old new = SameTables old new × ((why ≡ unnumbered Memory) ⊎ (steps ≡ Err why))
+
+-- an item was answered, and the reply's text written
+pub record Wrote (setting : Setting) (old : State) (it : Item) (new : State) (before after : Option Bytes) (answer : Reply) : Type 0 where
+  pub legal : AnsweredAlike setting old.database it answer new.database
+  pub faults : FaultsHappened (answer ∷ []) old.failures new.failures
+  pub written : Appends before after (text answer)
+
+-- an item was answered, and a front of the reply's text written
+pub record WroteFront (setting : Setting) (old : State) (it : Item) (new : State) (before after : Option Bytes) : Type 0 where
+  pub answer : Reply
+  pub legal : AnsweredAlike setting old.database it answer new.database
+  pub faults : FaultsHappened (answer ∷ []) old.failures new.failures
+  pub written : AppendsFront before after (text answer)
+
+abbrev pub Served : Setting → State → Item → State → Option Bytes → Option Bytes → Result Reply WriteFault → Type 0
+Served setting old it new before after (Ok answer) = Wrote setting old it new before after answer
+Served setting old it new before after (Err e) = WroteFront setting old it new before after

@@ -1,0 +1,23 @@
+//! Tests of the engine and of the crates that it stands on, from the values up to whole runs.
+//!
+//! They try what no contract says: that calls succeed where memory is ample, and answer what the
+//! language's rules say, written here by hand; what a run does at each limit and one past it; and
+//! readers and writers that fail. They stand here so that the crates below are proved without them.
+#![tactic(auto)]
+
+#[cfg(test)]
+mod devices;
+#[cfg(test)]
+mod faults;
+#[cfg(test)]
+mod keys;
+#[cfg(test)]
+mod limits;
+#[cfg(test)]
+mod lines;
+#[cfg(test)]
+mod refusal_texts;
+#[cfg(test)]
+mod runs;
+#[cfg(test)]
+mod values;

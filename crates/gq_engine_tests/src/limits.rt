@@ -1,0 +1,172 @@
+//! Each limit at its value and one past it.
+use gq_engine::{Engine, Fault};
+use gq_row::{Bounds, Limits};
+use std::alloc::Global;
+use std::test::Fail;
+
+/// The greatest bounds, and a field's place among them.
+const FIELDS: [(&str, u64); 9] = [
+    ("tables", 64),
+    ("columns", 32),
+    ("aggregates", 8),
+    ("name", 63),
+    ("text", 65_535),
+    ("line", 65_536),
+    ("payload", 268_435_456),
+    ("rows", 16_777_216),
+    ("script", 1_099_511_627_776),
+];
+
+/// The greatest bounds with another value in one field.
+fn with(field: &str, value: u64) -> Bounds {
+    let mut bounds = Limits::greatest().bounds;
+    let size = value as usize;
+    match field {
+        "tables" => bounds.tables = size,
+        "columns" => bounds.columns = size,
+        "aggregates" => bounds.aggregates = size,
+        "name" => bounds.name = size,
+        "text" => bounds.text = size,
+        "line" => bounds.line = size,
+        "payload" => bounds.payload = size,
+        "rows" => bounds.rows = size,
+        _ => bounds.script = value,
+    }
+    bounds
+}
+
+#[test]
+fn limits_from_one_to_the_greatest(rt: HostRuntime) {
+    for (field, greatest) in FIELDS {
+        for value in [1, greatest] {
+            let made = Limits::new(with(field, value));
+            assert!(rt;
+                made.is_some_and(|limits| limits.bounds == with(field, value)),
+                "{field} {value}"
+            );
+        }
+        for value in [0, greatest + 1, u64::MAX] {
+            assert!(rt;
+                Limits::new(with(field, value)).is_none(),
+                "{field} {value}"
+            );
+        }
+        let bounds = with(field, greatest);
+        assert!(rt; bounds == Limits::greatest().bounds, "{field}");
+    }
+}
+
+/// What a run under limits writes, and whether a read fault ended it.
+fn run(alloc: Global, limits: Limits, script: &[u8]) -> (Vec<u8>, bool) {
+    let mut engine = Engine::new(alloc, limits);
+    let mut written = Vec::new(alloc);
+    let ended = engine.run(script, &mut written);
+    (written, ended == Err(Fault::Read))
+}
+
+/// A field, its value, a script, and what it must write then.
+const CASES: [(&str, u64, &[u8], &[u8]); 14] = [
+    (
+        "tables",
+        2,
+        b"create a (x int)\ncreate b (x int)\ncreate c (x int)\nupsert c (1)\nupsert b (1)\n",
+        b"ok 0\nok 0\nerr 14 Limit\nerr 3 NoTable\nok 1\n",
+    ),
+    (
+        "columns",
+        2,
+        b"create a (x int, y int)\ncreate b (x int, y int, z int)\n",
+        b"ok 0\nerr 14 Limit\n",
+    ),
+    // The limit on columns is on `create` alone.
+    (
+        "columns",
+        1,
+        b"create a (x int)\nupsert a (1, 2)\ngroup a by x, y show count(*)\n",
+        b"ok 0\nerr 6 TypeMismatch\nerr 5 NoColumn\n",
+    ),
+    (
+        "aggregates",
+        1,
+        b"create a (x int)\ngroup a by x show count(*)\n",
+        b"ok 0\nok 0\nx,count(*)\n",
+    ),
+    (
+        "name",
+        3,
+        b"create abc (xyz int)\ncreate abcd (x int)\ncreate b (wxyz int)\nupsert abcd (1)\n",
+        b"ok 0\nerr 14 Limit\nerr 14 Limit\nerr 14 Limit\n",
+    ),
+    (
+        "text",
+        4,
+        b"create a (x text)\nupsert a ('1234')\nupsert a ('12345')\nupsert a ('123''')\n",
+        b"ok 0\nok 1\nerr 14 Limit\nok 1\n",
+    ),
+    // Lines of 16 and of 17 bytes, the LF or CR LF behind them not counted.
+    (
+        "line",
+        16,
+        b"create a (x int)\ncreate b (x int)\r\ncreate cc (x int)\ncreate d (x int)",
+        b"ok 0\nok 0\nerr 2 LineTooLong\nok 0\n",
+    ),
+    (
+        "line",
+        1,
+        b"a\nab\n                  -- a comment\n",
+        b"err 1 Syntax\nerr 2 LineTooLong\n",
+    ),
+    ("payload", 1, b"create a (x int)\n", b"ok 0\n"),
+    (
+        "rows",
+        2,
+        b"create a (x int)\nupsert a (1)\nupsert a (1)\nupsert a (1)\ngroup a by x show count(*)\n",
+        b"ok 0\nok 1\nok 1\nerr 14 Limit\nok 1\nx,count(*)\n1,2\n",
+    ),
+    // A row that replaces another adds none.
+    (
+        "rows",
+        1,
+        b"create a (x int, y int, key (x))\nupsert a (1, 1)\nupsert a (1, 2)\nupsert a (2, 2)\ngroup a by y show count(*)\n",
+        b"ok 0\nok 1\nok 1\nerr 14 Limit\nok 1\ny,count(*)\n2,1\n",
+    ),
+    ("script", 17, b"create a (x int)\n", b"ok 0\n"),
+    // A byte-order mark is counted.
+    ("script", 19, b"\xEF\xBB\xBFcreate a (x int)", b"ok 0\n"),
+    ("script", 3, b"\xEF\xBB\xBF", b""),
+];
+
+#[test]
+fn each_limit_and_one_past_it(rt: HostRuntime) -> Result<(), Fail> {
+    for (field, value, script, due) in CASES {
+        let Some(limits) = Limits::new(with(field, value)) else {
+            return Err(Fail::new("no limits"));
+        };
+        let (written, faulted) = run(rt.alloc(), limits, script);
+        assert_eq!(rt; written.as_slice(), due, "{field} {value}");
+        assert!(rt; !faulted, "{field} {value}");
+    }
+    Ok(())
+}
+
+/// A script of one byte more than its limit: the lines that are whole within the limit are
+/// answered, and then a read fault comes.
+#[test]
+fn a_script_past_its_limit(rt: HostRuntime) -> Result<(), Fail> {
+    let cases: [(u64, &[u8], &[u8]); 5] = [
+        (16, b"create a (x int)\n", b""),
+        (17, b"create a (x int)\n\n", b"ok 0\n"),
+        (18, b"\xEF\xBB\xBFcreate a (x int)", b""),
+        (2, b"\xEF\xBB\xBF", b""),
+        (1, b"\n\n", b""),
+    ];
+    for (value, script, due) in cases {
+        let Some(limits) = Limits::new(with("script", value)) else {
+            return Err(Fail::new("no limits"));
+        };
+        let (written, faulted) = run(rt.alloc(), limits, script);
+        assert_eq!(rt; written.as_slice(), due, "{value}");
+        assert!(rt; faulted, "{value}");
+    }
+    Ok(())
+}

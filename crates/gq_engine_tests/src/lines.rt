@@ -1,0 +1,353 @@
+//! Lines and scripts, as users write them. Expected answers are the language's rules, written by
+//! hand.
+use crate::devices::Pieces;
+use gq_command::{Aggregate, Command, CommandReader, Item, LineRefusal, ReadFault, parse_line};
+use gq_row::{Bounds, Kind, Limits, Value};
+use std::io::{ErrorKind, Read};
+use std::test::Fail;
+
+/// Limits of a line and a script that a test can reach.
+fn small(line: usize, script: u64) -> Option<Limits> {
+    Limits::new(Bounds {
+        tables: 2,
+        columns: 2,
+        aggregates: 1,
+        name: 4,
+        text: 5,
+        line,
+        payload: 100,
+        rows: 10,
+        script,
+    })
+}
+
+/// What a line gives, in one letter: a command's form, or a refusal.
+fn letter(answer: &Result<Command, LineRefusal>) -> char {
+    match answer {
+        Ok(Command::Create { .. }) => 'c',
+        Ok(Command::Upsert { .. }) => 'u',
+        Ok(Command::Group { .. }) => 'g',
+        Ok(_) => '?',
+        Err(LineRefusal::Syntax) => 'S',
+        Err(LineRefusal::LineTooLong) => 'T',
+        Err(LineRefusal::Limit) => 'L',
+        Err(LineRefusal::Memory) => 'M',
+    }
+}
+
+/// Lines, each with what it gives at the greatest limits.
+const LINES: [(&[u8], char); 44] = [
+    (b"create s (id int, city text, key (id))", 'c'),
+    (b"CREATE s(id INT,city Text,KEY(id))", 'c'),
+    (b"\tcreate\tt (a int)  ", 'c'),
+    (b"create t (a int, key (a, b))", 'c'),
+    (b"create \"create\" (\"int\" int)", 'c'),
+    (b"upsert s (1, 'Oslo')", 'u'),
+    (b"upsert s(+7,-0,'it''s',NULL)", 'u'),
+    (b"upsert s (-9223372036854775808, 9223372036854775807)", 'u'),
+    (b"upsert s ('')", 'u'),
+    (b"upsert \"a\"\"b\" ('--')", 'u'),
+    (b"group s by city show count(*)", 'g'),
+    (b"Group s BY a, \"b\" show count ( * )", 'g'),
+    (b"", 'S'),
+    (b"-", 'S'),
+    (b"creat t (a int)", 'S'),
+    (b"create t ()", 'S'),
+    (b"create t (a int", 'S'),
+    (b"create t (a int, key ())", 'S'),
+    (b"create t (a int, key (a), b int)", 'S'),
+    (b"create t (a int, a text)", 'S'),
+    (b"create t (a int, \"a\" text)", 'S'),
+    (b"create t (a int, key (a, a))", 'S'),
+    (b"create key (a int)", 'S'),
+    (b"create t (nocase int)", 'S'),
+    (b"create t (a int) x", 'S'),
+    (b"create 1t (a int)", 'S'),
+    (b"create \"\" (a int)", 'S'),
+    (b"upsert s ()", 'S'),
+    (b"upsert s (1a)", 'S'),
+    (b"upsert s (- 1)", 'S'),
+    (b"upsert s (9223372036854775808)", 'S'),
+    (b"upsert s (-9223372036854775809)", 'S'),
+    (b"upsert s ('a)", 'S'),
+    (b"upsert s (1 2)", 'S'),
+    (b"upsert s ('a''')", 'u'),
+    (b"upsert s ('\xFF')", 'S'),
+    (b"group s by a, a show count(*)", 'S'),
+    (b"group s by a show count(*), count(*)", 'S'),
+    (b"group s by a show count(a)", 'S'),
+    (b"group s show count(*)", 'S'),
+    (b"show s", 'S'),
+    (b"drop s", 'S'),
+    (b"load s", 'S'),
+    (b"upsert s (1)\r", 'S'),
+];
+
+#[test]
+fn lines_at_the_greatest_limits(rt: HostRuntime) -> Result<(), Fail> {
+    let limits = Limits::greatest();
+    for (line, want) in LINES {
+        let got = letter(&parse_line(rt.alloc(), line, &limits));
+        assert_eq!(rt; got, want, "{line:?}");
+    }
+    Ok(())
+}
+
+#[test]
+fn what_a_create_says(rt: HostRuntime) -> Result<(), Fail> {
+    let limits = Limits::greatest();
+    let made = parse_line(
+        rt.alloc(),
+        b"create \"a\"\"b\" (id int, city text, key (id))",
+        &limits,
+    );
+    let Ok(
+        Command::Create {
+            table,
+            columns,
+            key,
+        },
+    ) = made
+    else {
+        return Err(Fail::new("no such command"));
+    };
+    assert_eq!(rt; table.as_str(), "a\"b");
+    assert_eq!(rt; columns.len(), 2);
+    for (column, (name, kind)) in columns
+        .as_slice()
+        .iter()
+        .zip([("id", Kind::Int), ("city", Kind::Text)])
+    {
+        assert_eq!(rt; column.name.as_str(), name);
+        assert!(rt; column.kind == kind);
+    }
+    assert_eq!(rt; key.len(), 1);
+    assert!(rt; key.as_slice().iter().all(|name| name.as_str() == "id"));
+    Ok(())
+}
+
+#[test]
+fn what_an_upsert_says(rt: HostRuntime) -> Result<(), Fail> {
+    let limits = Limits::greatest();
+    let put = parse_line(rt.alloc(), b"upsert s (+7, 'it''s', nUll)", &limits);
+    let Ok(Command::Upsert { table, values }) = put else {
+        return Err(Fail::new("no such command"));
+    };
+    assert_eq!(rt; table.as_str(), "s");
+    assert!(rt;
+        matches!(values.cells(), [Value::Int(7), Value::Text(text), Value::Null] if text.as_str() == "it's")
+    );
+    Ok(())
+}
+
+#[test]
+fn what_a_group_says(rt: HostRuntime) -> Result<(), Fail> {
+    let limits = Limits::greatest();
+    let asked = parse_line(rt.alloc(), b"group s by city show count(*)", &limits);
+    let Ok(
+        Command::Group {
+            table,
+            by,
+            shown,
+            tests,
+            exists,
+            having,
+        },
+    ) = asked
+    else {
+        return Err(Fail::new("no such command"));
+    };
+    assert_eq!(rt; table.as_str(), "s");
+    assert_eq!(rt; by.len(), 1);
+    assert!(rt; by.as_slice().iter().all(|name| name.as_str() == "city"));
+    assert!(rt; matches!(shown.as_slice(), [Aggregate::CountAll]));
+    assert!(rt; tests.is_empty() && exists.is_none() && having.is_empty());
+    Ok(())
+}
+
+/// Each limit of a line, at the limit and one past it.
+#[test]
+fn limits_of_a_line(rt: HostRuntime) -> Result<(), Fail> {
+    let cases: [(&[u8], char); 14] = [
+        (b"create abcd (a int)", 'c'),
+        (b"create abcde (a int)", 'L'),
+        (b"create \"ab\"\"d\" (a int)", 'c'),
+        (b"create a (abcde int)", 'L'),
+        (b"create a (b int, key (abcde))", 'L'),
+        (b"upsert abcde (1)", 'L'),
+        (b"group a by abcd show count(*)", 'g'),
+        (b"group a by abcde show count(*)", 'L'),
+        (b"group abcde by a show count(*)", 'L'),
+        (b"create a (b int, c int)", 'c'),
+        (b"create a (b int, c int, d int)", 'L'),
+        (b"upsert a ('12345')", 'u'),
+        (b"upsert a ('123456')", 'L'),
+        (b"upsert a ('1234''6')", 'L'),
+    ];
+    let Some(limits) = small(40, 1000) else {
+        return Err(Fail::new("no limits"));
+    };
+    for (line, want) in cases {
+        let got = letter(&parse_line(rt.alloc(), line, &limits));
+        assert_eq!(rt; got, want, "{line:?}");
+    }
+    // A line of 40 bytes and one of 41; the length comes before all else.
+    let line: &[u8] = b"upsert a (1, 2, 3, 4, 5, 6, 7, 8, 9, 10)x";
+    assert_eq!(rt; letter(&parse_line(rt.alloc(), &line[..40], &limits)), 'u');
+    assert_eq!(rt; letter(&parse_line(rt.alloc(), line, &limits)), 'T');
+    Ok(())
+}
+
+/// What each `next` of a reader gives: a command's form, a refusal, `F` for a fault, `.` for the
+/// end.
+fn next_letter<R: Read>(
+    alloc: std::alloc::Global,
+    reader: &mut CommandReader<R>,
+    limits: &Limits,
+) -> char {
+    match reader.next(alloc, limits) {
+        Ok(Some(Item::Command(command))) => letter(&Ok(command)),
+        Ok(Some(Item::Refused(refusal))) => letter(&Err(refusal)),
+        Ok(None) => '.',
+        Err(ReadFault) => 'F',
+    }
+}
+
+/// Scripts under small limits, each with what every `next` of its reader gives.
+const SCRIPTS: [(&[u8], &[char]); 19] = [
+    (b"", &['.', '.']),
+    (b"\xEF\xBB\xBF", &['.']),
+    (b"\xEF\xBB\xBFupsert s (1)", &['u', '.', '.']),
+    (b"\xEF\xBB\xBF\xEF\xBB\xBFupsert s (1)", &['S', '.']),
+    (b"\n\r\n \t\n-- note\n  --\n", &['.']),
+    (b"upsert s (1)\r\nupsert s (2)\n", &['u', 'u', '.']),
+    (b"upsert s (1)\r", &['S', '.']),
+    (b"-\nshow s\n- -\n", &['S', 'S', 'S', '.']),
+    (
+        b"                                              -- long\n                                              \nupsert s (1)",
+        &['u', '.'],
+    ),
+    (
+        b"upsert s (1, 1, 1, 1, 1, 1, 1, 1, 1, 1, 1)\nupsert s (1)",
+        &['T', 'u', '.'],
+    ),
+    (b"load s\nid\n\\.\nupsert s (1)", &['S', 'u', '.']),
+    (
+        b" \tLoad,\r\n\\\n\\.x\n\\.\r\nupsert s (1)",
+        &['S', 'u', '.'],
+    ),
+    (b"loads\nupsert s (1)", &['S', 'u', '.']),
+    (b"\"load\" s\nupsert s (1)", &['S', 'u', '.']),
+    (
+        b"load s\n-- note\n\n\\.\\.\nupsert s (1)\n\\. \n",
+        &['S', '.'],
+    ),
+    (b"load s\nupsert s (1)\n\\.", &['S', '.']),
+    (b"load s\nupsert s (1)\n\\.\r", &['S', '.']),
+    (
+        b"load s -- and more than forty bytes of line\nid\n\\.\nupsert s (1)",
+        &['T', 'u', '.'],
+    ),
+    (b"create abcde (a int)\nupsert s (1)", &['L', 'u', '.']),
+];
+
+#[test]
+fn items_of_a_script(rt: HostRuntime) -> Result<(), Fail> {
+    let Some(limits) = small(40, 1000) else {
+        return Err(Fail::new("no limits"));
+    };
+    for (script, wants) in SCRIPTS {
+        let mut reader = CommandReader::new(script);
+        for want in wants {
+            assert_eq!(rt;
+                next_letter(rt.alloc(), &mut reader, &limits),
+                *want,
+                "{script:?}"
+            );
+        }
+    }
+    Ok(())
+}
+
+#[test]
+fn limit_of_a_script(rt: HostRuntime) -> Result<(), Fail> {
+    let script: &[u8] = b"upsert s (1)\nupsert s (1)\n";
+    let (Some(whole), Some(less)) = (small(40, 26), small(40, 25)) else {
+        return Err(Fail::new("no limits"));
+    };
+    let mut reader = CommandReader::new(script);
+    for want in ['u', 'u', '.', '.'] {
+        assert_eq!(rt; next_letter(rt.alloc(), &mut reader, &whole), want);
+    }
+    let mut reader = CommandReader::new(script);
+    for want in ['u', 'F', 'F'] {
+        assert_eq!(rt; next_letter(rt.alloc(), &mut reader, &less), want);
+    }
+    // A fault is for good, whatever limits come then.
+    assert_eq!(rt; next_letter(rt.alloc(), &mut reader, &whole), 'F');
+    Ok(())
+}
+
+const SCRIPT: &[u8] = b"\xEF\xBB\xBFupsert s (1)\r\n-- note\nshow s\nupsert s (2)";
+
+#[test]
+fn pieces_of_any_size(rt: HostRuntime) -> Result<(), Fail> {
+    let limits = Limits::greatest();
+    for size in 1..50 {
+        let mut reader = CommandReader::new(Pieces::of(SCRIPT, size));
+        for want in ['u', 'S', 'u', '.', '.'] {
+            assert_eq!(rt;
+                next_letter(rt.alloc(), &mut reader, &limits),
+                want,
+                "{size}"
+            );
+        }
+    }
+    Ok(())
+}
+
+/// Each failing read is a fault for good; what came before it whole is answered.
+#[test]
+fn failing_reads(rt: HostRuntime) -> Result<(), Fail> {
+    let limits = Limits::greatest();
+    for fails_at in 1..48 {
+        let mut reader = CommandReader::new(Pieces {
+            bytes: SCRIPT,
+            size: 1,
+            fails_at,
+            error: if fails_at % 2 == 0 {
+                ErrorKind::Interrupted
+            } else {
+                ErrorKind::Other
+            },
+        });
+        // The bytes that come before the failing read.
+        let bytes = fails_at - 1;
+        for (letter, end) in [
+            ('u', 17),
+            ('S', 32),
+            ('u', SCRIPT.len() + 1),
+            ('.', SCRIPT.len() + 2),
+        ] {
+            if bytes < end {
+                break;
+            }
+            assert_eq!(rt;
+                next_letter(rt.alloc(), &mut reader, &limits),
+                letter,
+                "{fails_at}"
+            );
+        }
+        assert_eq!(rt;
+            next_letter(rt.alloc(), &mut reader, &limits),
+            'F',
+            "{fails_at}"
+        );
+        assert_eq!(rt;
+            next_letter(rt.alloc(), &mut reader, &limits),
+            'F',
+            "{fails_at}"
+        );
+    }
+    Ok(())
+}

@@ -1,0 +1,88 @@
+-- What the program did, told by the words of its command line, what opening a path gives, its two streams and its exit status.
+use Rattle.std.specs.Prelude.{◌≡◌, ◌≢◌, ◌⊎◌, ℕ, true, List, [], codes, string_bytes, option_map, Option, Some, None, Result, Ok, Err}
+use Rattle.std.specs.IoError.{error_kind}
+use Rattle.std.specs.declared.io.Error.{Error}
+use Rattle.std.specs.declared.io.ErrorKind.TheVariants as kind
+use Rattle.clap.specs.Words.{Text}
+use Rattle.gq_row.specs.Limits.{GREATEST}
+use Rattle.gq_command.specs.Commands.{Bytes}
+use Rattle.gq_engine.specs.Headline.{State}
+use Rattle.gq_engine.specs.Runs.{Setting}
+use Rattle.gq_shell.specs.Session.{EndedWith}
+use Rattle.gq_shell.specs.Streams.{Stream, IsUntouched, Got, GotFront}
+use Rattle.gq_shell.specs.Words.{Reads}
+use Rattle.gq_shell.specs.declared.words.BadLine.{BadLine}
+use Rattle.gq_shell.specs.declared.words.BadLine.TheVariants.{Help, Mistake, Memory}
+use Rattle.gq_shell.specs.declared.words.Options.{Options}
+
+-- The standard error got this text, as far as it took it, and this is the status.
+pub record Stopped (errors : Stream) (text : Bytes) (wanted status : ℕ) : Type 0 where
+  pub told : GotFront errors text
+  pub is : status ≡ wanted
+
+abbrev pub StoppedForMemory : Stream → ℕ → Type 0
+StoppedForMemory errors status = Stopped errors (codes "groupsh: out of memory\n") 3 status
+
+-- by an error: for want of memory as such, and else by this text and status
+abbrev pub StoppedBy : Error → Bytes → ℕ → Stream → ℕ → Type 0
+StoppedBy e text wanted errors status =
+    (error_kind e ≡ kind.OutOfMemory → StoppedForMemory errors status)
+    × (error_kind e ≢ kind.OutOfMemory → Stopped errors text wanted status)
+
+-- the whole help went to the standard output; or it was cut short, and that is told as a write fault
+abbrev pub Helped : Bytes → Stream → Stream → ℕ → Type 0
+Helped text replies errors status =
+    (Got replies text × IsUntouched errors × (status ≡ 0))
+    ⊎ (GotFront replies text × Stopped errors (codes "groupsh: write fault\n") 3 status)
+
+-- what a command line that asks for no run came to
+abbrev pub AnsweredBadLine : BadLine → Stream → Stream → ℕ → Type 0
+AnsweredBadLine (Help text) replies errors status = Helped (string_bytes text) replies errors status
+AnsweredBadLine (Mistake text) replies errors status = IsUntouched replies × Stopped errors (string_bytes text) 2 status
+AnsweredBadLine Memory replies errors status = IsUntouched replies × StoppedForMemory errors status
+
+-- the limits of the program's engine, which has no run store that could lie
+abbrev pub PROGRAM : Setting
+PROGRAM = record { limits = GREATEST; honest = true }
+
+-- no tables
+abbrev pub NOTHING : State
+NOTHING = record { database = []; failures = 0 }
+
+-- A session of an engine without tables read this script.
+pub record RanScript (script : Option Bytes) (replies errors : Stream) (status : ℕ) : Type 0 where
+  pub new : State
+  pub ended : EndedWith PROGRAM NOTHING script new replies errors status
+
+-- Where scripts come from: the bytes of the standard input, and what opening a path may give.
+pub record Sources (S : Type 0) : Type 1 where
+  pub input : Option Bytes
+  pub remaining : S → Option Bytes
+  pub opens : Text → Result S Error → Type 0
+
+-- what opening a path gave was run; or it could not be opened
+abbrev pub RanOpened : {S : Type 0} → Sources S → Result S Error → Stream → Stream → ℕ → Type 0
+RanOpened sources (Ok script) replies errors status = RanScript (sources.remaining script) replies errors status
+RanOpened sources (Err e) replies errors status = IsUntouched replies × StoppedBy e (codes "groupsh: cannot open script\n") 3 errors status
+
+-- without a path the standard input is the script
+abbrev pub RanNamed : {S : Type 0} → Sources S → Option Text → Stream → Stream → ℕ → Type 0
+RanNamed sources None replies errors status = RanScript sources.input replies errors status
+RanNamed {S} sources (Some path) replies errors status =
+    (opened : Result S Error) × sources.opens path opened × RanOpened sources opened replies errors status
+
+-- what was done about a command line as it was read
+abbrev pub Did : {S : Type 0} → Sources S → Result Options BadLine → Stream → Stream → ℕ → Type 0
+Did sources (Ok options) replies errors status = RanNamed sources (option_map (λ s. s.now) options.script) replies errors status
+Did sources (Err bad) replies errors status = AnsweredBadLine bad replies errors status
+
+-- The command line was read, and what it asks for was done.
+pub record Obeyed {S : Type 0} (sources : Sources S) (words : List Text) (replies errors : Stream) (status : ℕ) : Type 0 where
+  pub read : Result Options BadLine
+  pub reads : Reads words read
+  pub did : Did sources read replies errors status
+
+-- the words were obeyed; or they could not be had: for want of memory, or since they are not UTF-8
+abbrev pub RanProgram : {S : Type 0} → Sources S → Result (List Text) Error → Stream → Stream → ℕ → Type 0
+RanProgram sources (Ok words) replies errors status = Obeyed sources words replies errors status
+RanProgram sources (Err e) replies errors status = IsUntouched replies × StoppedBy e (codes "error: the arguments are not UTF-8\n") 2 errors status

@@ -1,0 +1,32 @@
+-- What the program's two streams got: the standard output, which is for replies and help, and the standard error, which is for all else.
+use Rattle.std.specs.Prelude.{◌≡◌, Option, Result, Ok, Err}
+use Rattle.std.specs.Io.KnownBytes.{Appends}
+use Rattle.gq_command.specs.Commands.{Bytes}
+use Rattle.gq_engine.specs.Sending.{AppendsFront}
+use Rattle.gq_shell.specs.declared.telling.CutShort.{CutShort}
+
+-- one stream's bytes before and after, where they are known
+pub record Stream : Type 0 where
+  pub before : Option Bytes
+  pub after : Option Bytes
+
+-- the bytes that a writer holds, before and after
+abbrev pub stream : {W : Type 0} → (W → Option Bytes) → W → W → Stream
+stream contents old new = record { before = contents old; after = contents new }
+
+-- nothing was written to it
+abbrev pub IsUntouched : Stream → Type 0
+IsUntouched s = s.after ≡ s.before
+
+-- this was written to it, and nothing else
+abbrev pub Got : Stream → Bytes → Type 0
+Got s bytes = Appends s.before s.after bytes
+
+-- a front of this was written to it, and nothing else
+abbrev pub GotFront : Stream → Bytes → Type 0
+GotFront s bytes = AppendsFront s.before s.after bytes
+
+-- it took all of a text, or a front of it
+abbrev pub Told : Stream → Bytes → Result (Unit {0}) CutShort → Type 0
+Told s text (Ok done) = Got s text
+Told s text (Err fault) = GotFront s text

@@ -1,0 +1,54 @@
+//! The whole program, over what the process hands it.
+ghost use Rattle.std.specs.Prelude.{map, string_bytes};
+ghost use Rattle.std.specs.Fn.{FnOnceReturnsAt};
+ghost use Rattle.std.specs.Result.{result_map_both};
+ghost use Rattle.gq_shell.specs.Program.{RanProgram};
+ghost use Rattle.gq_shell.specs.Streams.{stream};
+
+use crate::script::run_script;
+use crate::stopping::{answer_bad_line, answer_error};
+use crate::words::read_words;
+use std::alloc::Global;
+use std::io::{self, Read, Write};
+
+/// Reads the command line, opens the script and runs it, and answers the exit status.
+///
+/// `words` begin with the program's name, or are the error in reading them; `opener` opens a path;
+/// `input` is the standard input, `replies` the standard output and `errors` the standard error.
+pub fn run_program<R, S, F, W, E>(
+    alloc: Global,
+    words: io::Result<Vec<String>>,
+    opener: F,
+    input: R,
+    replies: &mut W,
+    errors: &mut E,
+) -> u8
+where
+    R: Read + Drop,
+    S: Read + Drop,
+    F: FnOnce(&str) -> io::Result<S>,
+    W: Write,
+    E: Write,
+    requires { F.IsAlwaysCallable opener }
+    ensures { RanProgram
+        (record {
+          input = R.remaining input;
+          remaining = S.remaining;
+          opens = λ name opened. FnOnceReturnsAt F.FnOnce opener name opened;
+        })
+        (result_map_both (λ w. map string_bytes w.items) (λ e. e) words)
+        (stream W.contents replies.old replies.new) (stream E.contents errors.old errors.new)
+        result }
+{
+    let words = match words {
+        Ok(words) => words,
+        Err(error) => {
+            let mistake = "error: the arguments are not UTF-8\n";
+            return answer_error(&error, mistake, 2, errors);
+        }
+    };
+    match read_words(alloc, words.as_slice()) {
+        Ok(options) => run_script(alloc, options.script, opener, input, replies, errors),
+        Err(bad) => answer_bad_line(&bad, replies, errors),
+    }
+}

@@ -1,0 +1,48 @@
+//! The script that a command line names, opened and run.
+ghost use Rattle.std.specs.Prelude.{option_map};
+ghost use Rattle.std.specs.Fn.{FnOnceReturnsAt};
+ghost use Rattle.gq_shell.specs.Program.{RanNamed};
+ghost use Rattle.gq_shell.specs.Streams.{stream};
+
+use crate::session::session;
+use crate::stopping::answer_error;
+use gq_engine::Engine;
+use gq_row::Limits;
+use std::alloc::Global;
+use std::io::{self, Read, Write};
+
+/// Runs a script in a new engine under the greatest limits, and answers the exit status. The script
+/// is what `opener` gives for the path, and `input` where there is no path.
+pub fn run_script<R, S, F, W, E>(
+    alloc: Global,
+    path: Option<&str>,
+    opener: F,
+    input: R,
+    replies: &mut W,
+    errors: &mut E,
+) -> u8
+where
+    R: Read + Drop,
+    S: Read + Drop,
+    F: FnOnce(&str) -> io::Result<S>,
+    W: Write,
+    E: Write,
+    requires { F.IsAlwaysCallable opener }
+    ensures { RanNamed
+        (record {
+          input = R.remaining input;
+          remaining = S.remaining;
+          opens = λ name opened. FnOnceReturnsAt F.FnOnce opener name opened;
+        })
+        (option_map (λ s. s.now) path.entry) (stream W.contents replies.old replies.new)
+        (stream E.contents errors.old errors.new) result }
+{
+    let mut engine = Engine::new(alloc, Limits::greatest());
+    match path {
+        None => session(&mut engine, input, replies, errors),
+        Some(path) => match opener(path) {
+            Ok(script) => session(&mut engine, script, replies, errors),
+            Err(error) => answer_error(&error, "groupsh: cannot open script\n", 3, errors),
+        },
+    }
+}

@@ -1,0 +1,41 @@
+//! What the program says where no script is run, and the exit status of that.
+ghost use Rattle.gq_shell.specs.Program.{AnsweredBadLine, Stopped, StoppedBy};
+ghost use Rattle.gq_shell.specs.Streams.{stream};
+
+use crate::telling::{CutShort, tell};
+use crate::words::BadLine;
+use std::io::{Error, ErrorKind, Write};
+
+/// Answers a command line that asks for no run: help goes to `replies`, all else to `errors`.
+pub fn answer_bad_line<W: Write, E: Write>(bad: &BadLine, replies: &mut W, errors: &mut E) -> u8
+    ensures { AnsweredBadLine bad.now (stream W.contents replies.old replies.new)
+        (stream E.contents errors.old errors.new) result }
+{
+    match bad {
+        BadLine::Help(text) => match tell(text.as_str(), replies) {
+            Ok(()) => 0,
+            Err(CutShort) => stop("groupsh: write fault\n", 3, errors),
+        },
+        BadLine::Mistake(text) => stop(text.as_str(), 2, errors),
+        BadLine::Memory => stop("groupsh: out of memory\n", 3, errors),
+    }
+}
+
+/// Answers an error before a run: want of memory as such, all else by the text and the status.
+pub fn answer_error<E: Write>(error: &Error, text: &str, status: u8, errors: &mut E) -> u8
+    ensures { StoppedBy error.now text.now status (stream E.contents errors.old errors.new) result }
+{
+    if error.kind() == ErrorKind::OutOfMemory {
+        stop("groupsh: out of memory\n", 3, errors)
+    } else {
+        stop(text, status, errors)
+    }
+}
+
+// Tells why nothing is run, and answers the status. A fault in telling it is passed over.
+fn stop<E: Write>(text: &str, status: u8, errors: &mut E) -> u8
+    ensures { Stopped (stream E.contents errors.old errors.new) text.now status result }
+{
+    let _told = tell(text, errors);
+    status
+}

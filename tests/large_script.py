@@ -1,0 +1,157 @@
+"""Writes a large script and the replies that it must get, worked out here by plain lists.
+
+    large_script.py SCRIPT REPLIES
+
+The script goes past every round number at which a program may give up: more than 1,000 blank lines
+in a row, more than 65,536 commands, lists of more than 1,000 names, lines past 4,096 bytes and of
+65,536, tables and groups of more than 1,000 rows, replies of more than 1,000 rows.
+"""
+import csv
+import io
+import sys
+
+
+def cell(value):
+    return "\\N" if value is None else str(value)
+
+
+def literal(value):
+    if value is None:
+        return "null"
+    if isinstance(value, int):
+        return str(value)
+    return "'" + value.replace("'", "''") + "'"
+
+
+def order(value):
+    """Null first, then numbers, then texts by their bytes."""
+    if value is None:
+        return (0, 0, b"")
+    if isinstance(value, int):
+        return (1, value, b"")
+    return (2, 0, value.encode())
+
+
+class Example:
+    """A script, and what plain lists of rows answer to it."""
+
+    def __init__(self):
+        self.script = bytearray()
+        self.replies = bytearray()
+        self.commands = 0
+        self.tables = {}
+
+    def say(self, line, *replies, end="\n"):
+        self.script += line.encode() + end.encode()
+        for reply in replies:
+            self.replies += reply.encode() + b"\n"
+        self.commands += bool(replies)
+
+    def create(self, name, columns, key=()):
+        kinds = [f"{column} {kind}" for column, kind in columns]
+        if key:
+            kinds.append(f"key ({', '.join(key)})")
+        self.say(f"create {name} ({', '.join(kinds)})", "ok 0")
+        names = [column for column, _kind in columns]
+        self.tables[name] = (names, [names.index(column) for column in key], {}, [])
+
+    def upsert(self, name, *row):
+        _names, key, places, rows = self.tables[name]
+        self.say(f"upsert {name} ({', '.join(map(literal, row))})", "ok 1")
+        at = tuple(row[i] for i in key)
+        if key and at in places:
+            rows[places[at]] = row
+        else:
+            places[at] = len(rows)
+            rows.append(row)
+
+    def group(self, name, *by):
+        names, _key, _places, rows = self.tables[name]
+        columns = [names.index(column) for column in by]
+        counts = {}
+        for row in rows:
+            at = tuple(row[i] for i in columns)
+            counts[at] = counts.get(at, 0) + 1
+        text = io.StringIO()
+        out = csv.writer(text, lineterminator="\n")
+        out.writerow([*by, "count(*)"])
+        for at in sorted(counts, key=lambda at: [order(value) for value in at]):
+            out.writerow([*map(cell, at), counts[at]])
+        self.say(
+            f"group {name} by {', '.join(by)} show count(*)",
+            f"ok {len(counts)}",
+            text.getvalue()[:-1],
+        )
+
+
+def names(count):
+    return ", ".join(f"n{i}" for i in range(count))
+
+
+def made():
+    example = Example()
+    example.create("s", [("id", "int"), ("city", "text"), ("g", "int")], ["id"])
+    example.create("l", [("a", "int"), ("b", "text")])
+    example.create("t", [("a", "text")])
+
+    # No commands: blank lines and comments, as many as there are of nothing else in a row.
+    for i in range(3000):
+        example.say(" \t" * (i % 5), end="\n" if i % 2 else "\r\n")
+    for i in range(2000):
+        example.say(f"  -- comment {i}")
+    example.say("--" + "x" * 200_000)
+
+    # More than 65,536 commands, to tables of more than 1,000 rows and groups of more than 1,000.
+    cities = ["Oslo", "Rome", None, "", "it's", 'say "Rome"', "a, b", "Åre"]
+    for i in range(62_000):
+        example.upsert("l", i % 7, cities[i % 8])
+    for i in range(4000):
+        example.upsert("s", i % 1500, cities[i * i % 8], None if i % 11 == 0 else -i % 300)
+    example.group("l", "a")
+    example.group("l", "b")
+    example.group("l", "b", "a")
+
+    # Replies of more than 100 and of more than 1,000 rows.
+    example.group("s", "g")
+    example.group("s", "id")
+    example.group("s", "city", "g", "id")
+
+    # Lists of more than 1,000 names and values, each refused for what it is.
+    example.say(f"group s by {names(1200)} show count(*)", "err 5 NoColumn")
+    example.say(f"group s by {names(1200)}, n7 show count(*)", "err 1 Syntax")
+    example.say(f"create k (a int, key ({names(1200)}))", "err 5 NoColumn")
+    example.say(f"create w ({names(1200).replace(',', ' int,')} int)", "err 14 Limit")
+    example.say(f"upsert s ({', '.join(['1'] * 5000)})", "err 6 TypeMismatch")
+    example.say(f"upsert s ({', '.join(['x'] * 5000)})", "err 1 Syntax")
+    wide = [f"n{i}" for i in range(32)]
+    example.create("w", [(name, "int") for name in wide], wide[:20])
+    example.upsert("w", *range(32))
+    example.group("w", *wide)
+
+    # Lines past 4,096 bytes, up to the longest that there may be and past it.
+    for size in [4000, 4085, 4096, 5000, 8192, 20_000, 65_000]:
+        example.upsert("t", "y" * size)
+    example.upsert("t", "it's " * 10_000)
+    longest = "x" * 65_524
+    example.say(f"upsert t('{longest}')", "ok 1")
+    example.tables["t"][3].append((longest,))
+    example.say(f"upsert t('{longest}x')", "err 2 LineTooLong")
+    example.say("x" * 300_000, "err 2 LineTooLong")
+    example.group("t", "a")
+
+    # As many tables as there may be.
+    for i in range(64 - len(example.tables)):
+        example.create(f"t{i}", [("a", "int")])
+    example.say("create more (a int)", "err 14 Limit")
+    example.upsert("t7", 1)
+    example.group("t7", "a")
+    assert example.commands > 65_536
+    return example
+
+
+if __name__ == "__main__":
+    example = made()
+    with open(sys.argv[1], "wb") as script:
+        script.write(example.script)
+    with open(sys.argv[2], "wb") as replies:
+        replies.write(example.replies)
