@@ -12,5 +12,4 @@ pub mod RunLemmas
 pub mod StepLemmas
 pub mod TableLemmas
 pub mod TakenLemmas
-pub mod Texts
 mod Vectors

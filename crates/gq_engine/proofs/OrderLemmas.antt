@@ -20,15 +20,16 @@ use Rattle.gq_command.specs.declared.command.Command.{Command}
 use Rattle.gq_command.specs.declared.command.Command.TheVariants.{Create, Drop, Load, Upsert, Delete, Show, Group, Distinct}
 use Rattle.gq_command.specs.declared.reader.Item.{Item}
 use Rattle.gq_command.specs.declared.reader.Item.TheVariants as item
-use Rattle.gq_engine.specs.declared.refusal.Refusal.{Refusal}
-use Rattle.gq_engine.specs.declared.refusal.Refusal.TheVariants.{TypeMismatch, NullKey, Limit, TableExists, NoColumn, NoTable, Syntax, Memory}
-use Rattle.gq_engine.specs.declared.refusal.Refused.{Refused}
-use Rattle.gq_engine.specs.declared.reply.Reply.{Reply}
-use Rattle.gq_engine.specs.declared.reply.Reply.TheVariants as reply
+use Rattle.gq_reply.specs.declared.refusal.Refusal.{Refusal}
+use Rattle.gq_reply.specs.declared.refusal.Refusal.TheVariants.{TypeMismatch, NullKey, Limit, TableExists, NoColumn, NoTable, Syntax, Memory}
+use Rattle.gq_reply.specs.declared.refusal.Refused.{Refused}
+use Rattle.gq_reply.specs.declared.reply.Reply.{Reply}
+use Rattle.gq_reply.specs.declared.reply.Reply.TheVariants as reply
 use Rattle.gq_engine.specs.Answers.{count_row, counted_groups}
 use Rattle.gq_engine.specs.Databases.{Database, table_at, with_table, IsKeyed}
 use Rattle.gq_row.specs.Fitting.{fits_columns, is_null}
-use Rattle.gq_engine.specs.Outcomes.{◌>>=◌, unnumbered, some_or, true_or, told, refused}
+use Rattle.gq_engine.specs.Outcomes.{◌>>=◌, some_or, true_or}
+use Rattle.gq_reply.specs.Refusals.{unnumbered, told, refused}
 use Rattle.gq_engine.specs.Refusing.{has_null_key, rows_with, put_within}
 use Rattle.gq_engine.specs.Runs.{Setting, LegalAnswer, AsListsAnswer, WantsMemory, StoreFailed, StoreLied, SameTables, ReachesGrouping, IsGrouped, AnsweredAlike}
 use Rattle.gq_engine.specs.Serving.{CarriedOut, Comes}

@@ -3,10 +3,10 @@ use Rattle.std.proofs.Common.{◌≡◌, ◌+◌, ◌≤◌, ◌⊎◌, inl, inr
 use Rattle.std.specs.Prelude.{count_by}
 use Rattle.gq_command.specs.declared.reader.Item.{Item}
 use Rattle.gq_command.specs.Script.{Entry}
-use Rattle.gq_engine.specs.declared.refusal.Refusal.TheVariants.{Memory}
-use Rattle.gq_engine.specs.declared.reply.Reply.{Reply}
+use Rattle.gq_reply.specs.declared.refusal.Refusal.TheVariants.{Memory}
+use Rattle.gq_reply.specs.declared.reply.Reply.{Reply}
 use Rattle.gq_engine.specs.Databases.{Database}
-use Rattle.gq_engine.specs.Outcomes.{refused}
+use Rattle.gq_reply.specs.Refusals.{refused}
 use Rattle.gq_engine.specs.Steps.{step}
 use Rattle.gq_engine.specs.Runs.{Setting, LegalAnswer, AsListsAnswer, WantsMemory, StoreFailed, StoreLied, LegalStep, PlainStep, is_store_fault, OnlyMemoryRefuses}
 use Rattle.gq_engine.proofs.RunLemmas.{count_by-first}

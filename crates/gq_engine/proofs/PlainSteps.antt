@@ -8,13 +8,14 @@ use Rattle.gq_row.specs.Headings.{positions_of}
 use Rattle.gq_row.specs.Tables.{PlainTable}
 use Rattle.gq_command.specs.declared.command.Command.{Command}
 use Rattle.gq_command.specs.declared.command.Command.TheVariants.{Create, Drop, Load, Upsert, Delete, Show, Group, Distinct}
-use Rattle.gq_engine.specs.declared.refusal.Refusal.{Refusal}
-use Rattle.gq_engine.specs.declared.refusal.Refusal.TheVariants.{TypeMismatch, NullKey, Limit, TableExists, NoColumn, NoTable}
-use Rattle.gq_engine.specs.declared.refusal.Refused.{Refused}
-use Rattle.gq_engine.specs.declared.reply.Reply.{Reply}
+use Rattle.gq_reply.specs.declared.refusal.Refusal.{Refusal}
+use Rattle.gq_reply.specs.declared.refusal.Refusal.TheVariants.{TypeMismatch, NullKey, Limit, TableExists, NoColumn, NoTable}
+use Rattle.gq_reply.specs.declared.refusal.Refused.{Refused}
+use Rattle.gq_reply.specs.declared.reply.Reply.{Reply}
 use Rattle.gq_engine.specs.Databases.{Database, table_at}
 use Rattle.gq_row.specs.Fitting.{fits_columns}
-use Rattle.gq_engine.specs.Outcomes.{◌>>=◌, some_or, true_or, told, unnumbered}
+use Rattle.gq_engine.specs.Outcomes.{◌>>=◌, some_or, true_or}
+use Rattle.gq_reply.specs.Refusals.{told, unnumbered}
 use Rattle.gq_engine.specs.Refusing.{has_null_key, rows_with, put_within}
 use Rattle.gq_engine.specs.Runs.{is_store_fault}
 use Rattle.gq_engine.specs.Steps.{Outcome, table_in, settle, outcome, create, with_row, upsert, group}

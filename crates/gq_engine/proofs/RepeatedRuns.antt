@@ -7,11 +7,11 @@ use Rattle.gq_command.specs.Items.{ReadsAs}
 use Rattle.gq_command.specs.Readings.{HasOneReading}
 use Rattle.gq_command.specs.Script.{Entry, items}
 use Rattle.gq_command.proofs.OneReading.{reads_once}
-use Rattle.gq_engine.specs.declared.refusal.Refusal.TheVariants.{Memory}
-use Rattle.gq_engine.specs.declared.reply.Reply.{Reply}
+use Rattle.gq_reply.specs.declared.refusal.Refusal.TheVariants.{Memory}
+use Rattle.gq_reply.specs.declared.reply.Reply.{Reply}
 use Rattle.gq_engine.specs.Databases.{Database, IsKeyed}
 use Rattle.gq_engine.specs.Orders.{StepsAlike}
-use Rattle.gq_engine.specs.Outcomes.{refused}
+use Rattle.gq_reply.specs.Refusals.{refused}
 use Rattle.gq_engine.specs.Repeating.{NeverMemory, AnswersOnce}
 use Rattle.gq_engine.specs.Runs.{PlainStep, PlainRun, SameTables}
 use Rattle.gq_engine.specs.Steps.{step}

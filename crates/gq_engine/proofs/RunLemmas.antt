@@ -11,16 +11,16 @@ use Rattle.gq_command.specs.declared.lines.LineRefusal.TheVariants as line
 use Rattle.gq_command.specs.Commands.{Bytes}
 use Rattle.gq_command.specs.Script.{Entry, items, items_left, without_mark}
 use Rattle.gq_command.specs.Items.{Gave, IsReadAs, Pending}
-use Rattle.gq_engine.specs.declared.refusal.Refusal.TheVariants.{Memory}
-use Rattle.gq_engine.specs.declared.reply.Reply.{Reply}
+use Rattle.gq_reply.specs.declared.refusal.Refusal.TheVariants.{Memory}
+use Rattle.gq_reply.specs.declared.reply.Reply.{Reply}
 use Rattle.gq_engine.specs.declared.run.Fault.TheVariants as fault
 use Rattle.gq_engine.specs.Databases.{Database, IsKeyed}
-use Rattle.gq_engine.specs.Outcomes.{refused}
-use Rattle.gq_engine.specs.Replies.{text, is_refusal}
+use Rattle.gq_reply.specs.Refusals.{refused}
+use Rattle.gq_reply.specs.Replies.{text, is_refusal}
 use Rattle.gq_engine.specs.Runs.{Setting, LegalAnswer, AsListsAnswer, WantsMemory, StoreFailed, StoreLied, AnsweredAlike, LegalStep, LegalRun, SameTables, FaultsHappened, is_store_fault}
 use Rattle.gq_engine.specs.Headline.{State, Answered, Ran}
 use Rattle.gq_engine.specs.Serving.{Wrote, WroteFront}
-use Rattle.gq_engine.proofs.Texts.{flat_map-push}
+use Rattle.gq_reply.proofs.Texts.{flat_map-push}
 use Rattle.gq_engine.proofs.OrderLemmas.{same_tables, answered_from, keyed_after}
 use Rattle.gq_engine.proofs.Bytes.{appends_more, appends_nothing}
 

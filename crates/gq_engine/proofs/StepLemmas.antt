@@ -6,14 +6,15 @@ use Rattle.gq_row.specs.declared.schema.Column.{Column}
 use Rattle.gq_row.specs.declared.limits.Bounds.{Bounds}
 use Rattle.gq_row.specs.Headings.{positions_of}
 use Rattle.gq_row.specs.Tables.{PlainTable}
-use Rattle.gq_engine.specs.declared.refusal.Refusal.{Refusal}
-use Rattle.gq_engine.specs.declared.refusal.Refusal.TheVariants.{Limit, Memory, TableExists, NoColumn, NoTable}
-use Rattle.gq_engine.specs.declared.refusal.Refused.{Refused}
-use Rattle.gq_engine.specs.declared.reply.Reply.{Reply}
-use Rattle.gq_engine.specs.declared.reply.Reply.TheVariants as reply
+use Rattle.gq_reply.specs.declared.refusal.Refusal.{Refusal}
+use Rattle.gq_reply.specs.declared.refusal.Refusal.TheVariants.{Limit, Memory, TableExists, NoColumn, NoTable}
+use Rattle.gq_reply.specs.declared.refusal.Refused.{Refused}
+use Rattle.gq_reply.specs.declared.reply.Reply.{Reply}
+use Rattle.gq_reply.specs.declared.reply.Reply.TheVariants as reply
 use Rattle.gq_engine.specs.Answers.{counted_groups}
 use Rattle.gq_engine.specs.Databases.{Database, table_at}
-use Rattle.gq_engine.specs.Outcomes.{◌>>=◌, unnumbered, some_or, true_or}
+use Rattle.gq_engine.specs.Outcomes.{◌>>=◌, some_or, true_or}
+use Rattle.gq_reply.specs.Refusals.{unnumbered}
 use Rattle.gq_engine.specs.Runs.{KeptUnlessDone, SameTables}
 use Rattle.gq_engine.specs.Serving.{Comes, CarriedOut, Changes}
 use Rattle.gq_engine.specs.Steps.{Outcome, create, group, group_header}

@@ -5,10 +5,11 @@ use Rattle.std.proofs.lemmas.List.{get_or_default, set-get_or}
 use Rattle.gq_row.specs.declared.value.Value.{Value}
 use Rattle.gq_row.specs.declared.limits.Bounds.{Bounds}
 use Rattle.gq_row.specs.Tables.{PlainTable}
-use Rattle.gq_engine.specs.declared.refusal.Refusal.TheVariants.{Memory, NoTable}
-use Rattle.gq_engine.specs.declared.refusal.Refused.{Refused}
+use Rattle.gq_reply.specs.declared.refusal.Refusal.TheVariants.{Memory, NoTable}
+use Rattle.gq_reply.specs.declared.refusal.Refused.{Refused}
 use Rattle.gq_engine.specs.Databases.{Database, table_at, with_table, StandsAt}
-use Rattle.gq_engine.specs.Outcomes.{◌>>=◌, unnumbered}
+use Rattle.gq_engine.specs.Outcomes.{◌>>=◌}
+use Rattle.gq_reply.specs.Refusals.{unnumbered}
 use Rattle.gq_engine.specs.Refusing.{TakesRow, put_within, rows_with}
 use Rattle.gq_engine.specs.Runs.{SameTables}
 use Rattle.gq_engine.specs.Serving.{Changes}

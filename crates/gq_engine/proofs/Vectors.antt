@@ -1,7 +1,5 @@
 -- Worked examples, computed by the definitions.
-use Rattle.std.proofs.Common.{◌≡◌, ℕ, List, [], ◌∷◌, pos, negsuc, Some, None, refl, codes}
-use Rattle.std.specs.Fmt.{digits}
-use Rattle.csv.specs.Writing.{fields_text, is_blank, escaped}
+use Rattle.std.proofs.Common.{◌≡◌, ℕ, List, [], ◌∷◌, pos, None, refl, codes}
 use Rattle.gq_row.specs.declared.value.Value.{Value}
 use Rattle.gq_row.specs.declared.value.Value.TheVariants.{Null, Int, Text}
 use Rattle.gq_row.specs.declared.schema.Column.{Column}
@@ -13,12 +11,11 @@ use Rattle.gq_command.specs.declared.command.Command.TheVariants.{Create, Upsert
 use Rattle.gq_command.specs.declared.command.Aggregate.TheVariants.{CountAll}
 use Rattle.gq_command.specs.declared.reader.Item.TheVariants as item
 use Rattle.gq_command.specs.declared.lines.LineRefusal.TheVariants as line
-use Rattle.gq_engine.specs.declared.refusal.Refusal.TheVariants.{LineTooLong, NoTable, TableExists, NoColumn, TypeMismatch, NullKey, Limit, SumRange}
-use Rattle.gq_engine.specs.declared.reply.Reply.{Reply}
-use Rattle.gq_engine.specs.declared.reply.Reply.TheVariants as reply
+use Rattle.gq_reply.specs.declared.refusal.Refusal.TheVariants.{LineTooLong, NoTable, TableExists, NoColumn, TypeMismatch, NullKey, Limit}
+use Rattle.gq_reply.specs.declared.reply.Reply.{Reply}
+use Rattle.gq_reply.specs.declared.reply.Reply.TheVariants as reply
 use Rattle.gq_engine.specs.Databases.{Database}
-use Rattle.gq_engine.specs.Replies.{text}
-use Rattle.gq_engine.specs.Outcomes.{refused}
+use Rattle.gq_reply.specs.Refusals.{refused}
 use Rattle.gq_engine.specs.Steps.{step}
 
 abbrev after : Bounds → Database → Command → Database
@@ -136,24 +133,3 @@ equal_rows = refl
 -- a line that is refused leaves the database
 refused_line : step GREATEST two_cities (item.Refused line.LineTooLong) ≡ (two_cities, refused LineTooLong)
 refused_line = refl
-
--- texts of replies
-ok_text : text (reply.Done 1) ≡ codes "ok 1\n"
-unfolding digits
-ok_text = refl
-
-err_text : text (refused SumRange) ≡ codes "err 13 SumRange\n"
-unfolding digits
-err_text = refl
-
-err_text_of_a_record : text (reply.Refused TypeMismatch (Some 12)) ≡ codes "err 6 TypeMismatch 12\n"
-unfolding digits
-err_text_of_a_record = refl
-
-rows_text : text (reply.Rows (codes "city" ∷ codes "count(*)" ∷ []) ((Null ∷ Int (pos 3) ∷ []) ∷ (Text [] ∷ Int (pos 2) ∷ []) ∷ [])) ≡ codes "ok 2\ncity,count(*)\n\\N,3\n,2\n"
-unfolding fields_text is_blank escaped digits
-rows_text = refl
-
-quoted_text : text (reply.Rows (codes "a" ∷ []) ((Text (codes "x, \"y\"") ∷ []) ∷ (Int (negsuc 0) ∷ []) ∷ [])) ≡ codes "ok 2\na\n\"x, \"\"y\"\"\"\n-1\n"
-unfolding fields_text is_blank escaped digits
-quoted_text = refl

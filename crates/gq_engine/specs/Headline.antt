@@ -3,12 +3,12 @@ use Rattle.std.specs.Prelude.{◌≡◌, ◌≤◌, ⊤, ℕ, List, ◌∷◌, �
 use Rattle.std.specs.Io.KnownBytes.{Appends}
 use Rattle.gq_command.specs.Commands.{Bytes}
 use Rattle.gq_command.specs.Script.{Entry, items}
-use Rattle.gq_engine.specs.declared.reply.Reply.{Reply}
+use Rattle.gq_reply.specs.declared.reply.Reply.{Reply}
 use Rattle.gq_engine.specs.declared.run.Summary.{Summary}
 use Rattle.gq_engine.specs.declared.run.Fault.{Fault}
 use Rattle.gq_engine.specs.declared.run.Fault.TheVariants as fault
 use Rattle.gq_engine.specs.Databases.{Database}
-use Rattle.gq_engine.specs.Replies.{text, is_refusal}
+use Rattle.gq_reply.specs.Replies.{text, is_refusal}
 use Rattle.gq_engine.specs.Runs.{Setting, LegalRun, SameTables, FaultsHappened}
 
 -- what a run changes of an engine: its tables, and its run store's count of failures

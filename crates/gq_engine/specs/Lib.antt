@@ -2,7 +2,6 @@
 pub mod Databases
 pub mod Steps
 pub mod Answers
-pub mod Replies
 pub mod Runs
 pub mod Headline
 pub mod Orders
@@ -12,7 +11,6 @@ pub mod Outcomes
 pub mod Refusing
 pub mod Engines
 -- contracts of single functions
-pub mod Records
 pub mod Sending
 pub mod Standing
 pub mod Serving

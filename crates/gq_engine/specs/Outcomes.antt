@@ -1,19 +1,14 @@
 -- Outcomes: the steps of a command, of which the first that fails is its refusal.
 use Rattle.std.specs.Prelude.{ℕ, Bool, true, false, Option, Some, None, Result, Ok, Err}
-use Rattle.gq_engine.specs.declared.refusal.Refusal.{Refusal}
-use Rattle.gq_engine.specs.declared.refusal.Refused.{Refused}
-use Rattle.gq_engine.specs.declared.reply.Reply.{Reply}
-use Rattle.gq_engine.specs.declared.reply.Reply.TheVariants as reply
+use Rattle.gq_reply.specs.declared.refusal.Refusal.{Refusal}
+use Rattle.gq_reply.specs.declared.refusal.Refused.{Refused}
+use Rattle.gq_reply.specs.Refusals.{unnumbered}
 
 -- one step, and then the next on what it gave
 infixl 10 ◌>>=◌
 abbrev pub ◌>>=◌ : {A B : Type 0} → Result A Refused → (A → Result B Refused) → Result B Refused
 (Ok x) >>= f = f x
 (Err why) >>= f = Err why
-
--- a refusal that names no record of a payload
-abbrev pub unnumbered : Refusal → Refused
-unnumbered why = record { why = why; number = None }
 
 -- what there is, or this refusal
 abbrev pub some_or : {A : Type 0} → Refusal → Option A → Result A Refused
@@ -24,10 +19,3 @@ some_or why (Some x) = Ok x
 abbrev pub true_or : Refusal → Bool → Result (Unit {0}) Refused
 true_or why false = Err (unnumbered why)
 true_or why true = Ok tt
-
--- the reply that tells a refusal
-abbrev pub told : Refused → Reply
-told refused = reply.Refused refused.why refused.number
-
-abbrev pub refused : Refusal → Reply
-refused why = told (unnumbered why)

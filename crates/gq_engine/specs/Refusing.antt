@@ -6,9 +6,10 @@ use Rattle.gq_row.specs.declared.limits.Bounds.{Bounds}
 use Rattle.gq_row.specs.Rows.{cell}
 use Rattle.gq_row.specs.Tables.{PlainTable, put}
 use Rattle.gq_row.specs.Fitting.{fits_columns, is_null}
-use Rattle.gq_engine.specs.Outcomes.{◌>>=◌, true_or, unnumbered}
-use Rattle.gq_engine.specs.declared.refusal.Refusal.TheVariants.{TypeMismatch, NullKey, Limit, Memory}
-use Rattle.gq_engine.specs.declared.refusal.Refused.{Refused}
+use Rattle.gq_engine.specs.Outcomes.{◌>>=◌, true_or}
+use Rattle.gq_reply.specs.Refusals.{unnumbered}
+use Rattle.gq_reply.specs.declared.refusal.Refusal.TheVariants.{TypeMismatch, NullKey, Limit, Memory}
+use Rattle.gq_reply.specs.declared.refusal.Refused.{Refused}
 use Rattle.gq_engine.specs.declared.table.Placing.{Placing}
 use Rattle.gq_engine.specs.declared.table.Placing.TheVariants as placing
 

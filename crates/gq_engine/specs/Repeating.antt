@@ -3,10 +3,10 @@ use Rattle.std.specs.Prelude.{◌≡◌, List, [], ◌∷◌}
 use Rattle.gq_row.specs.declared.limits.Bounds.{Bounds}
 use Rattle.gq_command.specs.Commands.{Bytes}
 use Rattle.gq_command.specs.Script.{items}
-use Rattle.gq_engine.specs.declared.refusal.Refusal.TheVariants.{Memory}
-use Rattle.gq_engine.specs.declared.reply.Reply.{Reply}
+use Rattle.gq_reply.specs.declared.refusal.Refusal.TheVariants.{Memory}
+use Rattle.gq_reply.specs.declared.reply.Reply.{Reply}
 use Rattle.gq_engine.specs.Databases.{Database, IsKeyed}
-use Rattle.gq_engine.specs.Outcomes.{refused}
+use Rattle.gq_reply.specs.Refusals.{refused}
 use Rattle.gq_engine.specs.Runs.{PlainRun, SameTables}
 
 -- none of the replies tells want of memory

@@ -7,11 +7,11 @@ use Rattle.gq_command.specs.declared.reader.Item.{Item}
 use Rattle.gq_command.specs.declared.reader.Item.TheVariants as item
 use Rattle.gq_command.specs.Script.{Entry}
 use Rattle.gq_command.specs.Items.{ReadsAs}
-use Rattle.gq_engine.specs.declared.refusal.Refusal.TheVariants.{Memory, SumRange, StoreFault}
-use Rattle.gq_engine.specs.declared.reply.Reply.{Reply}
-use Rattle.gq_engine.specs.declared.reply.Reply.TheVariants as reply
+use Rattle.gq_reply.specs.declared.refusal.Refusal.TheVariants.{Memory, SumRange, StoreFault}
+use Rattle.gq_reply.specs.declared.reply.Reply.{Reply}
+use Rattle.gq_reply.specs.declared.reply.Reply.TheVariants as reply
 use Rattle.gq_engine.specs.Databases.{Database}
-use Rattle.gq_engine.specs.Outcomes.{refused}
+use Rattle.gq_reply.specs.Refusals.{refused}
 use Rattle.gq_engine.specs.Steps.{step}
 
 -- what an engine runs under: its limits, and whether its run store reads back what was written

@@ -3,14 +3,14 @@ use Rattle.std.specs.Prelude.{◌≡◌, ◌⊎◌, ◌∷◌, [], Option, Resul
 use Rattle.std.specs.Io.KnownBytes.{Appends}
 use Rattle.gq_command.specs.declared.reader.Item.{Item}
 use Rattle.gq_command.specs.Commands.{Bytes}
-use Rattle.gq_engine.specs.declared.refusal.Refusal.TheVariants.{Memory}
-use Rattle.gq_engine.specs.declared.refusal.Refused.{Refused}
-use Rattle.gq_engine.specs.declared.reply.Reply.{Reply}
+use Rattle.gq_reply.specs.declared.refusal.Refusal.TheVariants.{Memory}
+use Rattle.gq_reply.specs.declared.refusal.Refused.{Refused}
+use Rattle.gq_reply.specs.declared.reply.Reply.{Reply}
 use Rattle.gq_engine.specs.declared.sending.WriteFault.{WriteFault}
 use Rattle.gq_engine.specs.Databases.{Database}
 use Rattle.gq_engine.specs.Headline.{State}
-use Rattle.gq_engine.specs.Outcomes.{unnumbered}
-use Rattle.gq_engine.specs.Replies.{text}
+use Rattle.gq_reply.specs.Refusals.{unnumbered}
+use Rattle.gq_reply.specs.Replies.{text}
 use Rattle.gq_engine.specs.Runs.{Setting, AnsweredAlike, SameTables, KeptUnlessDone, FaultsHappened}
 use Rattle.gq_engine.specs.Sending.{AppendsFront}
 use Rattle.gq_engine.specs.Steps.{Outcome}

@@ -11,14 +11,15 @@ use Rattle.gq_command.specs.declared.lines.LineRefusal.{LineRefusal}
 use Rattle.gq_command.specs.declared.lines.LineRefusal.TheVariants as line
 use Rattle.gq_command.specs.declared.reader.Item.{Item}
 use Rattle.gq_command.specs.declared.reader.Item.TheVariants as item
-use Rattle.gq_engine.specs.declared.refusal.Refusal.{Refusal}
-use Rattle.gq_engine.specs.declared.refusal.Refusal.TheVariants.{Syntax, LineTooLong, NoTable, TableExists, NoColumn, Limit, Memory}
-use Rattle.gq_engine.specs.declared.refusal.Refused.{Refused}
-use Rattle.gq_engine.specs.declared.reply.Reply.{Reply}
-use Rattle.gq_engine.specs.declared.reply.Reply.TheVariants as reply
+use Rattle.gq_reply.specs.declared.refusal.Refusal.{Refusal}
+use Rattle.gq_reply.specs.declared.refusal.Refusal.TheVariants.{Syntax, LineTooLong, NoTable, TableExists, NoColumn, Limit, Memory}
+use Rattle.gq_reply.specs.declared.refusal.Refused.{Refused}
+use Rattle.gq_reply.specs.declared.reply.Reply.{Reply}
+use Rattle.gq_reply.specs.declared.reply.Reply.TheVariants as reply
 use Rattle.gq_engine.specs.Answers.{counted_groups}
 use Rattle.gq_engine.specs.Databases.{Database, table_at, with_table}
-use Rattle.gq_engine.specs.Outcomes.{◌>>=◌, unnumbered, some_or, true_or, told, refused}
+use Rattle.gq_engine.specs.Outcomes.{◌>>=◌, some_or, true_or}
+use Rattle.gq_reply.specs.Refusals.{unnumbered, told, refused}
 use Rattle.gq_engine.specs.Refusing.{put_within}
 
 -- what a command comes to: the database and the reply where it is carried out, or why it is refused

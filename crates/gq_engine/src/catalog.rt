@@ -4,8 +4,8 @@ ghost use Rattle.gq_engine.specs.Databases.{table_at, StandsAt, IsKeyed};
 ghost use Rattle.gq_engine.specs.Serving.{Changes};
 ghost use Rattle.gq_engine.specs.Steps.{with_row};
 
-use crate::refusal::{Refusal, Refused};
 use crate::table::Table;
+use gq_reply::{Refusal, Refused};
 use gq_row::{Limits, Row, Schema, Text};
 use std::alloc::{AllocError, Global};
 use std::marker::Model;

@@ -4,9 +4,8 @@ ghost use Rattle.gq_engine.specs.Steps.{group_header};
 
 use crate::catalog::Catalog;
 use crate::grouping::count_groups;
-use crate::refusal::{Refusal, Refused};
-use crate::reply::Reply;
 use gq_command::{Command, Item};
+use gq_reply::{Refusal, Refused, Reply};
 use gq_row::{Column, Limits, Row, Schema, Sequence, Text, find_positions};
 use std::alloc::{AllocError, Global};
 

@@ -32,16 +32,10 @@ mod cells;
 mod engine;
 mod grouping;
 pub mod laws;
-mod line;
-mod refusal;
-mod reply;
 mod run;
 mod sending;
 mod table;
-mod text;
 
 pub use engine::Engine;
-pub use refusal::Refusal;
-pub use reply::Reply;
+pub use gq_reply::{Refusal, Refused, Reply, reply_text};
 pub use run::{Fault, Summary};
-pub use text::reply_text;

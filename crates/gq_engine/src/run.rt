@@ -1,18 +1,16 @@
 //! Runs: the items of a script answered one after the other, and the replies written.
 ghost use Rattle.std.specs.Prelude.{◌≡◌, ◌+◌, ◌<◌, ◌≤◌, ◌∷◌, ◌^◌, [], if◌then◌else◌, IfSome, IfNone};
 ghost use Rattle.gq_command.specs.Items.{IsReady};
-ghost use Rattle.gq_engine.specs.Replies.{text, IsLine, is_refusal};
+ghost use Rattle.gq_reply.specs.Replies.{text, IsLine, is_refusal};
 ghost use Rattle.gq_engine.specs.Steps.{line_refusal};
 
 use crate::engine::Engine;
-use crate::line::line_of;
-use crate::refusal::Refusal;
-use crate::reply::Reply;
 use crate::sending::{WriteFault, send};
-use crate::text::rows_text;
 use gq_command::{CommandReader, Item, LineRefusal, ReadFault};
+use gq_reply::{Refusal, Reply, line_of, rows_text};
 use std::alloc::AllocError;
 use std::io::{Read, Write};
+use thiserror::Error;
 
 /// What a run counted.
 #[derive(Clone, Copy, Debug, Default, PartialEq, Eq)]
@@ -38,11 +36,13 @@ impl Summary {
 }
 
 /// Why a run stopped before the script's end.
-#[derive(Clone, Copy, Debug, PartialEq, Eq)]
+#[derive(Clone, Copy, Debug, PartialEq, Eq, Error)]
 pub enum Fault {
     /// A read failed, or the script has more bytes than the limit.
+    #[error("a read failed, or the script is past its limit")]
     Read,
     /// A write or a flush failed, or a write took no byte.
+    #[error("a write failed")]
     Write,
 }
 
@@ -52,7 +52,7 @@ impl Engine {
     ghost use Rattle.gq_engine.specs.Engines.{database, failures_of, setting_of, state_of};
     ghost use Rattle.gq_engine.specs.Headline.{Ran};
     ghost use Rattle.gq_engine.specs.Serving.{Served};
-    ghost use Rattle.gq_engine.specs.Replies.{text, IsLine};
+    ghost use Rattle.gq_reply.specs.Replies.{text, IsLine};
     ghost use Rattle.gq_engine.specs.Runs.{AnsweredAlike, FaultsHappened, KeptUnlessDone};
 
     /// Answers the items of a script, one after the other, and writes each reply and flushes. A

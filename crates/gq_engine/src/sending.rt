@@ -4,9 +4,11 @@ ghost use Rattle.std.specs.Io.KnownBytes.{Appends};
 ghost use Rattle.gq_engine.specs.Sending.{AppendsFront};
 
 use std::io::Write;
+use thiserror::Error;
 
 /// A write or a flush that failed, or a write that took no byte.
-#[derive(Clone, Copy, Debug, PartialEq, Eq)]
+#[derive(Clone, Copy, Debug, PartialEq, Eq, Error)]
+#[error("a write failed")]
 pub struct WriteFault;
 
 /// Writes all the bytes, and flushes. Any error is a fault, an interrupted call too; then a front

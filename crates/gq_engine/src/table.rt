@@ -4,7 +4,7 @@ ghost use Rattle.gq_row.specs.Tables.{PlainTable, put, put_by_key};
 ghost use Rattle.gq_row.specs.Headings.{Heading};
 
 use crate::cells::{fit_columns, has_null, have_same_key};
-use crate::refusal::{Refusal, Refused};
+use gq_reply::{Refusal, Refused};
 use gq_row::{Limits, Row, Schema, Value};
 use std::alloc::{AllocError, Global};
 use std::marker::Model;

@@ -1,7 +1,7 @@
 use Rattle.std.proofs.Common.{◌≡◌, ◌∙◌, inr, set, sym, ap, subst, None}
 use Rattle.std.specs.Prelude.{Err}
-use Rattle.gq_engine.specs.declared.refusal.Refusal.TheVariants.{NoTable}
-use Rattle.gq_engine.specs.declared.refusal.Refused.{Refused}
+use Rattle.gq_reply.specs.declared.refusal.Refusal.TheVariants.{NoTable}
+use Rattle.gq_reply.specs.declared.refusal.Refused.{Refused}
 use Rattle.gq_engine.specs.Databases.{Database, StandsAt, table_at}
 use Rattle.gq_engine.specs.Serving.{Changes}
 use Rattle.gq_engine.specs.Steps.{with_row}

@@ -1,11 +1,11 @@
 use Rattle.std.proofs.Common.{◌≡◌, ◌∙◌, ◌++◌, ◌∷◌, [], sym, ap, subst, bytes_eq, rules}
 use Rattle.std.specs.Prelude.{Ok}
 use Rattle.gq_engine.specs.Databases.{Database}
-use Rattle.gq_engine.specs.declared.reply.Reply.TheVariants as reply
+use Rattle.gq_reply.specs.declared.reply.Reply.TheVariants as reply
 use Rattle.std.proofs.lemmas.Result.{err_from_is_err_and}
-use Rattle.gq_engine.specs.declared.refusal.Refusal.TheVariants.{TableExists, NoColumn, Limit}
+use Rattle.gq_reply.specs.declared.refusal.Refusal.TheVariants.{TableExists, NoColumn, Limit}
 use Rattle.gq_engine.specs.Engines.{database}
-use Rattle.gq_engine.specs.Outcomes.{unnumbered}
+use Rattle.gq_reply.specs.Refusals.{unnumbered}
 use Rattle.gq_engine.specs.Steps.{create}
 use Rattle.gq_engine.proofs.StepLemmas.{no_memory, no_memory_at, refuses, carries, missed, create_exists, create_lacks, create_full, create_adds}
 use Rattle.gq_row.specs.Repeats.{no_repeats}

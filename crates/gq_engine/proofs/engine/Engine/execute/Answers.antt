@@ -1,10 +1,10 @@
 use Rattle.std.proofs.Common.{◌≡◌, ◌⊎◌, inl, inr, false, refl, sym, ap, subst, ◌∙◌}
 use Rattle.gq_command.specs.declared.reader.Item.TheVariants as item
-use Rattle.gq_engine.specs.declared.refusal.Refused.{Refused}
-use Rattle.gq_engine.specs.declared.reply.Reply.{Reply}
+use Rattle.gq_reply.specs.declared.refusal.Refused.{Refused}
+use Rattle.gq_reply.specs.declared.reply.Reply.{Reply}
 use Rattle.gq_engine.specs.Engines.{database, setting_of}
 use Rattle.gq_engine.specs.Runs.{AnsweredAlike, is_store_fault}
-use Rattle.gq_engine.specs.Outcomes.{told}
+use Rattle.gq_reply.specs.Refusals.{told}
 use Rattle.gq_engine.proofs.OrderLemmas.{answered_done, answered_refused}
 use Rattle.gq_engine.proofs.engine.Engine.execute.Goals as goal
 

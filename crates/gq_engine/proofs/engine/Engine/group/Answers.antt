@@ -1,13 +1,13 @@
 use Rattle.std.proofs.Common.{◌≡◌, ◌∙◌, sym, ap, Some, rules}
 use Rattle.std.specs.Prelude.{Ok}
 use Rattle.gq_engine.specs.Answers.{counted_groups}
-use Rattle.gq_engine.specs.declared.reply.Reply.{Reply}
-use Rattle.gq_engine.specs.declared.reply.Reply.TheVariants as reply
+use Rattle.gq_reply.specs.declared.reply.Reply.{Reply}
+use Rattle.gq_reply.specs.declared.reply.Reply.TheVariants as reply
 use Rattle.gq_engine.proofs.OrderLemmas.{same_tables}
 use Rattle.std.proofs.lemmas.Result.{err_from_is_err_and}
-use Rattle.gq_engine.specs.declared.refusal.Refusal.TheVariants.{NoTable, NoColumn}
+use Rattle.gq_reply.specs.declared.refusal.Refusal.TheVariants.{NoTable, NoColumn}
 use Rattle.gq_engine.specs.Engines.{database}
-use Rattle.gq_engine.specs.Outcomes.{unnumbered}
+use Rattle.gq_reply.specs.Refusals.{unnumbered}
 use Rattle.gq_engine.specs.Steps.{group, group_header}
 use Rattle.gq_engine.proofs.StepLemmas.{no_memory, refuses, carries, missed, group_none, group_lacks, group_counts}
 use Rattle.gq_engine.proofs.ColumnLemmas.{rows_long_enough}

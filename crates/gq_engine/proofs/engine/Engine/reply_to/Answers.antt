@@ -3,8 +3,8 @@ use Rattle.gq_command.specs.declared.reader.Item.{Item}
 use Rattle.gq_command.specs.declared.reader.Item.TheVariants as item
 use Rattle.gq_engine.specs.Engines.{database, setting_of}
 use Rattle.gq_engine.specs.Runs.{AnsweredAlike, AsListsAnswer, KeptUnlessDone}
-use Rattle.gq_engine.specs.declared.reply.Reply.{Reply}
-use Rattle.gq_engine.specs.Outcomes.{refused}
+use Rattle.gq_reply.specs.declared.reply.Reply.{Reply}
+use Rattle.gq_reply.specs.Refusals.{refused}
 use Rattle.gq_engine.proofs.OrderLemmas.{answered_exactly, same_tables}
 use Rattle.gq_engine.proofs.engine.Engine.reply_to.Goals as goal
 

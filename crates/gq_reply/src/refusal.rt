@@ -1,49 +1,68 @@
 //! Why a command is refused.
 ghost use Rattle.std.specs.Prelude.{◌≡◌, ◌≤◌, length};
-ghost use Rattle.gq_engine.specs.Outcomes.{unnumbered};
-ghost use Rattle.gq_engine.specs.Replies.{code_of, name_of};
-ghost use Rattle.gq_engine.specs.declared.refusal.Refusal.TheVariants.{Memory};
+ghost use Rattle.gq_reply.specs.Refusals.{unnumbered};
+ghost use Rattle.gq_reply.specs.Replies.{code_of, name_of};
+ghost use Rattle.gq_reply.specs.declared.refusal.Refusal.TheVariants.{Memory};
 
 use std::alloc::AllocError;
+use thiserror::Error;
 
 /// Why a command was refused. Refused commands change no table.
-#[derive(Clone, Copy, Debug, PartialEq, Eq)]
+#[derive(Clone, Copy, Debug, PartialEq, Eq, Error)]
 pub enum Refusal {
     /// The line is no command.
+    #[error("no command")]
     Syntax,
     /// The line is longer than the limit.
+    #[error("the line is too long")]
     LineTooLong,
     /// There is no table of that name.
+    #[error("no such table")]
     NoTable,
     /// There is a table of that name already.
+    #[error("there is such a table already")]
     TableExists,
     /// The table has no column of that name.
+    #[error("no such column")]
     NoColumn,
     /// A value is of another kind than its column, or there are too many or too few.
+    #[error("the values don't fit the columns")]
     TypeMismatch,
     /// The table has no key.
+    #[error("the table has no key")]
     NoKey,
     /// A key column would hold null.
+    #[error("null in a key column")]
     NullKey,
     /// A payload's header does not name each column once.
+    #[error("the header does not name each column once")]
     Header,
     /// A record has more or fewer fields than the header.
+    #[error("more or fewer fields than the header has")]
     FieldCount,
     /// A field is no whole number of 64 bits.
+    #[error("a field is no whole number of 64 bits")]
     BadInt,
     /// A field is not UTF-8.
+    #[error("a field is not UTF-8")]
     BadText,
     /// A sum is no whole number of 64 bits.
+    #[error("a sum is no whole number of 64 bits")]
     SumRange,
     /// Something is past a limit.
+    #[error("past a limit")]
     Limit,
     /// A request for memory was refused.
+    #[error("out of memory")]
     Memory,
     /// The run store failed.
+    #[error("the run store failed")]
     StoreFault,
     /// The run store did not read back what was written.
+    #[error("the run store did not read back what was written")]
     Damaged,
     /// A payload was not closed.
+    #[error("the payload was not closed")]
     LoadOpen,
 }
 

@@ -1,7 +1,7 @@
 use Rattle.std.proofs.Common.{◌≡◌, [], ◌++◌, map, drop}
 use Rattle.csv.specs.Records.{fields_of, partial_of}
-use Rattle.gq_engine.specs.Replies.{cell_text}
-use Rattle.gq_engine.proofs.text.fill_row.Given as goal
+use Rattle.gq_reply.specs.Replies.{cell_text}
+use Rattle.gq_reply.proofs.text.fill_row.Given as goal
 
 abbrev pub invariant-loop-cell : goal.invariant-loop-cell
 invariant-loop-cell l = record {

@@ -1,5 +1,5 @@
 use Rattle.std.proofs.Common.{◌≡◌, ◌++◌, take}
-use Rattle.gq_engine.proofs.line.Line.push.Given as goal
+use Rattle.gq_reply.proofs.reply_line.ReplyLine.push.Given as goal
 
 abbrev pub invariant-loop-byte : goal.invariant-loop-byte
 invariant-loop-byte l = l.self ≡ l.fn.self ++ take l.byte-index l.part

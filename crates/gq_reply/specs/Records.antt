@@ -5,7 +5,7 @@ use Rattle.csv.specs.Writing.{default_writer, fields_written, has_written, text_
 use Rattle.csv.specs.declared.writer.Writer.{Writer}
 
 -- a default writer stands between two records, and these bytes are what it wrote
-pub record Wrote (writer : Writer (Vec ℕ Global)) (bytes : List ℕ) : Type 0 where
+pub record HasWritten (writer : Writer (Vec ℕ Global)) (bytes : List ℕ) : Type 0 where
   pub setup : writer_setup writer ≡ default_writer
   pub fields : fields_written writer ≡ 0
   pub begun : has_written writer ≡ false

@@ -1,7 +1,7 @@
 //! Replies.
 ghost use Rattle.std.specs.Prelude.{◌≡◌};
-ghost use Rattle.gq_engine.specs.Outcomes.{refused, told};
-ghost use Rattle.gq_engine.specs.Replies.{is_refusal as refuses};
+ghost use Rattle.gq_reply.specs.Refusals.{refused, told};
+ghost use Rattle.gq_reply.specs.Replies.{is_refusal as refuses};
 
 use crate::refusal::{Refusal, Refused};
 use gq_row::{Row, Sequence, Text};
@@ -32,7 +32,7 @@ impl Reply {
     }
 
     /// The reply that tells a refusal.
-    pub(crate) fn told(refused: Refused) -> Reply
+    pub fn told(refused: Refused) -> Reply
         ensures { result ≡ told refused }
     {
         Reply::Refused {

@@ -1,11 +1,11 @@
 //! The text of replies, rows as CSV records.
 ghost use Rattle.std.specs.Prelude.{◌≡◌, ◌∷◌, ◌++◌, [], ℕ, List, IfOk, OnOk, map};
 ghost use Rattle.csv.specs.Records.{fields_of, partial_of};
-ghost use Rattle.gq_engine.specs.Records.{Wrote};
-ghost use Rattle.gq_engine.specs.Replies.{text, cell_text, record_text};
+ghost use Rattle.gq_reply.specs.Records.{HasWritten};
+ghost use Rattle.gq_reply.specs.Replies.{text, cell_text, record_text};
 
-use crate::line::{accepted_line, line_of};
 use crate::reply::Reply;
+use crate::reply_line::{accepted_line, line_of};
 use csv::{ByteRecord, Writer, WriterBuilder};
 use gq_row::{Row, Sequence, Text, Value};
 use itoa::Buffer;
@@ -84,7 +84,7 @@ fn push_cell(line: &mut ByteRecord, cell: &Value) -> Result<(), AllocError>
 
 // Writes one record, with its end.
 fn write_record(writer: &mut Writer<Vec<u8>>, line: &ByteRecord) -> Result<(), AllocError>
-    ensures { (bytes : List ℕ) → Wrote writer.old bytes → OnOk result (Wrote writer.new (bytes ++ record_text (fields_of line.now))) }
+    ensures { (bytes : List ℕ) → HasWritten writer.old bytes → OnOk result (HasWritten writer.new (bytes ++ record_text (fields_of line.now))) }
 {
     match writer.write_byte_record(line) {
         Ok(()) => Ok(()),

@@ -1,6 +1,6 @@
 //! Replies of one line, made without memory.
 ghost use Rattle.std.specs.Prelude.{◌≡◌, ◌∷◌, ◌++◌, ◌+◌, ◌≤◌, [], length};
-ghost use Rattle.gq_engine.specs.Replies.{text, accepted, IsLine};
+ghost use Rattle.gq_reply.specs.Replies.{text, accepted, IsLine};
 
 use crate::reply::Reply;
 use itoa::Buffer;
@@ -8,12 +8,12 @@ use std::marker::Model;
 
 /// Up to 96 bytes, seen as their list.
 #[derive(Drop)]
-pub struct Line {
+pub struct ReplyLine {
     bytes: [u8; 96],
     len: usize,
 }
 
-impl Model for Line {
+impl Model for ReplyLine {
     ghost use Rattle.std.specs.Prelude.{List, ℕ, take, ◌≤◌};
 
     ghost Value = { List ℕ };
@@ -23,11 +23,11 @@ impl Model for Line {
     ghost invariant = { λ l. l.len ≤ 96 };
 }
 
-impl Line {
-    fn new() -> Line
+impl ReplyLine {
+    fn new() -> ReplyLine
         ensures { result ≡ [] }
     {
-        Line {
+        ReplyLine {
             bytes: [0; 96],
             len: 0,
         }
@@ -58,10 +58,10 @@ impl Line {
 }
 
 /// `ok` and a number.
-pub fn accepted_line(n: u64) -> Line
+pub fn accepted_line(n: u64) -> ReplyLine
     ensures { result ≡ accepted n }
 {
-    let mut line = Line::new();
+    let mut line = ReplyLine::new();
     let mut digits = Buffer::new();
     line.push(b"ok ");
     line.push(digits.format(n).as_bytes());
@@ -70,11 +70,11 @@ pub fn accepted_line(n: u64) -> Line
 }
 
 /// The text of a reply of one line.
-pub fn line_of(reply: &Reply) -> Line
+pub fn line_of(reply: &Reply) -> ReplyLine
     requires { IsLine reply.now }
     ensures { result ≡ text reply.now }
 {
-    let mut line = Line::new();
+    let mut line = ReplyLine::new();
     let mut digits = Buffer::new();
     match reply {
         Reply::Done(n) => return accepted_line(*n),

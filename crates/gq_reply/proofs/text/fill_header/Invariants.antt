@@ -1,6 +1,6 @@
 use Rattle.std.proofs.Common.{◌≡◌, [], take}
 use Rattle.csv.specs.Records.{fields_of, partial_of}
-use Rattle.gq_engine.proofs.text.fill_header.Given as goal
+use Rattle.gq_reply.proofs.text.fill_header.Given as goal
 
 abbrev pub invariant-loop-name : goal.invariant-loop-name
 invariant-loop-name l = record {

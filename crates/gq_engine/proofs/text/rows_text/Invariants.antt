@@ -1,8 +1,0 @@
-use Rattle.std.proofs.Common.{◌++◌, take, map, length}
-use Rattle.std.specs.Prelude.{flat_map}
-use Rattle.gq_engine.specs.Records.{Wrote}
-use Rattle.gq_engine.specs.Replies.{accepted, cell_text, record_text}
-use Rattle.gq_engine.proofs.text.rows_text.Given as goal
-
-abbrev pub invariant-loop-row : goal.invariant-loop-row
-invariant-loop-row l = Wrote l.writer (accepted (length l.rows) ++ record_text l.header ++ flat_map (λ row. record_text (map cell_text row)) (take l.row-index l.row-items))

@@ -1,0 +1,24 @@
+//! Replies to commands: what there is to answer, the refusals with their numbers and names, and
+//! the bytes of each reply.
+//!
+//! [`Reply`] is what a command comes to, [`Refusal`] why it was refused, and [`reply_text`] the
+//! bytes that are written: a line `ok` or `err`, and behind `ok` the rows of a query as CSV
+//! records under their header. Replies of one line are made without memory ([`line_of`]).
+//!
+//! # The contract above this crate
+//!
+//! [`reply_text`] gives the text of the reply as `specs/Replies.antt` spells it, or there was no
+//! memory for it: `ok` and the number of rows, then the records of the CSV writer, null as `\N`;
+//! or `err`, the number and the name of the refusal, and the number of a payload's record where
+//! there is one.
+#![tactic(auto)]
+
+mod refusal;
+mod reply;
+mod reply_line;
+mod text;
+
+pub use refusal::{Refusal, Refused};
+pub use reply::Reply;
+pub use reply_line::{ReplyLine, accepted_line, line_of};
+pub use text::{reply_text, rows_text};
