@@ -1,12 +1,10 @@
 pub mod Bytes
 pub mod ColumnLemmas
 pub mod GroupLemmas
-pub mod KeyLemmas
 pub mod MapLemmas
 pub mod OrderLemmas
 pub mod PlainRuns
 pub mod PlainSteps
-pub mod PutLemmas
 pub mod RepeatedRuns
 pub mod RunLemmas
 pub mod StepLemmas

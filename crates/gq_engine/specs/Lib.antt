@@ -12,5 +12,4 @@ pub mod Refusing
 pub mod Engines
 -- contracts of single functions
 pub mod Sending
-pub mod Standing
 pub mod Serving

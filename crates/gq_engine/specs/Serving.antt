@@ -1,6 +1,8 @@
 -- What answering one item and writing its reply did.
-use Rattle.std.specs.Prelude.{◌≡◌, ◌⊎◌, ◌∷◌, [], Option, Result, Ok, Err}
+use Rattle.std.specs.Prelude.{◌≡◌, ◌⊎◌, List, ◌∷◌, [], Option, Result, Ok, Err, IsPermutation}
 use Rattle.std.specs.Io.KnownBytes.{Appends}
+use Rattle.gq_row.specs.declared.value.Value.{Value}
+use Rattle.gq_row.specs.Tables.{PlainTable}
 use Rattle.gq_command.specs.declared.reader.Item.{Item}
 use Rattle.gq_command.specs.Commands.{Bytes}
 use Rattle.gq_reply.specs.declared.refusal.Refusal.TheVariants.{Memory}
@@ -31,6 +33,18 @@ Comes steps (Err why) old new = SameTables old new × ((why ≡ unnumbered Memor
 abbrev pub Changes : {X : Type 0} → Result Database Refused → Result X Refused → Database → Database → Type 0
 Changes steps (Ok x) old new = (last : Database) × (steps ≡ Ok last) × SameTables last new
 Changes steps (Err why) old new = SameTables old new × ((why ≡ unnumbered Memory) ⊎ (steps ≡ Err why))
+
+-- a table has the rows that some steps give, but for their order
+pub record HasRows (steps : Result (List (List Value)) Refused) (old new : PlainTable) : Type 0 where
+  pub given : List (List Value)
+  pub done : steps ≡ Ok given
+  pub heading : new.heading ≡ old.heading
+  pub same : IsPermutation given new.rows
+
+-- what a change of one table did: what its steps come to, or they are refused, or there was no memory; the last two leave the table
+abbrev pub Takes : {X : Type 0} → Result (List (List Value)) Refused → Result X Refused → PlainTable → PlainTable → Type 0
+Takes steps (Ok x) old new = HasRows steps old new
+Takes steps (Err why) old new = (new ≡ old) × ((why ≡ unnumbered Memory) ⊎ (steps ≡ Err why))
 
 -- an item was answered, and the reply's text written
 pub record Wrote (setting : Setting) (old : State) (it : Item) (new : State) (before after : Option Bytes) (answer : Reply) : Type 0 where

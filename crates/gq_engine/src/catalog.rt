@@ -1,24 +1,29 @@
 //! The tables of a database, by their names.
-ghost use Rattle.std.specs.Prelude.{◌≡◌, ◌++◌, ◌∷◌, [], IfOk, OnOk, OnErr, length, option_copied, MatchOption, None};
+ghost use Rattle.std.specs.Prelude.{◌≡◌, ◌++◌, ◌∷◌, [], OnOk, OnErr, length, option_copied, MatchOption, None};
+ghost use Rattle.gq_reply.specs.Refusals.{unnumbered};
+ghost use Rattle.gq_table.specs.Standing.{IsStanding};
 ghost use Rattle.gq_engine.specs.Databases.{table_at, StandsAt, IsKeyed};
-ghost use Rattle.gq_engine.specs.Serving.{Changes};
+ghost use Rattle.gq_engine.specs.Refusing.{put_within, table_refusal};
+ghost use Rattle.gq_engine.specs.Serving.{Changes, Takes};
 ghost use Rattle.gq_engine.specs.Steps.{with_row};
 
-use crate::table::Table;
 use gq_reply::{Refusal, Refused};
-use gq_row::{Limits, Row, Schema, Text};
+use gq_row::{Key, Limits, Row, Schema, Text};
+use gq_table::{Table, TableRefusal};
 use std::alloc::{AllocError, Global};
 use std::marker::Model;
+use sw_probe::KeyHash;
 
 /// Tables by their names, in a list that is searched from its front, since there are few. No name
 /// stands twice.
 #[derive(Drop)]
-pub struct Catalog {
+pub struct Catalog<H: KeyHash<Key>> {
     alloc: Global,
-    tables: Vec<(Text, Table)>,
+    hasher: H,
+    tables: Vec<(Text, Table<H>)>,
 }
 
-impl Model for Catalog {
+impl<H: KeyHash<Key>> Model for Catalog<H> {
     ghost use Rattle.gq_engine.specs.Databases.{Database};
 
     ghost Value = { Database };
@@ -31,12 +36,14 @@ impl Model for Catalog {
     ghost invariant = { λ c. IsTrue (names_differ c.tables.items) × IsKeyed c.tables.items };
 }
 
-impl Catalog {
-    pub fn new(alloc: Global) -> Catalog
+impl<H: KeyHash<Key> + Copy> Catalog<H> {
+    /// A catalog without tables, whose keys will be hashed by `hasher`.
+    pub fn new(alloc: Global, hasher: H) -> Catalog<H>
         ensures { result ≡ [] }
     {
         Catalog {
             alloc,
+            hasher,
             tables: Vec::new(alloc),
         }
     }
@@ -50,7 +57,7 @@ impl Catalog {
     }
 
     /// The table of a name.
-    pub fn get(&self, name: &str) -> Option<&Table>
+    pub fn get(&self, name: &str) -> Option<&Table<H>>
         ensures { option_copied result ≡ table_at self.now name.now }
     {
         let i = find_table(self.tables.as_slice(), name)?;
@@ -62,12 +69,7 @@ impl Catalog {
         ensures { Changes (with_row limits.now.bounds self.old name.now row) result self.old self.new }
     {
         match find_table(self.tables.as_slice(), name) {
-            Some(i) => {
-                let table = &mut self.tables[i].1;
-                let taken = table.upsert(row, limits);
-                let _standing = table.rows();
-                taken
-            }
+            Some(i) => put_row(&mut self.tables[i].1, row, limits),
             None => Err(Refused::from(Refusal::NoTable)),
         }
     }
@@ -78,13 +80,13 @@ impl Catalog {
         ensures ok { OnOk result (self.new ≡ self.old ++ (name, record { heading = schema; rows = [] }) ∷ []) }
         ensures err { OnErr result (self.new ≡ self.old) }
     {
-        let table = Table::new(self.alloc, schema);
+        let table = Table::new(self.alloc, schema, self.hasher);
         self.tables.push((name, table))?;
         Ok(())
     }
 }
 
-fn find_table(tables: &[(Text, Table)], name: &str) -> Option<usize>
+fn find_table<H: KeyHash<Key>>(tables: &[(Text, Table<H>)], name: &str) -> Option<usize>
     ensures { MatchOption result (table_at tables.now name.now ≡ None) (λ i. StandsAt tables.now name.now i) }
 {
     for (i, entry) in tables.iter().enumerate() {
@@ -93,4 +95,33 @@ fn find_table(tables: &[(Text, Table)], name: &str) -> Option<usize>
         }
     }
     None
+}
+
+// Puts a row into a table, or says why the table refuses it.
+fn put_row<H: KeyHash<Key> + Copy>(
+    table: &mut Table<H>,
+    row: Row,
+    limits: &Limits,
+) -> Result<(), Refused>
+    ensures takes { Takes (put_within limits.now.bounds table.old row) result table.old table.new }
+    ensures standing { IsStanding table.new }
+{
+    let taken = table.upsert(row, limits);
+    let _standing = table.rows();
+    match taken {
+        Ok(()) => Ok(()),
+        Err(why) => Err(refused_by_table(why)),
+    }
+}
+
+// A table's refusal, as that of a command.
+fn refused_by_table(why: TableRefusal) -> Refused
+    ensures { result ≡ unnumbered (table_refusal why) }
+{
+    Refused::from(match why {
+        TableRefusal::TypeMismatch => Refusal::TypeMismatch,
+        TableRefusal::NullKey => Refusal::NullKey,
+        TableRefusal::Limit => Refusal::Limit,
+        TableRefusal::Memory => Refusal::Memory,
+    })
 }

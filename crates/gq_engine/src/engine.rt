@@ -6,18 +6,19 @@ use crate::catalog::Catalog;
 use crate::grouping::count_groups;
 use gq_command::{Command, Item};
 use gq_reply::{Refusal, Refused, Reply};
-use gq_row::{Column, Limits, Row, Schema, Sequence, Text, find_positions};
+use gq_row::{Column, Key, Limits, Row, Schema, Sequence, Text, find_positions};
 use std::alloc::{AllocError, Global};
+use sw_probe::KeyHash;
 
-/// A database of tables, and what carries out commands on it.
+/// A database of tables, and what carries out commands on it. `H` hashes the keys of their rows.
 #[derive(Drop)]
-pub struct Engine {
+pub struct Engine<H: KeyHash<Key>> {
     alloc: Global,
-    catalog: Catalog,
+    catalog: Catalog<H>,
     limits: Limits,
 }
 
-impl Engine {
+impl<H: KeyHash<Key> + Copy> Engine<H> {
     ghost use Rattle.std.specs.Prelude.{◌≡◌, ◌∷◌, [], true};
     ghost use Rattle.gq_command.specs.Commands.{is_command};
     ghost use Rattle.gq_engine.specs.Engines.{database, setting_of, failures_of};
@@ -26,14 +27,14 @@ impl Engine {
     ghost use Rattle.gq_engine.specs.Serving.{Comes};
     ghost use Rattle.gq_engine.specs.Steps.{outcome, create as created, upsert as upserted, group as grouped};
 
-    /// An engine without tables.
-    pub fn new(alloc: Global, limits: Limits) -> Engine
+    /// An engine without tables, whose keys will be hashed by `hasher`.
+    pub fn new(alloc: Global, hasher: H, limits: Limits) -> Engine<H>
         ensures tables { database result ≡ [] }
         ensures limits { (setting_of result).limits ≡ limits.bounds }
     {
         Engine {
             alloc,
-            catalog: Catalog::new(alloc),
+            catalog: Catalog::new(alloc, hasher),
             limits,
         }
     }
@@ -139,7 +140,7 @@ impl Engine {
         let positions = find_positions(self.alloc, columns, by.as_slice())?.ok_or(
             Refusal::NoColumn,
         )?;
-        let rows = count_groups(self.alloc, table.rows(), positions.as_slice())?;
+        let rows = count_groups(self.alloc, table, positions.as_slice())?;
         let header = header_of(self.alloc, by)?;
         Ok(Reply::Rows { header, rows })
     }
