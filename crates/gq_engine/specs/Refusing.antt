@@ -1,11 +1,13 @@
 -- What a table takes.
-use Rattle.std.specs.Prelude.{◌≡◌, ◌⊎◌, ◌≤◌, ◌<◌, ◌++◌, ◌∷◌, [], ℕ, Bool, not, IsTrue, List, length, nat_le, slice_set, Result, Ok, Err}
+use Rattle.std.specs.Prelude.{◌≡◌, ◌⊎◌, ◌≤◌, ◌<◌, ◌&&◌, ◌++◌, ◌∷◌, [], ℕ, Bool, true, false, not, IsTrue, List, length, nat_le, slice_set, Result, Ok, Err}
 use Rattle.std.specs.List.{list_any}
 use Rattle.gq_row.specs.declared.value.Value.{Value}
 use Rattle.gq_row.specs.declared.limits.Bounds.{Bounds}
 use Rattle.gq_row.specs.Rows.{cell}
-use Rattle.gq_row.specs.Tables.{PlainTable, put}
-use Rattle.gq_row.specs.Fitting.{fits_columns, is_null}
+use Rattle.gq_row.specs.Tables.{PlainTable, put, put_all}
+use Rattle.gq_row.specs.Fitting.{fits_columns, goes_in, is_null}
+use Rattle.gq_row.specs.declared.schema.Column.{Column}
+use Rattle.gq_load.specs.Payloads.{kind_at}
 use Rattle.gq_engine.specs.Outcomes.{◌>>=◌, true_or}
 use Rattle.gq_reply.specs.Refusals.{unnumbered}
 use Rattle.gq_reply.specs.declared.refusal.Refusal.TheVariants.{TypeMismatch, NullKey, Limit, Memory}
@@ -28,6 +30,19 @@ put_within limits table row = do
   keyed ← true_or NullKey (not (has_null_key table row))
   few ← true_or Limit (nat_le (length (rows_with table row)) limits.rows)
   Ok (rows_with table row)
+
+-- the rows of a table after rows were put, one after the other, where they are few enough
+abbrev pub put_all_within : Bounds → PlainTable → List (List Value) → Result (List (List Value)) Refused
+put_all_within limits table new = do
+  few ← true_or Limit (nat_le (length (put_all table.heading.key table.rows new)) limits.rows)
+  Ok (put_all table.heading.key table.rows new)
+
+-- as many values as key columns, and each may stand in its column
+abbrev pub fits_key : List Column → List ℕ → List Value → Bool
+fits_key columns [] [] = true
+fits_key columns [] (value ∷ values) = false
+fits_key columns (position ∷ positions) [] = false
+fits_key columns (position ∷ positions) (value ∷ values) = goes_in (kind_at columns position) value && fits_key columns positions values
 
 -- where a row goes: in the place of the row that has its key, or behind all rows
 abbrev pub Goes : Placing → PlainTable → List Value → Type 0
