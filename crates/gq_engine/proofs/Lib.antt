@@ -1,5 +1,6 @@
 pub mod Bytes
 pub mod ColumnLemmas
+pub mod FormLemmas
 pub mod GroupLemmas
 pub mod KeyLemmas
 pub mod MapLemmas

@@ -22,6 +22,7 @@ use Rattle.gq_command.specs.Commands.{Bytes, column_names, some}
 use Rattle.gq_command.specs.declared.command.Command.{Command}
 use Rattle.gq_command.specs.declared.command.Command.TheVariants.{Create, Drop, Load, Upsert, Delete, Show, Group, Distinct}
 use Rattle.gq_command.specs.declared.command.Payload.{Payload}
+use Rattle.gq_command.specs.declared.command.Payload.TheVariants as payload
 use Rattle.gq_command.specs.declared.reader.Item.{Item}
 use Rattle.gq_command.specs.declared.reader.Item.TheVariants as item
 use Rattle.gq_reply.specs.declared.refusal.Refusal.{Refusal}
@@ -468,6 +469,16 @@ answered_refused setting old c why new h = from h.1
     from : (why ≡ unnumbered Memory) ⊎ (outcome setting.limits old c ≡ Err why) → AnsweredAlike setting old (item.Command c) (told why) new
     from (inl e) = subst (λ (w : Refused). AnsweredAlike setting old (item.Command c) (told w) new) (sym e) (answered_memory setting old (item.Command c) new h.0)
     from (inr e) = record { last = old; legal = AsListsAnswer (ap (settle old) (sym e)); same = h.0 }
+
+-- a load whose payload found no memory is answered so, and leaves the tables
+pub answered_lost : (setting : Setting) (old new : Database) (name : List ℕ) (answer : Reply) → AnsweredAlike setting old (item.Command (Load name payload.NoMemory)) answer new → SameTables old new × (answer ≡ refused Memory)
+answered_lost setting old new name answer h = (subst (λ (d : Database). SameTables d new) (from h.legal).0 h.same, (from h.legal).1)
+  where
+    from : LegalAnswer setting old (item.Command (Load name payload.NoMemory)) answer h.last → (h.last ≡ old) × (answer ≡ refused Memory)
+    from (AsListsAnswer e) = (ap (λ (p : Database × Reply). p.0) e, ap (λ (p : Database × Reply). p.1) e)
+    from (WantsMemory e m) = (e, m)
+    from (StoreFailed e g m) = absurd (true≢false (sym g.0))
+    from (StoreLied e g l) = absurd (true≢false (sym g.0))
 
 pub answered_exactly : (setting : Setting) (old : Database) (it : Item) (answer : Reply) (new : Database) → LegalAnswer setting old it answer new → AnsweredAlike setting old it answer new
 answered_exactly setting old it answer new h = record { last = new; legal = h; same = same_tables new }
