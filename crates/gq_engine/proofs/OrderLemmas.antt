@@ -37,8 +37,8 @@ use Rattle.gq_engine.specs.Outcomes.{◌>>=◌, some_or, true_or}
 use Rattle.gq_reply.specs.Refusals.{unnumbered, told, refused}
 use Rattle.gq_engine.specs.Loading.{is_lost, bytes_told, rows_told}
 use Rattle.gq_engine.specs.Refusing.{has_null_key, rows_with, put_within, put_all_within, fits_key}
-use Rattle.gq_engine.specs.Runs.{Setting, LegalAnswer, AsListsAnswer, WantsMemory, StoreFailed, StoreLied, SameTables, ReachesGrouping, IsGrouped, AnsweredAlike}
-use Rattle.gq_engine.specs.Serving.{CarriedOut, Comes}
+use Rattle.gq_engine.specs.Runs.{Setting, LegalAnswer, AsListsAnswer, WantsMemory, StoreFailed, StoreLied, SameTables, ReachesGrouping, IsGrouped, AnsweredAlike, AnsweredAsLists}
+use Rattle.gq_engine.specs.Serving.{CarriedOut, Comes, ComesSurely}
 use Rattle.gq_engine.specs.Steps.{Outcome, table_in, settle, outcome, step, create, drop_table, with_row, upsert, with_rows, load_table, delete_row, show_table, group_header, group}
 use Rattle.gq_engine.specs.Orders.{StepsAlike, RunsAlike}
 
@@ -469,6 +469,23 @@ answered_refused setting old c why new h = from h.1
     from : (why ≡ unnumbered Memory) ⊎ (outcome setting.limits old c ≡ Err why) → AnsweredAlike setting old (item.Command c) (told why) new
     from (inl e) = subst (λ (w : Refused). AnsweredAlike setting old (item.Command c) (told w) new) (sym e) (answered_memory setting old (item.Command c) new h.0)
     from (inr e) = record { last = old; legal = AsListsAnswer (ap (settle old) (sym e)); same = h.0 }
+
+-- what came of a command that takes no memory
+pub answered_surely : (limits : Bounds) (old : Database) (c : Command) (answer : Reply) (new : Database) → ComesSurely (outcome limits old c) (Ok answer) old new → AnsweredAsLists limits old (item.Command c) answer new
+answered_surely limits old c answer new h = record {
+  reply = sym (ap (λ (p : Outcome). (settle old p).1) h.done);
+  same = subst (λ (p : Outcome). SameTables (settle old p).0 new) (sym h.done) h.same;
+}
+
+pub refused_surely : (limits : Bounds) (old : Database) (c : Command) (why : Refused) (new : Database) → ComesSurely (outcome limits old c) (Err why) old new → AnsweredAsLists limits old (item.Command c) (told why) new
+refused_surely limits old c why new h = record {
+  reply = sym (ap (λ (p : Outcome). (settle old p).1) h.1);
+  same = subst (λ (p : Outcome). SameTables (settle old p).0 new) (sym h.1) h.0;
+}
+
+pub comes_surely : (steps : Outcome) (r : Result Reply Refused) (old new : Database) → ComesSurely steps r old new → Comes steps r old new
+comes_surely steps (Ok answer) old new h = h
+comes_surely steps (Err why) old new h = (h.0, inr h.1)
 
 -- a load whose payload found no memory is answered so, and leaves the tables
 pub answered_lost : (setting : Setting) (old new : Database) (name : List ℕ) (answer : Reply) → AnsweredAlike setting old (item.Command (Load name payload.NoMemory)) answer new → SameTables old new × (answer ≡ refused Memory)

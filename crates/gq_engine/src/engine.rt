@@ -22,8 +22,8 @@ impl Engine {
     ghost use Rattle.gq_command.specs.Commands.{is_command};
     ghost use Rattle.gq_engine.specs.Engines.{database, setting_of, failures_of};
     ghost use Rattle.gq_engine.specs.Databases.{IsKeyed};
-    ghost use Rattle.gq_engine.specs.Runs.{AnsweredAlike, KeptUnlessDone, FaultsHappened};
-    ghost use Rattle.gq_engine.specs.Serving.{Comes};
+    ghost use Rattle.gq_engine.specs.Runs.{AnsweredAlike, AnsweredAsLists, KeptUnlessDone, FaultsHappened, takes_no_memory};
+    ghost use Rattle.gq_engine.specs.Serving.{Comes, ComesSurely};
     ghost use Rattle.gq_engine.specs.Steps.{outcome, create as created, upsert as upserted, group as grouped};
 
     /// An engine without tables.
@@ -60,6 +60,8 @@ impl Engine {
         requires { is_command command ≡ true }
         // As plain lists answer it; only memory and the run store may refuse what they accept.
         ensures legal { AnsweredAlike (setting_of self.old) (database self.old) (Item.Command command) result (database self.new) }
+        // A drop and a delete take no memory, and are answered as plain lists answer them.
+        ensures sure { takes_no_memory command ≡ true → AnsweredAsLists (setting_of self.old).limits (database self.old) (Item.Command command) result (database self.new) }
         // A failure of the run store is told only where it failed.
         ensures faults { FaultsHappened (result ∷ []) (failures_of self.old) (failures_of self.new) }
         // Only a command that was carried out changes a table.
@@ -76,6 +78,7 @@ impl Engine {
     fn carry_out(&mut self, command: Command) -> Result<Reply, Refused>
         requires { is_command command ≡ true }
         ensures comes { Comes (outcome (setting_of self.old).limits (database self.old) command) result (database self.old) (database self.new) }
+        ensures sure { takes_no_memory command ≡ true → ComesSurely (outcome (setting_of self.old).limits (database self.old) command) result (database self.old) (database self.new) }
         ensures setting { setting_of self.new ≡ setting_of self.old }
     {
         match command {
