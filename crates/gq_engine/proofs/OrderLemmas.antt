@@ -488,14 +488,11 @@ comes_surely steps (Ok answer) old new h = h
 comes_surely steps (Err why) old new h = (h.0, inr h.1)
 
 -- a load whose payload found no memory is answered so, and leaves the tables
-pub answered_lost : (setting : Setting) (old new : Database) (name : List ℕ) (answer : Reply) → AnsweredAlike setting old (item.Command (Load name payload.NoMemory)) answer new → SameTables old new × (answer ≡ refused Memory)
-answered_lost setting old new name answer h = (subst (λ (d : Database). SameTables d new) (from h.legal).0 h.same, (from h.legal).1)
-  where
-    from : LegalAnswer setting old (item.Command (Load name payload.NoMemory)) answer h.last → (h.last ≡ old) × (answer ≡ refused Memory)
-    from (AsListsAnswer e) = (ap (λ (p : Database × Reply). p.0) e, ap (λ (p : Database × Reply). p.1) e)
-    from (WantsMemory e m) = (e, m)
-    from (StoreFailed e g m) = absurd (true≢false (sym g.0))
-    from (StoreLied e g l) = absurd (true≢false (sym g.0))
+pub answer_lost : (setting : Setting) (old new : Database) (name : List ℕ) (answer : Reply) → LegalAnswer setting old (item.Command (Load name payload.NoMemory)) answer new → (new ≡ old) × (answer ≡ refused Memory)
+answer_lost setting old new name answer (AsListsAnswer said) = (ap (λ (p : Database × Reply). p.0) said, ap (λ (p : Database × Reply). p.1) said)
+answer_lost setting old new name answer (WantsMemory kept memory) = (kept, memory)
+answer_lost setting old new name answer (StoreFailed kept grouping fault) = absurd (true≢false (sym grouping.0))
+answer_lost setting old new name answer (StoreLied kept grouping lied) = absurd (true≢false (sym grouping.0))
 
 pub answered_exactly : (setting : Setting) (old : Database) (it : Item) (answer : Reply) (new : Database) → LegalAnswer setting old it answer new → AnsweredAlike setting old it answer new
 answered_exactly setting old it answer new h = record { last = new; legal = h; same = same_tables new }
