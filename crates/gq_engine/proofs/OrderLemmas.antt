@@ -37,8 +37,8 @@ use Rattle.gq_engine.specs.Outcomes.{◌>>=◌, some_or, true_or}
 use Rattle.gq_reply.specs.Refusals.{unnumbered, told, refused}
 use Rattle.gq_engine.specs.Loading.{is_lost, bytes_told, rows_told}
 use Rattle.gq_engine.specs.Refusing.{has_null_key, rows_with, put_within, put_all_within, fits_key}
-use Rattle.gq_engine.specs.Runs.{Setting, LegalAnswer, AsListsAnswer, WantsMemory, StoreFailed, StoreLied, SameTables, ReachesGrouping, IsGrouped, AnsweredAlike}
-use Rattle.gq_engine.specs.Serving.{CarriedOut, Comes}
+use Rattle.gq_engine.specs.Runs.{Setting, LegalAnswer, AsListsAnswer, WantsMemory, StoreFailed, StoreLied, SameTables, ReachesGrouping, IsGrouped, AnsweredAlike, AnsweredAsLists}
+use Rattle.gq_engine.specs.Serving.{CarriedOut, Comes, ComesSurely}
 use Rattle.gq_engine.specs.Steps.{Outcome, table_in, settle, outcome, step, create, drop_table, with_row, upsert, with_rows, load_table, delete_row, show_table, group_header, group}
 use Rattle.gq_engine.specs.Orders.{StepsAlike, RunsAlike}
 
@@ -470,15 +470,29 @@ answered_refused setting old c why new h = from h.1
     from (inl e) = subst (λ (w : Refused). AnsweredAlike setting old (item.Command c) (told w) new) (sym e) (answered_memory setting old (item.Command c) new h.0)
     from (inr e) = record { last = old; legal = AsListsAnswer (ap (settle old) (sym e)); same = h.0 }
 
+-- what came of a command that takes no memory
+pub answered_surely : (limits : Bounds) (old : Database) (c : Command) (answer : Reply) (new : Database) → ComesSurely (outcome limits old c) (Ok answer) old new → AnsweredAsLists limits old (item.Command c) answer new
+answered_surely limits old c answer new h = record {
+  reply = sym (ap (λ (p : Outcome). (settle old p).1) h.done);
+  same = subst (λ (p : Outcome). SameTables (settle old p).0 new) (sym h.done) h.same;
+}
+
+pub refused_surely : (limits : Bounds) (old : Database) (c : Command) (why : Refused) (new : Database) → ComesSurely (outcome limits old c) (Err why) old new → AnsweredAsLists limits old (item.Command c) (told why) new
+refused_surely limits old c why new h = record {
+  reply = sym (ap (λ (p : Outcome). (settle old p).1) h.1);
+  same = subst (λ (p : Outcome). SameTables (settle old p).0 new) (sym h.1) h.0;
+}
+
+pub comes_surely : (steps : Outcome) (r : Result Reply Refused) (old new : Database) → ComesSurely steps r old new → Comes steps r old new
+comes_surely steps (Ok answer) old new h = h
+comes_surely steps (Err why) old new h = (h.0, inr h.1)
+
 -- a load whose payload found no memory is answered so, and leaves the tables
-pub answered_lost : (setting : Setting) (old new : Database) (name : List ℕ) (answer : Reply) → AnsweredAlike setting old (item.Command (Load name payload.NoMemory)) answer new → SameTables old new × (answer ≡ refused Memory)
-answered_lost setting old new name answer h = (subst (λ (d : Database). SameTables d new) (from h.legal).0 h.same, (from h.legal).1)
-  where
-    from : LegalAnswer setting old (item.Command (Load name payload.NoMemory)) answer h.last → (h.last ≡ old) × (answer ≡ refused Memory)
-    from (AsListsAnswer e) = (ap (λ (p : Database × Reply). p.0) e, ap (λ (p : Database × Reply). p.1) e)
-    from (WantsMemory e m) = (e, m)
-    from (StoreFailed e g m) = absurd (true≢false (sym g.0))
-    from (StoreLied e g l) = absurd (true≢false (sym g.0))
+pub answer_lost : (setting : Setting) (old new : Database) (name : List ℕ) (answer : Reply) → LegalAnswer setting old (item.Command (Load name payload.NoMemory)) answer new → (new ≡ old) × (answer ≡ refused Memory)
+answer_lost setting old new name answer (AsListsAnswer said) = (ap (λ (p : Database × Reply). p.0) said, ap (λ (p : Database × Reply). p.1) said)
+answer_lost setting old new name answer (WantsMemory kept memory) = (kept, memory)
+answer_lost setting old new name answer (StoreFailed kept grouping fault) = absurd (true≢false (sym grouping.0))
+answer_lost setting old new name answer (StoreLied kept grouping lied) = absurd (true≢false (sym grouping.0))
 
 pub answered_exactly : (setting : Setting) (old : Database) (it : Item) (answer : Reply) (new : Database) → LegalAnswer setting old it answer new → AnsweredAlike setting old it answer new
 answered_exactly setting old it answer new h = record { last = new; legal = h; same = same_tables new }

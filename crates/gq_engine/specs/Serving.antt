@@ -32,6 +32,11 @@ abbrev pub Comes : Outcome → Result Reply Refused → Database → Database �
 Comes steps (Ok answer) old new = CarriedOut steps answer old new
 Comes steps (Err why) old new = SameTables old new × ((why ≡ unnumbered Memory) ⊎ (steps ≡ Err why))
 
+-- the same of a command that takes no memory
+abbrev pub ComesSurely : Outcome → Result Reply Refused → Database → Database → Type 0
+ComesSurely steps (Ok answer) old new = CarriedOut steps answer old new
+ComesSurely steps (Err why) old new = SameTables old new × (steps ≡ Err why)
+
 -- what a step that changes tables did, in the same words
 abbrev pub Changes : {X : Type 0} → Result Database Refused → Result X Refused → Database → Database → Type 0
 Changes steps (Ok x) old new = (last : Database) × (steps ≡ Ok last) × SameTables last new

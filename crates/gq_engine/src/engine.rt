@@ -25,8 +25,8 @@ impl<H: KeyHash<Key> + Copy> Engine<H> {
     ghost use Rattle.gq_command.specs.Commands.{is_command};
     ghost use Rattle.gq_engine.specs.Engines.{database, setting_of, failures_of};
     ghost use Rattle.gq_engine.specs.Databases.{IsKeyed};
-    ghost use Rattle.gq_engine.specs.Runs.{AnsweredAlike, KeptUnlessDone, FaultsHappened};
-    ghost use Rattle.gq_engine.specs.Serving.{Comes, Settles};
+    ghost use Rattle.gq_engine.specs.Runs.{AnsweredAlike, AnsweredAsLists, KeptUnlessDone, FaultsHappened, takes_no_memory};
+    ghost use Rattle.gq_engine.specs.Serving.{Comes, ComesSurely};
     ghost use Rattle.gq_engine.specs.Steps.{outcome, create as created, drop_table as dropped, load_table as loaded, upsert as upserted, delete_row as removed, show_table as shown, group as grouped};
 
     /// An engine without tables, whose keys will be hashed by `hasher`.
@@ -63,6 +63,8 @@ impl<H: KeyHash<Key> + Copy> Engine<H> {
         requires { is_command command ≡ true }
         // As plain lists answer it; only memory and the run store may refuse what they accept.
         ensures legal { AnsweredAlike (setting_of self.old) (database self.old) (Item.Command command) result (database self.new) }
+        // A drop and a delete take no memory, and are answered as plain lists answer them.
+        ensures sure { takes_no_memory command ≡ true → AnsweredAsLists (setting_of self.old).limits (database self.old) (Item.Command command) result (database self.new) }
         // A failure of the run store is told only where it failed.
         ensures faults { FaultsHappened (result ∷ []) (failures_of self.old) (failures_of self.new) }
         // Only a command that was carried out changes a table.
@@ -79,6 +81,7 @@ impl<H: KeyHash<Key> + Copy> Engine<H> {
     fn carry_out(&mut self, command: Command) -> Result<Reply, Refused>
         requires { is_command command ≡ true }
         ensures comes { Comes (outcome (setting_of self.old).limits (database self.old) command) result (database self.old) (database self.new) }
+        ensures sure { takes_no_memory command ≡ true → ComesSurely (outcome (setting_of self.old).limits (database self.old) command) result (database self.old) (database self.new) }
         ensures setting { setting_of self.new ≡ setting_of self.old }
     {
         match command {
@@ -139,8 +142,7 @@ impl<H: KeyHash<Key> + Copy> Engine<H> {
     }
 
     fn drop_table(&mut self, name: Text) -> Result<Reply, Refused>
-        ensures settles { Settles (λ reply. reply) (dropped (database self.old) name) result (database self.old) (database self.new) }
-        ensures comes { Comes (dropped (database self.old) name) result (database self.old) (database self.new) }
+        ensures surely { ComesSurely (dropped (database self.old) name) result (database self.old) (database self.new) }
         ensures setting { setting_of self.new ≡ setting_of self.old }
     {
         self.catalog.remove(name.as_str())?;
@@ -163,8 +165,7 @@ impl<H: KeyHash<Key> + Copy> Engine<H> {
     }
 
     fn delete(&mut self, name: Text, key: Row) -> Result<Reply, Refused>
-        ensures settles { Settles (λ reply. reply) (removed (database self.old) name key) result (database self.old) (database self.new) }
-        ensures comes { Comes (removed (database self.old) name key) result (database self.old) (database self.new) }
+        ensures surely { ComesSurely (removed (database self.old) name key) result (database self.old) (database self.new) }
         ensures setting { setting_of self.new ≡ setting_of self.old }
     {
         let found = self.catalog.delete(name.as_str(), key.cells())?;
