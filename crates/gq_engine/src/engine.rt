@@ -22,7 +22,7 @@ pub struct Engine<H: KeyHash<Key>> {
 
 impl<H: KeyHash<Key> + Copy> Engine<H> {
     ghost use Rattle.std.specs.Prelude.{◌≡◌, ◌∷◌, [], true};
-    ghost use Rattle.gq_command.specs.Commands.{is_command};
+    ghost use Rattle.gq_command.specs.Commands.{is_command, as_said};
     ghost use Rattle.gq_engine.specs.Engines.{database, setting_of, failures_of};
     ghost use Rattle.gq_engine.specs.Databases.{IsKeyed};
     ghost use Rattle.gq_engine.specs.Runs.{AnsweredAlike, AnsweredAsLists, KeptUnlessDone, FaultsHappened, takes_no_memory};
@@ -58,9 +58,9 @@ impl<H: KeyHash<Key> + Copy> Engine<H> {
         self.catalog.len()
     }
 
-    /// Carries out one command, which some line says.
+    /// Carries out one command, which some line says, a load with any payload.
     pub fn execute(&mut self, command: Command) -> Reply
-        requires { is_command command ≡ true }
+        requires { is_command (as_said command) ≡ true }
         // As plain lists answer it; only memory and the run store may refuse what they accept.
         ensures legal { AnsweredAlike (setting_of self.old) (database self.old) (Item.Command command) result (database self.new) }
         // A drop and a delete take no memory, and are answered as plain lists answer them.
@@ -79,7 +79,7 @@ impl<H: KeyHash<Key> + Copy> Engine<H> {
 
     // One command, step by step.
     fn carry_out(&mut self, command: Command) -> Result<Reply, Refused>
-        requires { is_command command ≡ true }
+        requires { is_command (as_said command) ≡ true }
         ensures comes { Comes (outcome (setting_of self.old).limits (database self.old) command) result (database self.old) (database self.new) }
         ensures sure { takes_no_memory command ≡ true → ComesSurely (outcome (setting_of self.old).limits (database self.old) command) result (database self.old) (database self.new) }
         ensures setting { setting_of self.new ≡ setting_of self.old }
@@ -103,7 +103,12 @@ impl<H: KeyHash<Key> + Copy> Engine<H> {
                 exists: _exists,
                 having: _having,
             } => return self.group(table, by),
-            _other => return Err(Refused::from(Refusal::Syntax)),
+            // No form below has steps yet.
+            Command::Drop { .. }
+            | Command::Load { .. }
+            | Command::Delete { .. }
+            | Command::Show { .. }
+            | Command::Distinct { .. } => return Err(Refused::from(Refusal::Syntax)),
         }
     }
 
