@@ -103,12 +103,8 @@ impl<H: KeyHash<Key> + Copy> Engine<H> {
                 exists: _exists,
                 having: _having,
             } => return self.group(table, by),
-            // No form below has steps yet.
-            Command::Drop { .. }
-            | Command::Load { .. }
-            | Command::Delete { .. }
-            | Command::Show { .. }
-            | Command::Distinct { .. } => return Err(Refused::from(Refusal::Syntax)),
+            // It has no steps yet.
+            Command::Distinct { .. } => return Err(Refused::from(Refusal::Syntax)),
         }
     }
 
