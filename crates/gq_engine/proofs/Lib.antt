@@ -1,8 +1,11 @@
 pub mod Bytes
 pub mod ColumnLemmas
+pub mod FormLemmas
 pub mod GroupLemmas
+pub mod KeyLemmas
 pub mod MapLemmas
 pub mod OrderLemmas
+pub mod OrderingLemmas
 pub mod PlainRuns
 pub mod PlainSteps
 pub mod RepeatedRuns

@@ -1,11 +1,14 @@
 -- A database is a finite map.
-use Rattle.std.proofs.Common.{◌≡◌, ℕ, Bool, true, false, cond, not, ◌||◌, IsTrue, List, [], ◌∷◌, ◌++◌, map, Some, None, refl, sym, ap, ◌∙◌, bytes_eq, get_or, set, zero, suc}
+use Rattle.std.proofs.Common.{◌≡◌, ◌+◌, ◌<◌, ℕ, Bool, true, false, cond, not, ◌||◌, IsTrue, List, [], ◌∷◌, ◌++◌, length, map, Some, None, refl, sym, ap, ◌∙◌, arith, bytes_eq, get_or, set, zero, suc, IsSome}
 use Rattle.std.specs.List.{list_any}
+use Rattle.std.specs.Prelude.{remove}
+use Rattle.std.proofs.lemmas.Bool.{not-true, or_parts, or_from, or_left, or_right}
+use Rattle.std.proofs.lemmas.Cmp.{nat_list_eq_equiv}
 use Rattle.std.proofs.lemmas.Slice.Eq.{bytes_eq-Decides}
 use Rattle.gq_row.specs.Repeats.{no_repeats}
 use Rattle.gq_row.specs.Tables.{PlainTable}
-use Rattle.gq_engine.specs.Databases.{Database, table_at, with_table, names_differ, IsFiniteMap}
 use Rattle.gq_table.proofs.StandingLemmas.{two, both}
+use Rattle.gq_engine.specs.Databases.{Database, table_at, with_table, without_table, names_differ, IsFiniteMap}
 
 itself : (name : List ℕ) → bytes_eq name name ≡ true
 itself name = (bytes_eq-Decides name name).1 refl
@@ -94,5 +97,96 @@ names_set (first ∷ db) (suc i) entry table is = ap (λ l. first.0 ∷ l) (name
 pub differ_set : (db : Database) (i : ℕ) (entry : List ℕ × PlainTable) (table : PlainTable) → entry ≡ get_or db i entry → IsTrue (names_differ db) → IsTrue (names_differ (set db i (entry.0, table)))
 differ_set db i entry table is h = ap (no_repeats bytes_eq) (names_set db i entry table is) ∙ h
 
+-- ---- without a table
+
+gone : (db : Database) (name : List ℕ) → table_at (without_table db name) name ≡ None
+gone [] name = refl
+gone (entry ∷ db) name = here (bytes_eq entry.0 name) refl (gone db name)
+  where
+    here : (b : Bool) → bytes_eq entry.0 name ≡ b → table_at (without_table db name) name ≡ None → table_at (cond (not b) (entry ∷ without_table db name) (without_table db name)) name ≡ None
+    here true e h = h
+    here false e h = ap (λ b. cond b (Some entry.1) (table_at (without_table db name) name)) e ∙ h
+
+stay : (db : Database) (name other : List ℕ) → bytes_eq name other ≡ false → table_at (without_table db name) other ≡ table_at db other
+stay [] name other d = refl
+stay (entry ∷ db) name other d = here (bytes_eq entry.0 name) refl (stay db name other d)
+  where
+    here : (b : Bool) → bytes_eq entry.0 name ≡ b → table_at (without_table db name) other ≡ table_at db other
+        → table_at (cond (not b) (entry ∷ without_table db name) (without_table db name)) other ≡ cond (bytes_eq entry.0 other) (Some entry.1) (table_at db other)
+    here true e h = h ∙ sym (ap (λ b. cond b (Some entry.1) (table_at db other)) (unlike entry.0 name other e d))
+    here false e h = ap (λ t. cond (bytes_eq entry.0 other) (Some entry.1) t) h
+
+-- a name that none has
+pub none_without : (db : Database) (name : List ℕ) → list_any (bytes_eq name) (names db) ≡ false → without_table db name ≡ db
+none_without [] name h = refl
+none_without (entry ∷ db) name h =
+    let parts = or_parts (bytes_eq name entry.0) (list_any (bytes_eq name) (names db)) h in
+    ap (λ b. cond (not b) (entry ∷ without_table db name) (without_table db name)) ((nat_list_eq_equiv).symm entry.0 name ∙ parts.0)
+    ∙ ap (λ l. entry ∷ l) (none_without db name parts.1)
+
+-- the first has the name, and so no other has it
+without_first : (entry : List ℕ × PlainTable) (db : Database) (name : List ℕ) → bytes_eq entry.0 name ≡ true → IsTrue (names_differ (entry ∷ db)) → without_table (entry ∷ db) name ≡ db
+without_first entry db name e h =
+    let differ = two (not (list_any (bytes_eq entry.0) (names db))) (names_differ db) h in
+    let none : list_any (bytes_eq name) (names db) ≡ false = ap (λ n. list_any (bytes_eq n) (names db)) (sym ((bytes_eq-Decides entry.0 name).0 e)) ∙ not-true _ differ.0 in
+    ap (λ b. cond (not b) (entry ∷ without_table db name) (without_table db name)) e ∙ none_without db name none
+
+fewer : (db : Database) (name : List ℕ) → IsTrue (names_differ db) → IsSome (table_at db name) → length (without_table db name) + 1 ≡ length db
+fewer [] name differ found = let none : ⊥ = cc in absurd none
+fewer (entry ∷ db) name differ found =
+    here (bytes_eq entry.0 name) refl differ found (fewer db name (two (not (list_any (bytes_eq entry.0) (names db))) (names_differ db) differ).1)
+  where
+    here : (b : Bool) → bytes_eq entry.0 name ≡ b → IsTrue (names_differ (entry ∷ db)) → IsSome (cond b (Some entry.1) (table_at db name)) → (IsSome (table_at db name) → length (without_table db name) + 1 ≡ length db)
+        → length (without_table (entry ∷ db) name) + 1 ≡ length (entry ∷ db)
+    here true e differ found rest =
+        let whole : length (without_table (entry ∷ db) name) ≡ length db = ap (λ (l : Database). length l) (without_first entry db name e differ) in
+        omega arith
+    here false e differ found rest =
+        let more : length (without_table (entry ∷ db) name) ≡ length (entry ∷ without_table db name) = ap (λ b. length (cond (not b) (entry ∷ without_table db name) (without_table db name))) e in
+        let less = rest found in
+        omega arith
+
+any_without : (db : Database) (name other : List ℕ) → list_any (bytes_eq other) (names db) ≡ false → list_any (bytes_eq other) (names (without_table db name)) ≡ false
+any_without [] name other h = refl
+any_without (entry ∷ db) name other h =
+    let parts = or_parts (bytes_eq other entry.0) (list_any (bytes_eq other) (names db)) h in
+    here (bytes_eq entry.0 name) parts.0 (any_without db name other parts.1)
+  where
+    here : (b : Bool) → bytes_eq other entry.0 ≡ false → list_any (bytes_eq other) (names (without_table db name)) ≡ false
+        → list_any (bytes_eq other) (names (cond (not b) (entry ∷ without_table db name) (without_table db name))) ≡ false
+    here true first rest = rest
+    here false first rest = or_from (bytes_eq other entry.0) (list_any (bytes_eq other) (names (without_table db name))) first rest
+
+pub differ_without : (db : Database) (name : List ℕ) → IsTrue (names_differ db) → IsTrue (names_differ (without_table db name))
+differ_without [] name h = refl
+differ_without (entry ∷ db) name h =
+    let parts = two (not (list_any (bytes_eq entry.0) (names db))) (names_differ db) h in
+    here (bytes_eq entry.0 name) (not-true _ parts.0) (differ_without db name parts.1)
+  where
+    here : (b : Bool) → list_any (bytes_eq entry.0) (names db) ≡ false → names_differ (without_table db name) ≡ true → names_differ (cond (not b) (entry ∷ without_table db name) (without_table db name)) ≡ true
+    here true none rest = rest
+    here false none rest = both (not (list_any (bytes_eq entry.0) (names (without_table db name)))) (names_differ (without_table db name)) (ap not (any_without db name entry.0 none)) rest
+
+-- a name that stands at a place
+at_place : (name : List ℕ) (db : Database) (i : ℕ) (entry : List ℕ × PlainTable) → i < length db → entry ≡ get_or db i entry → bytes_eq name entry.0 ≡ true → list_any (bytes_eq name) (names db) ≡ true
+at_place name [] i entry lt is e = absurd (omega arith)
+at_place name (first ∷ db) zero entry lt is e = or_left (bytes_eq name first.0) (list_any (bytes_eq name) (names db)) (ap (λ (x : List ℕ × PlainTable). bytes_eq name x.0) (sym is) ∙ e)
+at_place name (first ∷ db) (suc i) entry lt is e = or_right (bytes_eq name first.0) (list_any (bytes_eq name) (names db)) (at_place name db i entry (omega arith) is e)
+
+-- without the table at a place
+pub without_at : (db : Database) (name : List ℕ) (i : ℕ) (entry : List ℕ × PlainTable) → i < length db → entry ≡ get_or db i entry → bytes_eq entry.0 name ≡ true → IsTrue (names_differ db)
+    → without_table db name ≡ remove db i
+without_at [] name i entry lt is e differ = absurd (omega arith)
+without_at (first ∷ db) name zero entry lt is e differ = without_first first db name (ap (λ (x : List ℕ × PlainTable). bytes_eq x.0 name) (sym is) ∙ e) differ
+without_at (first ∷ db) name (suc i) entry lt is e differ =
+    let parts = two (not (list_any (bytes_eq first.0) (names db))) (names_differ db) differ in
+    here (bytes_eq first.0 name) refl (not-true _ parts.0) (without_at db name i entry (omega arith) is e parts.1)
+  where
+    here : (b : Bool) → bytes_eq first.0 name ≡ b → list_any (bytes_eq first.0) (names db) ≡ false → without_table db name ≡ remove db i → cond (not b) (first ∷ without_table db name) (without_table db name) ≡ first ∷ remove db i
+    here true h none rest =
+        let there : list_any (bytes_eq first.0) (names db) ≡ true = at_place first.0 db i entry (omega arith) is (ap (λ n. bytes_eq n entry.0) ((bytes_eq-Decides first.0 name).0 h) ∙ (nat_list_eq_equiv).symm name entry.0 ∙ e) in
+        let no : ⊥ = cc (sym there ∙ none) in absurd no
+    here false h none rest = ap (λ l. first ∷ l) rest
+
 pub is_finite_map : IsFiniteMap
-is_finite_map = record { changed = changed; others = others; added = added; kept = kept; differ = differ; still_differ = still_differ }
+is_finite_map = record { changed = changed; others = others; added = added; kept = kept; gone = gone; stay = stay; fewer = fewer; differ = differ; still_differ = still_differ; differ_without = differ_without }

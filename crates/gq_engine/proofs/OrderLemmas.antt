@@ -1,8 +1,8 @@
 -- The order of rows within tables is unseen.
 use Rattle.std.proofs.Common.{◌≡◌, ℕ, zero, set, inl, inr, Bool, true, false, cond, not, IsTrue, List, [], ◌∷◌, ◌++◌, length, map, refl, sym, ap, subst, ◌∙◌, Option, Some, None, IsPermutation, true≢false}
-use Rattle.std.specs.Prelude.{bytes_eq, nat_lt, nat_le, is_some, suc, Result, Ok, Err, ◌⊎◌}
+use Rattle.std.specs.Prelude.{bytes_eq, nat_lt, nat_le, is_some, suc, Result, Ok, Err, ◌⊎◌, if◌then◌else◌}
 use Rattle.std.specs.List.{list_any}
-use Rattle.std.proofs.lemmas.List.Sorted.{IsPermutation-refl, IsPermutation-sym, IsPermutation-trans, length_permutation}
+use Rattle.std.proofs.lemmas.List.Sorted.{IsPermutation-refl, IsPermutation-sym, IsPermutation-trans, length_permutation, list_any-IsPermutation}
 use Rattle.gq_row.specs.declared.value.Value.{Value}
 use Rattle.gq_row.specs.declared.schema.Column.{Column}
 use Rattle.gq_row.specs.declared.limits.Bounds.{Bounds}
@@ -11,29 +11,35 @@ use Rattle.gq_row.specs.Order.{same_key}
 use Rattle.gq_row.specs.Ordered.{in_order}
 use Rattle.gq_row.specs.Repeats.{no_repeats}
 use Rattle.gq_row.specs.Rows.{cell, key_of}
-use Rattle.gq_row.specs.Tables.{PlainTable, keys_differ, put, keys, of_key}
-use Rattle.gq_row.proofs.ArrangeLemmas.{in_order-alone, in_order-permutation, in_order-sorted}
+use Rattle.gq_row.specs.Tables.{PlainTable, keys_differ, put, put_all, delete, has_row, keys, of_key}
+use Rattle.gq_row.proofs.ArrangeLemmas.{in_order-alone, in_order-permutation, in_order-sorted, in_order-same_rows, in_order-same_rows_by_row}
 use Rattle.gq_row.proofs.DistinctLemmas.{no_repeats-without}
-use Rattle.gq_row.proofs.MovedLemmas.{keys-permutation, of_key-permutation, put-same_rows}
+use Rattle.gq_row.proofs.MovedLemmas.{IsPermutation-filter, keys-permutation, of_key-permutation, put-same_rows}
+use Rattle.gq_row.proofs.OrderLemmas.{same_key_equiv, same_key_exact}
 use Rattle.gq_row.proofs.TableLemmas.{keys_differ-put}
+use Rattle.gq_table.proofs.StandingLemmas.{keys_differ-delete}
+use Rattle.gq_command.specs.Commands.{Bytes, column_names, some}
 use Rattle.gq_command.specs.declared.command.Command.{Command}
 use Rattle.gq_command.specs.declared.command.Command.TheVariants.{Create, Drop, Load, Upsert, Delete, Show, Group, Distinct}
+use Rattle.gq_command.specs.declared.command.Payload.{Payload}
+use Rattle.gq_command.specs.declared.command.Payload.TheVariants as payload
 use Rattle.gq_command.specs.declared.reader.Item.{Item}
 use Rattle.gq_command.specs.declared.reader.Item.TheVariants as item
 use Rattle.gq_reply.specs.declared.refusal.Refusal.{Refusal}
-use Rattle.gq_reply.specs.declared.refusal.Refusal.TheVariants.{TypeMismatch, NullKey, Limit, TableExists, NoColumn, NoTable, Syntax, Memory}
+use Rattle.gq_reply.specs.declared.refusal.Refusal.TheVariants.{TypeMismatch, NoKey, NullKey, Limit, TableExists, NoColumn, NoTable, Memory}
 use Rattle.gq_reply.specs.declared.refusal.Refused.{Refused}
 use Rattle.gq_reply.specs.declared.reply.Reply.{Reply}
 use Rattle.gq_reply.specs.declared.reply.Reply.TheVariants as reply
-use Rattle.gq_engine.specs.Answers.{count_row, counted_groups}
-use Rattle.gq_engine.specs.Databases.{Database, table_at, with_table, IsKeyed}
+use Rattle.gq_engine.specs.Answers.{count_row, counted_groups, ordered_by, rows_shown}
+use Rattle.gq_engine.specs.Databases.{Database, table_at, with_table, without_table, IsKeyed}
 use Rattle.gq_row.specs.Fitting.{fits_columns, is_null}
 use Rattle.gq_engine.specs.Outcomes.{◌>>=◌, some_or, true_or}
 use Rattle.gq_reply.specs.Refusals.{unnumbered, told, refused}
-use Rattle.gq_engine.specs.Refusing.{has_null_key, rows_with, put_within}
-use Rattle.gq_engine.specs.Runs.{Setting, LegalAnswer, AsListsAnswer, WantsMemory, StoreFailed, StoreLied, SameTables, ReachesGrouping, IsGrouped, AnsweredAlike}
-use Rattle.gq_engine.specs.Serving.{CarriedOut, Comes}
-use Rattle.gq_engine.specs.Steps.{Outcome, table_in, settle, outcome, step, create, with_row, upsert, group_header, group}
+use Rattle.gq_engine.specs.Loading.{is_lost, bytes_told, rows_told}
+use Rattle.gq_engine.specs.Refusing.{has_null_key, rows_with, put_within, put_all_within, fits_key}
+use Rattle.gq_engine.specs.Runs.{Setting, LegalAnswer, AsListsAnswer, WantsMemory, StoreFailed, StoreLied, SameTables, ReachesGrouping, IsGrouped, AnsweredAlike, AnsweredAsLists}
+use Rattle.gq_engine.specs.Serving.{CarriedOut, Comes, ComesSurely}
+use Rattle.gq_engine.specs.Steps.{Outcome, table_in, settle, outcome, step, create, drop_table, with_row, upsert, with_rows, load_table, delete_row, show_table, group_header, group}
 use Rattle.gq_engine.specs.Orders.{StepsAlike, RunsAlike}
 
 -- ---- tables
@@ -65,6 +71,27 @@ groups_alike by xs ys moved =
       same_rows = IsPermutation-trans _ _ _ (IsPermutation-sym _ _ (keys-permutation by xs ys moved)) (in_order-permutation (λ key. key) (keys by xs));
       ascending = in_order-sorted (λ key. key) (keys by xs);
     })
+
+-- the rows shown of the same rows in another order
+shown_alike : (key : List ℕ) (xs ys : Rows) → IsTrue (keys_differ key xs) → IsPermutation xs ys → in_order (ordered_by key) xs ≡ in_order (ordered_by key) ys
+shown_alike [] xs ys differ moved = sym (in_order-same_rows_by_row xs ys moved)
+shown_alike (column ∷ columns) xs ys differ moved = sym (in_order-same_rows (key_of (column ∷ columns)) xs ys differ moved)
+
+-- rows put into the same rows in another order
+put_all-same_rows : (key : List ℕ) (xs ys new : Rows) → IsTrue (keys_differ key xs) → IsPermutation xs ys → IsPermutation (put_all key xs new) (put_all key ys new)
+put_all-same_rows key xs ys [] differ moved = moved
+put_all-same_rows key xs ys (row ∷ new) differ moved = put_all-same_rows key (put key xs row) (put key ys row) new (keys_differ-put key xs row differ) (put-same_rows key xs ys row differ moved)
+
+keys_differ-put_all : (key : List ℕ) (xs new : Rows) → IsTrue (keys_differ key xs) → IsTrue (keys_differ key (put_all key xs new))
+keys_differ-put_all key xs [] differ = differ
+keys_differ-put_all key xs (row ∷ new) differ = keys_differ-put_all key (put key xs row) new (keys_differ-put key xs row differ)
+
+-- the rows of other keys, and whether there is a row of a key, of the same rows in another order
+delete-same_rows : (key : List ℕ) (xs ys : Rows) (k : List Value) → IsPermutation xs ys → IsPermutation (delete key xs k) (delete key ys k)
+delete-same_rows key xs ys k moved = IsPermutation-filter same_key_equiv same_key_exact (λ row. not (same_key (key_of key row) k)) xs ys moved
+
+has_row-same_rows : (key : List ℕ) (xs ys : Rows) (k : List Value) → IsPermutation xs ys → has_row key xs k ≡ has_row key ys k
+has_row-same_rows key xs ys k moved = list_any-IsPermutation (λ row. same_key (key_of key row) k) xs ys moved
 
 -- two tables that differ only in the order of rows, or no table twice
 pub record AlikeTables (s t : PlainTable) : Type 0 where
@@ -122,6 +149,26 @@ pub added_keyed : (a : Database) (entry : List ℕ × PlainTable) → IsKeyed a 
 added_keyed [] entry k h = (h, tt)
 added_keyed (x ∷ a) entry k h = (k.0, added_keyed a entry k.1 h)
 
+pub without_alike : (a b : Database) (name : List ℕ) → SameTables a b → SameTables (without_table a name) (without_table b name)
+without_alike [] [] name same = tt
+without_alike [] (y ∷ b) name same = absurd same
+without_alike (x ∷ a) [] name same = absurd same
+without_alike (x ∷ a) (y ∷ b) name same =
+    let P : List ℕ → Type 0 = λ n. SameTables (without_table (x ∷ a) name) (cond (not (bytes_eq n name)) (y ∷ without_table b name) (without_table b name)) in
+    subst P same.0 (chosen (bytes_eq x.0 name) (without_alike a b name same.3))
+  where
+    chosen : (c : Bool) → SameTables (without_table a name) (without_table b name) → SameTables (cond (not c) (x ∷ without_table a name) (without_table a name)) (cond (not c) (y ∷ without_table b name) (without_table b name))
+    chosen true rest = rest
+    chosen false rest = (same.0, same.1, same.2, rest)
+
+pub without_keyed : (a : Database) (name : List ℕ) → IsKeyed a → IsKeyed (without_table a name)
+without_keyed [] name k = tt
+without_keyed (x ∷ a) name k = chosen (bytes_eq x.0 name) (without_keyed a name k.1)
+  where
+    chosen : (c : Bool) → IsKeyed (without_table a name) → IsKeyed (cond (not c) (x ∷ without_table a name) (without_table a name))
+    chosen true rest = rest
+    chosen false rest = (k.0, rest)
+
 pub as_many : (a b : Database) → SameTables a b → length a ≡ length b
 as_many [] [] same = refl
 as_many [] (y ∷ b) same = absurd same
@@ -164,6 +211,12 @@ some_alike why None (Some y) e = let none : ⊥ = cc in absurd none
 some_alike why (Some x) None e = let none : ⊥ = cc in absurd none
 some_alike why (Some x) (Some y) e = let it : x ≡ y = cc in it
 
+same_alike : {X : Type 0} (m n : Result X Refused) → m ≡ n → AlikeBy (λ (x y : X). x ≡ y) m n
+same_alike (Ok x) (Ok y) e = let it : x ≡ y = cc in it
+same_alike (Ok x) (Err w) e = let none : ⊥ = cc in absurd none
+same_alike (Err v) (Ok y) e = let none : ⊥ = cc in absurd none
+same_alike (Err v) (Err w) e = let it : v ≡ w = cc in it
+
 found_alike : (o p : Option PlainTable) → Alike o p → AlikeBy AlikeTables (some_or NoTable o) (some_or NoTable p)
 found_alike None None h = refl
 found_alike None (Some t) h = absurd h
@@ -192,6 +245,24 @@ put_alike limits s t row h =
 
     moved : IsPermutation (rows_with s row) (rows_with t row)
     moved = subst (λ (g : Heading). IsPermutation (put s.heading.key s.rows row) (put g.key t.rows row)) h.heading (put-same_rows s.heading.key s.rows t.rows row h.keyed h.rows)
+
+-- rows are put alike
+put_all_alike : (limits : Bounds) (s t : PlainTable) (new : Rows) → AlikeTables s t → AlikeBy (λ xs ys. AlikeTables (record s { rows = xs }) (record t { rows = ys })) (put_all_within limits s new) (put_all_within limits t new)
+put_all_alike limits s t new h =
+    then_alike Always (λ xs ys. AlikeTables (record s { rows = xs }) (record t { rows = ys })) (true_or Limit (nat_le (length (put_all s.heading.key s.rows new)) limits.rows)) (true_or Limit (nat_le (length (put_all t.heading.key t.rows new)) limits.rows)) _ _
+    (test_alike Limit _ _ (ap (λ n. nat_le n limits.rows) (sym (length_permutation _ _ moved))))
+    (λ _ _ _. record { heading = h.heading; rows = moved; keyed = keys_differ-put_all s.heading.key s.rows new h.keyed })
+  where
+    moved : IsPermutation (put_all s.heading.key s.rows new) (put_all t.heading.key t.rows new)
+    moved = subst (λ (g : Heading). IsPermutation (put_all s.heading.key s.rows new) (put_all g.key t.rows new)) h.heading (put_all-same_rows s.heading.key s.rows t.rows new h.keyed h.rows)
+
+-- the row of a key is taken away alike
+delete_alike : (s t : PlainTable) (key : List Value) → AlikeTables s t → AlikeTables (record s { rows = delete s.heading.key s.rows key }) (record t { rows = delete t.heading.key t.rows key })
+delete_alike s t key h = record {
+  heading = h.heading;
+  rows = subst (λ (g : Heading). IsPermutation (delete s.heading.key s.rows key) (delete g.key t.rows key)) h.heading (delete-same_rows s.heading.key s.rows t.rows key h.rows);
+  keyed = keys_differ-delete s.heading.key s.rows key h.keyed;
+}
 
 -- databases that differ only in the order of rows, where no two rows of a table have the same key
 pub record AlikeTablesOf (a b : Database) : Type 0 where
@@ -225,6 +296,11 @@ module _ (limits : Bounds) (a b : Database) (k : IsKeyed a) (same : SameTables a
           let P : List ℕ → Type 0 = λ l. Alikes (a ++ (name, table (record { columns = columns; key = c }) []) ∷ [], reply.Done 0) (b ++ (name, table (record { columns = columns; key = l }) []) ∷ [], reply.Done 0) in
           subst P e (record { reply = refl; same = added_alike a b (name, table (record { columns = columns; key = c }) []) same; keyed = added_keyed a (name, table (record { columns = columns; key = c }) []) k (no_rows_differ c) })
 
+  drop_alike : (name : List ℕ) → AlikeBy Alikes (drop_table a name) (drop_table b name)
+  drop_alike name =
+      then_alike AlikeTables Alikes (table_in a name) (table_in b name) _ _ (table_alike name)
+      (λ s t h. record { reply = refl; same = without_alike a b name same; keyed = without_keyed a name k })
+
   upsert_alike : (name : List ℕ) (row : List Value) → AlikeBy Alikes (upsert limits a name row) (upsert limits b name row)
   upsert_alike name row =
       then_alike AlikeTablesOf Alikes (with_row limits a name row) (with_row limits b name row) _ _
@@ -232,6 +308,61 @@ module _ (limits : Bounds) (a b : Database) (k : IsKeyed a) (same : SameTables a
       (λ s t h. then_alike (λ xs ys. AlikeTables (record s { rows = xs }) (record t { rows = ys })) AlikeTablesOf (put_within limits s row) (put_within limits t row) _ _ (put_alike limits s t row h)
       (λ xs ys m. record { same = changed_alike a b name (record s { rows = xs }) (record t { rows = ys }) same m; keyed = changed_keyed a name (record s { rows = xs }) k m.keyed })))
       (λ x y m. record { reply = refl; same = m.same; keyed = m.keyed })
+
+  rows_alike : (name : List ℕ) (new : Rows) → AlikeBy AlikeTablesOf (with_rows limits a name new) (with_rows limits b name new)
+  rows_alike name new =
+      then_alike AlikeTables AlikeTablesOf (table_in a name) (table_in b name) _ _ (table_alike name)
+      (λ s t h. then_alike (λ xs ys. AlikeTables (record s { rows = xs }) (record t { rows = ys })) AlikeTablesOf (put_all_within limits s new) (put_all_within limits t new) _ _ (put_all_alike limits s t new h)
+      (λ xs ys m. record { same = changed_alike a b name (record s { rows = xs }) (record t { rows = ys }) same m; keyed = changed_keyed a name (record s { rows = xs }) k m.keyed }))
+
+  load_alike : (name : List ℕ) (payload : Payload) → AlikeBy Alikes (load_table limits a name payload) (load_table limits b name payload)
+  load_alike name payload =
+      then_alike Always Alikes (true_or Memory (not (is_lost payload))) (true_or Memory (not (is_lost payload))) _ _ (test_alike Memory _ _ refl)
+      (λ _ _ _. then_alike AlikeTables Alikes (table_in a name) (table_in b name) _ _ (table_alike name)
+      (λ s t h. then_alike (λ (x y : Bytes). x ≡ y) Alikes (bytes_told payload) (bytes_told payload) _ _ (same_alike (bytes_told payload) (bytes_told payload) refl)
+      (λ x y e. then_alike (λ (xs ys : Rows). xs ≡ ys) Alikes (rows_told limits s.heading x) (rows_told limits t.heading y) _ _
+      (same_alike (rows_told limits s.heading x) (rows_told limits t.heading y) (ap (λ (g : Heading). rows_told limits g x) h.heading ∙ ap (rows_told limits t.heading) e))
+      (λ xs ys f. put xs ys f))))
+    where
+      put : (xs ys : Rows) → xs ≡ ys → AlikeBy Alikes (with_rows limits a name xs >>= λ new. Ok (new, reply.Done (length xs))) (with_rows limits b name ys >>= λ new. Ok (new, reply.Done (length ys)))
+      put xs ys e =
+          then_alike AlikeTablesOf Alikes (with_rows limits a name xs) (with_rows limits b name ys) _ _
+          (subst (λ (l : Rows). AlikeBy AlikeTablesOf (with_rows limits a name xs) (with_rows limits b name l)) e (rows_alike name xs))
+          (λ x y m. record { reply = ap (λ (l : Rows). reply.Done (length l)) e; same = m.same; keyed = m.keyed })
+
+  deleted_alike : (name : List ℕ) (key : List Value) → AlikeBy Alikes (delete_row a name key) (delete_row b name key)
+  deleted_alike name key =
+      then_alike AlikeTables Alikes (table_in a name) (table_in b name) _ _ (table_alike name)
+      (λ s t h. then_alike Always Alikes (true_or NoKey (some s.heading.key)) (true_or NoKey (some t.heading.key)) _ _
+      (test_alike NoKey _ _ (ap (λ (g : Heading). some g.key) h.heading))
+      (λ _ _ _. then_alike Always Alikes (true_or TypeMismatch (fits_key s.heading.columns s.heading.key key)) (true_or TypeMismatch (fits_key t.heading.columns t.heading.key key)) _ _
+      (test_alike TypeMismatch _ _ (ap (λ (g : Heading). fits_key g.columns g.key key) h.heading))
+      (λ _ _ _. then_alike Always Alikes (true_or NullKey (not (list_any is_null key))) (true_or NullKey (not (list_any is_null key))) _ _ (test_alike NullKey _ _ refl)
+      (λ _ _ _. deleted s t h))))
+    where
+      count : PlainTable → Reply
+      count s = reply.Done (if has_row s.heading.key s.rows key then 1 else 0)
+
+      deleted : (s t : PlainTable) → AlikeTables s t
+          → Alikes (with_table a name (record s { rows = delete s.heading.key s.rows key }), count s) (with_table b name (record t { rows = delete t.heading.key t.rows key }), count t)
+      deleted s t h =
+          let m = delete_alike s t key h in
+          record {
+            reply = ap (λ (b : Bool). reply.Done (if b then 1 else 0))
+                (has_row-same_rows s.heading.key s.rows t.rows key h.rows ∙ ap (λ (g : Heading). has_row g.key t.rows key) h.heading);
+            same = changed_alike a b name (record s { rows = delete s.heading.key s.rows key }) (record t { rows = delete t.heading.key t.rows key }) same m;
+            keyed = changed_keyed a name (record s { rows = delete s.heading.key s.rows key }) k m.keyed;
+          }
+
+  show_alike : (name : List ℕ) → AlikeBy Alikes (show_table a name) (show_table b name)
+  show_alike name =
+      then_alike AlikeTables Alikes (table_in a name) (table_in b name) _ _ (table_alike name)
+      (λ s t h. record {
+        reply = ap (λ (g : Heading). reply.Rows (column_names g.columns) (rows_shown s)) h.heading
+            ∙ ap (reply.Rows (column_names t.heading.columns)) (shown_alike s.heading.key s.rows t.rows h.keyed h.rows ∙ ap (λ (g : Heading). in_order (ordered_by g.key) t.rows) h.heading);
+        same = same;
+        keyed = k;
+      })
 
   group_alike : (name : List ℕ) (by : List (List ℕ)) → AlikeBy Alikes (group a name by) (group b name by)
   group_alike name by =
@@ -242,11 +373,11 @@ module _ (limits : Bounds) (a b : Database) (k : IsKeyed a) (same : SameTables a
 
   command_alike : (c : Command) → AlikeBy Alikes (outcome limits a c) (outcome limits b c)
   command_alike (Create name columns key) = create_alike name columns key
-  command_alike (Drop name) = refl
-  command_alike (Load name payload) = refl
+  command_alike (Drop name) = drop_alike name
+  command_alike (Load name payload) = load_alike name payload
   command_alike (Upsert name values) = upsert_alike name values
-  command_alike (Delete name values) = refl
-  command_alike (Show name) = refl
+  command_alike (Delete name values) = deleted_alike name values
+  command_alike (Show name) = show_alike name
   command_alike (Group name by shown tests exists having) = group_alike name by
   command_alike (Distinct name on tests) = refl
 
@@ -338,6 +469,30 @@ answered_refused setting old c why new h = from h.1
     from : (why ≡ unnumbered Memory) ⊎ (outcome setting.limits old c ≡ Err why) → AnsweredAlike setting old (item.Command c) (told why) new
     from (inl e) = subst (λ (w : Refused). AnsweredAlike setting old (item.Command c) (told w) new) (sym e) (answered_memory setting old (item.Command c) new h.0)
     from (inr e) = record { last = old; legal = AsListsAnswer (ap (settle old) (sym e)); same = h.0 }
+
+-- what came of a command that takes no memory
+pub answered_surely : (limits : Bounds) (old : Database) (c : Command) (answer : Reply) (new : Database) → ComesSurely (outcome limits old c) (Ok answer) old new → AnsweredAsLists limits old (item.Command c) answer new
+answered_surely limits old c answer new h = record {
+  reply = sym (ap (λ (p : Outcome). (settle old p).1) h.done);
+  same = subst (λ (p : Outcome). SameTables (settle old p).0 new) (sym h.done) h.same;
+}
+
+pub refused_surely : (limits : Bounds) (old : Database) (c : Command) (why : Refused) (new : Database) → ComesSurely (outcome limits old c) (Err why) old new → AnsweredAsLists limits old (item.Command c) (told why) new
+refused_surely limits old c why new h = record {
+  reply = sym (ap (λ (p : Outcome). (settle old p).1) h.1);
+  same = subst (λ (p : Outcome). SameTables (settle old p).0 new) (sym h.1) h.0;
+}
+
+pub comes_surely : (steps : Outcome) (r : Result Reply Refused) (old new : Database) → ComesSurely steps r old new → Comes steps r old new
+comes_surely steps (Ok answer) old new h = h
+comes_surely steps (Err why) old new h = (h.0, inr h.1)
+
+-- a load whose payload found no memory is answered so, and leaves the tables
+pub answer_lost : (setting : Setting) (old new : Database) (name : List ℕ) (answer : Reply) → LegalAnswer setting old (item.Command (Load name payload.NoMemory)) answer new → (new ≡ old) × (answer ≡ refused Memory)
+answer_lost setting old new name answer (AsListsAnswer said) = (ap (λ (p : Database × Reply). p.0) said, ap (λ (p : Database × Reply). p.1) said)
+answer_lost setting old new name answer (WantsMemory kept memory) = (kept, memory)
+answer_lost setting old new name answer (StoreFailed kept grouping fault) = absurd (true≢false (sym grouping.0))
+answer_lost setting old new name answer (StoreLied kept grouping lied) = absurd (true≢false (sym grouping.0))
 
 pub answered_exactly : (setting : Setting) (old : Database) (it : Item) (answer : Reply) (new : Database) → LegalAnswer setting old it answer new → AnsweredAlike setting old it answer new
 answered_exactly setting old it answer new h = record { last = new; legal = h; same = same_tables new }

@@ -1,24 +1,32 @@
 -- The steps of a command tell no failure of the run store.
-use Rattle.std.proofs.Common.{◌≡◌, ℕ, Bool, true, false, not, List, [], ◌∷◌, length, refl, sym, ap, subst, ◌∙◌, Option, Some, None}
+use Rattle.std.proofs.Common.{◌≡◌, ℕ, Bool, true, false, not, List, length, refl, subst, Option, Some, None}
 use Rattle.std.specs.Prelude.{nat_lt, nat_le, is_some, Result, Ok, Err}
 use Rattle.gq_row.specs.declared.value.Value.{Value}
 use Rattle.gq_row.specs.declared.schema.Column.{Column}
 use Rattle.gq_row.specs.declared.limits.Bounds.{Bounds}
 use Rattle.gq_row.specs.Headings.{positions_of}
-use Rattle.gq_row.specs.Tables.{PlainTable}
+use Rattle.gq_row.specs.Tables.{PlainTable, put_all}
+use Rattle.gq_load.specs.Payloads.{load}
+use Rattle.gq_load.specs.declared.load_refusal.LoadRefusal.{LoadRefusal}
+use Rattle.gq_load.specs.declared.load_refusal.LoadRefusal.TheVariants as fault
+use Rattle.gq_command.specs.Commands.{some}
+use Rattle.gq_command.specs.declared.command.Payload.{Payload}
+use Rattle.gq_command.specs.declared.command.Payload.TheVariants as payload
 use Rattle.gq_command.specs.declared.command.Command.{Command}
 use Rattle.gq_command.specs.declared.command.Command.TheVariants.{Create, Drop, Load, Upsert, Delete, Show, Group, Distinct}
 use Rattle.gq_reply.specs.declared.refusal.Refusal.{Refusal}
-use Rattle.gq_reply.specs.declared.refusal.Refusal.TheVariants.{TypeMismatch, NullKey, Limit, TableExists, NoColumn, NoTable}
+use Rattle.gq_reply.specs.declared.refusal.Refusal.TheVariants.{TypeMismatch, NoKey, NullKey, Limit, TableExists, NoColumn, NoTable, Memory}
 use Rattle.gq_reply.specs.declared.refusal.Refused.{Refused}
 use Rattle.gq_reply.specs.declared.reply.Reply.{Reply}
 use Rattle.gq_engine.specs.Databases.{Database, table_at}
-use Rattle.gq_row.specs.Fitting.{fits_columns}
+use Rattle.std.specs.List.{list_any}
+use Rattle.gq_row.specs.Fitting.{fits_columns, is_null}
 use Rattle.gq_engine.specs.Outcomes.{◌>>=◌, some_or, true_or}
 use Rattle.gq_reply.specs.Refusals.{told, unnumbered}
-use Rattle.gq_engine.specs.Refusing.{has_null_key, rows_with, put_within}
+use Rattle.gq_engine.specs.Refusing.{has_null_key, rows_with, put_within, put_all_within, fits_key}
+use Rattle.gq_engine.specs.Loading.{is_lost, bytes_told, fault_refusal, refused_by, rows_told}
 use Rattle.gq_engine.specs.Runs.{is_store_fault}
-use Rattle.gq_engine.specs.Steps.{Outcome, table_in, settle, outcome, create, with_row, upsert, group}
+use Rattle.gq_engine.specs.Steps.{table_in, outcome, create, drop_table, with_row, upsert, with_rows, load_table, delete_row, show_table, group}
 
 -- steps whose refusal is no failure of the run store
 abbrev Refuses : {X : Type 0} → (X → Bool) → Result X Refused → Type 0
@@ -49,6 +57,25 @@ put_refuses limits table row =
     (λ _. then_refuses never never (true_or NullKey (not (has_null_key table row))) _ (test_refuses NullKey _ refl)
     (λ _. then_refuses never never (true_or Limit (nat_le (length (rows_with table row)) limits.rows)) _ (test_refuses Limit _ refl) (λ _. refl)))
 
+payload_refuses : (payload : Payload) → Refuses never (bytes_told payload)
+payload_refuses (payload.Bytes bytes) = refl
+payload_refuses payload.Open = refl
+payload_refuses payload.TooLong = refl
+payload_refuses payload.NoMemory = refl
+
+fault_refuses : (why : LoadRefusal) → is_store_fault (told (fault_refusal why)) ≡ false
+fault_refuses (fault.NullKey number) = refl
+fault_refuses fault.Header = refl
+fault_refuses (fault.FieldCount number) = refl
+fault_refuses (fault.BadInt number) = refl
+fault_refuses (fault.BadText number) = refl
+fault_refuses fault.Limit = refl
+fault_refuses fault.Memory = refl
+
+rows_refuse : (read : Result (List (List Value)) LoadRefusal) → Refuses never (refused_by read)
+rows_refuse (Ok rows) = refl
+rows_refuse (Err why) = fault_refuses why
+
 module _ (limits : Bounds) (db : Database) where
   create_refuses : (name : List ℕ) (columns : List Column) (key : List (List ℕ)) → Refuses faulty (create limits db name columns key)
   create_refuses name columns key =
@@ -63,6 +90,31 @@ module _ (limits : Bounds) (db : Database) where
       (λ table. then_refuses never never (put_within limits table row) _ (put_refuses limits table row) (λ _. refl)))
       (λ _. refl)
 
+  drop_refuses : (name : List ℕ) → Refuses faulty (drop_table db name)
+  drop_refuses name = then_refuses never faulty (table_in db name) _ (some_refuses NoTable _ refl) (λ _. refl)
+
+  load_refuses : (name : List ℕ) (payload : Payload) → Refuses faulty (load_table limits db name payload)
+  load_refuses name payload =
+      then_refuses never faulty (true_or Memory (not (is_lost payload))) _ (test_refuses Memory _ refl)
+      (λ _. then_refuses never faulty (table_in db name) _ (some_refuses NoTable _ refl)
+      (λ table. then_refuses never faulty (bytes_told payload) _ (payload_refuses payload)
+      (λ bytes. then_refuses never faulty (rows_told limits table.heading bytes) _ (rows_refuse (load table.heading limits bytes))
+      (λ rows. then_refuses never faulty (with_rows limits db name rows) _
+      (then_refuses never never (table_in db name) _ (some_refuses NoTable _ refl)
+      (λ there. then_refuses never never (put_all_within limits there rows) _
+      (then_refuses never never (true_or Limit (nat_le (length (put_all there.heading.key there.rows rows)) limits.rows)) _ (test_refuses Limit _ refl) (λ _. refl)) (λ _. refl)))
+      (λ _. refl)))))
+
+  delete_refuses : (name : List ℕ) (key : List Value) → Refuses faulty (delete_row db name key)
+  delete_refuses name key =
+      then_refuses never faulty (table_in db name) _ (some_refuses NoTable _ refl)
+      (λ table. then_refuses never faulty (true_or NoKey (some table.heading.key)) _ (test_refuses NoKey _ refl)
+      (λ _. then_refuses never faulty (true_or TypeMismatch (fits_key table.heading.columns table.heading.key key)) _ (test_refuses TypeMismatch _ refl)
+      (λ _. then_refuses never faulty (true_or NullKey (not (list_any is_null key))) _ (test_refuses NullKey _ refl) (λ _. refl))))
+
+  show_refuses : (name : List ℕ) → Refuses faulty (show_table db name)
+  show_refuses name = then_refuses never faulty (table_in db name) _ (some_refuses NoTable _ refl) (λ _. refl)
+
   group_refuses : (name : List ℕ) (by : List (List ℕ)) → Refuses faulty (group db name by)
   group_refuses name by =
       then_refuses never faulty (table_in db name) _ (some_refuses NoTable _ refl)
@@ -70,11 +122,11 @@ module _ (limits : Bounds) (db : Database) where
 
   command_refuses : (c : Command) → Refuses faulty (outcome limits db c)
   command_refuses (Create name columns key) = create_refuses name columns key
-  command_refuses (Drop name) = refl
-  command_refuses (Load name payload) = refl
+  command_refuses (Drop name) = drop_refuses name
+  command_refuses (Load name payload) = load_refuses name payload
   command_refuses (Upsert name values) = upsert_refuses name values
-  command_refuses (Delete name values) = refl
-  command_refuses (Show name) = refl
+  command_refuses (Delete name values) = delete_refuses name values
+  command_refuses (Show name) = show_refuses name
   command_refuses (Group name by shown tests exists having) = group_refuses name by
   command_refuses (Distinct name on tests) = refl
 

@@ -5,9 +5,6 @@ use Rattle.std.specs.Io.KnownBytes.{Appends}
 use Rattle.std.proofs.lemmas.List.{append-nil}
 use Rattle.std.proofs.lemmas.List.Sums.{fold-append, sum_by-cons}
 use Rattle.gq_row.specs.declared.limits.Bounds.{Bounds}
-use Rattle.gq_command.specs.declared.command.Command.TheVariants.{Load}
-use Rattle.gq_command.specs.declared.command.Payload.{Payload}
-use Rattle.gq_command.specs.declared.command.Payload.TheVariants as payload
 use Rattle.gq_command.specs.declared.reader.Item.{Item}
 use Rattle.gq_command.specs.declared.reader.Item.TheVariants as item
 use Rattle.gq_command.specs.declared.lines.LineRefusal.TheVariants as line
@@ -24,7 +21,7 @@ use Rattle.gq_engine.specs.Runs.{Setting, LegalAnswer, AsListsAnswer, WantsMemor
 use Rattle.gq_engine.specs.Headline.{State, Answered, Ran}
 use Rattle.gq_engine.specs.Serving.{Wrote, WroteFront}
 use Rattle.gq_reply.proofs.Texts.{flat_map-push}
-use Rattle.gq_engine.proofs.OrderLemmas.{same_tables, answered_from, keyed_after}
+use Rattle.gq_engine.proofs.OrderLemmas.{same_tables, answer_lost, answered_from, keyed_after}
 use Rattle.gq_engine.proofs.Bytes.{appends_more, appends_nothing}
 
 -- a run so far: the entries that were answered, and the bytes that are left
@@ -62,13 +59,6 @@ no_store setting between reply new (WantsMemory kept memory) = (kept, memory)
 no_store setting between reply new (StoreFailed kept grouping fault) = absurd grouping
 no_store setting between reply new (StoreLied kept grouping lied) = absurd grouping
 
--- a load is answered alike whatever its payload is
-any_payload : (setting : Setting) (between : Database) (table : Bytes) (p q : Payload) (reply : Reply) (new : Database) → LegalAnswer setting between (item.Command (Load table p)) reply new → LegalAnswer setting between (item.Command (Load table q)) reply new
-any_payload setting between table p q reply new (AsListsAnswer said) = AsListsAnswer said
-any_payload setting between table p q reply new (WantsMemory kept memory) = WantsMemory kept memory
-any_payload setting between table p q reply new (StoreFailed kept grouping fault) = let none : false ≡ true = grouping.0 in absurd cc
-any_payload setting between table p q reply new (StoreLied kept grouping lied) = let none : false ≡ true = grouping.0 in absurd cc
-
 -- an answer to what was read of an entry is a step of the entry
 step_of : (setting : Setting) (between : Database) (entry : Entry) (it : Item) (reply : Reply) (new : Database) → IsReadAs setting.limits entry it → LegalAnswer setting between it reply new → LegalStep setting between entry reply new
 step_of setting between entry it reply new r h =
@@ -76,7 +66,7 @@ step_of setting between entry it reply new r h =
     elim r as (λ _. LegalStep setting between entry reply new) [
       | inl p ↦ inl (it, p, h)
       | inr (inl e) ↦ inr (no_store setting between reply new (subst P e h))
-      | inr (inr lost) ↦ inl (item.Command (Load lost.table lost.carried), lost.reads, any_payload setting between lost.table payload.NoMemory lost.carried reply new (subst P lost.is h))
+      | inr (inr lost) ↦ inr (answer_lost setting between new lost.table reply (subst P lost.is h))
     ]
 
 pub begin : (setting : Setting) (old : State) (script : Option Bytes) (reader : Pending) (before : Option Bytes) → IsKeyed old.database → IfSome script (λ bytes. reader.left ≡ Some (without_mark bytes)) → IfSome script (λ bytes. reader.given + length (without_mark bytes) ≡ length bytes)

@@ -11,6 +11,7 @@ stands_at db name i old lt is same there after = record {
   within = lt;
   entry = old;
   here = is;
+  named = same;
   table = there ∙ ap (λ l. table_at l name) (drop_more db i old lt)
       ∙ ap (λ (x : List ℕ × PlainTable). cond (bytes_eq x.0 name) (Some x.1) (table_at (drop (i + 1) db) name)) (sym is)
       ∙ ap (λ b. cond b (Some old.1) (table_at (drop (i + 1) db) name)) same;

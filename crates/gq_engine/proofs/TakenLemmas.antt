@@ -1,27 +1,32 @@
 -- A table that took a row, or left it, in its database.
-use Rattle.std.proofs.Common.{◌≡◌, ◌⊎◌, inl, inr, ℕ, zero, suc, Bool, true, false, cond, not, List, [], ◌∷◌, length, get_or, set, refl, sym, ap, subst, ◌∙◌, Option, Some, None, IsPermutation}
-use Rattle.std.specs.Prelude.{nat_lt, nat_le, Result, Ok, Err}
+use Rattle.std.proofs.Common.{◌≡◌, ◌⊎◌, inl, inr, ℕ, zero, suc, Bool, true, false, cond, not, IsTrue, List, [], ◌∷◌, length, get_or, set, refl, sym, ap, subst, ◌∙◌, Option, Some, None, IsPermutation}
+use Rattle.std.specs.Prelude.{nat_lt, nat_le, Result, Ok, Err, remove}
+use Rattle.std.specs.List.{list_any}
 use Rattle.std.proofs.lemmas.Bool.{ltb-true, ltb-false, lt-leb, le-leb}
 use Rattle.std.proofs.lemmas.List.{get_or_default, set-get_or}
 use Rattle.std.proofs.lemmas.List.Sorted.{IsPermutation-refl}
 use Rattle.gq_row.specs.declared.value.Value.{Value}
 use Rattle.gq_row.specs.declared.limits.Bounds.{Bounds}
-use Rattle.gq_row.specs.Fitting.{fits_columns, has_null}
-use Rattle.gq_row.specs.Tables.{PlainTable}
-use Rattle.gq_reply.specs.declared.refusal.Refusal.TheVariants.{TypeMismatch, NullKey, Limit, Memory, NoTable}
+use Rattle.gq_row.specs.Fitting.{fits_columns, has_null, is_null}
+use Rattle.gq_row.specs.Tables.{PlainTable, put_all, delete, has_row}
+use Rattle.gq_command.specs.Commands.{some}
+use Rattle.gq_reply.specs.declared.refusal.Refusal.TheVariants.{TypeMismatch, NoKey, NullKey, Limit, Memory, NoTable}
 use Rattle.gq_reply.specs.declared.refusal.Refused.{Refused}
+use Rattle.gq_reply.specs.declared.reply.Reply.TheVariants as reply
 use Rattle.gq_reply.specs.Refusals.{unnumbered}
 use Rattle.gq_table.specs.declared.refusal.TableRefusal.{TableRefusal}
 use Rattle.gq_table.specs.declared.refusal.TableRefusal.TheVariants as untaken
-use Rattle.gq_table.specs.Changes.{IsPut}
-use Rattle.gq_table.specs.Refusing.{row_refusal, WhyNotPut}
-use Rattle.gq_engine.specs.Databases.{Database, table_at, with_table, StandsAt}
+use Rattle.gq_table.specs.Changes.{IsPut, IsLoaded}
+use Rattle.gq_table.specs.Refusing.{row_refusal, load_refusal, WhyNotPut, WhyNotLoaded}
+use Rattle.gq_engine.specs.Databases.{Database, IsKeyed, names_differ, table_at, with_table, without_table, StandsAt}
 use Rattle.gq_engine.specs.Outcomes.{◌>>=◌, true_or}
-use Rattle.gq_engine.specs.Refusing.{rows_with, put_within, table_refusal}
+use Rattle.gq_engine.specs.Refusing.{rows_with, put_within, put_all_within, fits_key, key_within, table_refusal}
 use Rattle.gq_engine.specs.Runs.{SameTables}
-use Rattle.gq_engine.specs.Serving.{Changes, Takes, HasRows}
-use Rattle.gq_engine.specs.Steps.{table_in}
-use Rattle.gq_engine.proofs.OrderLemmas.{same_tables}
+use Rattle.gq_engine.specs.Serving.{Changes, Settles, Takes, HasRows, Deletes, deleted}
+use Rattle.gq_engine.specs.Steps.{Outcome, table_in, delete_row, drop_table}
+use Rattle.gq_engine.proofs.FormLemmas.{dropped_at, drop_takes}
+use Rattle.gq_engine.proofs.MapLemmas.{differ_without}
+use Rattle.gq_engine.proofs.OrderLemmas.{same_tables, without_keyed}
 use Rattle.gq_engine.proofs.StepLemmas.{finds}
 
 abbrev Rows : Type 0
@@ -95,3 +100,77 @@ took steps db name i at (Err why) new s is h =
         let same : at ≡ s.entry = is ∙ get_or_default db i at s.entry s.within ∙ sym s.here in
         let found : table_at db name ≡ Some at.1 = s.table ∙ ap (λ (e : List ℕ × PlainTable). Some e.1) (sym same) in
         inr (finds NoTable (table_at db name) at.1 _ found ∙ ap (λ r. r >>= λ rows. Ok (with_table db name (record at.1 { rows = rows }))) e)
+
+-- rows that a table took, or left
+load-agrees : (bounds : Bounds) (table : PlainTable) (rows : Rows) → Agrees (put_all_within bounds table rows) (put_all table.heading.key table.rows rows) (load_refusal bounds table rows)
+load-agrees bounds table rows = chosen (nat_lt bounds.rows (length all)) (nat_le (length all) bounds.rows) (few-many (length all) bounds.rows)
+  where
+    all : Rows
+    all = put_all table.heading.key table.rows rows
+
+    chosen : (many few : Bool) → few ≡ not many → Agrees (true_or Limit few >>= λ _. Ok all) all (cond many (Some untaken.Limit) None)
+    chosen true few e = ap (λ b. true_or Limit b >>= λ _. Ok all) e
+    chosen false few e = ap (λ b. true_or Limit b >>= λ _. Ok all) e
+
+pub load-taken : (bounds : Bounds) (old new : PlainTable) (rows : Rows) → IsLoaded old rows new → load_refusal bounds old rows ≡ None → HasRows (put_all_within bounds old rows) old new
+load-taken bounds old new rows h none = record {
+  given = put_all old.heading.key old.rows rows;
+  done = subst (Agrees (put_all_within bounds old rows) (put_all old.heading.key old.rows rows)) none (load-agrees bounds old rows);
+  heading = h.heading;
+  same = h.rows;
+}
+
+pub load-refused : (bounds : Bounds) (old : PlainTable) (rows : Rows) (why : TableRefusal) → WhyNotLoaded bounds old rows why
+    → (unnumbered (table_refusal why) ≡ unnumbered Memory) ⊎ (put_all_within bounds old rows ≡ Err (unnumbered (table_refusal why)))
+load-refused bounds old rows why (inl e) = inr (subst (Agrees (put_all_within bounds old rows) (put_all old.heading.key old.rows rows)) e (load-agrees bounds old rows))
+load-refused bounds old rows why (inr e) = inl (ap (λ w. unnumbered (table_refusal w)) e)
+
+-- the steps of a delete are those that test the key, and then the delete
+tested : {X : Type 0} (a b c : Bool) (done : Result X Refused)
+    → (true_or NoKey a >>= λ _. true_or TypeMismatch b >>= λ _. true_or NullKey c >>= λ _. done) ≡ ((true_or NoKey a >>= λ _. true_or TypeMismatch b >>= λ _. true_or NullKey c) >>= λ _. done)
+tested false b c done = refl
+tested true false c done = refl
+tested true true false done = refl
+tested true true true done = refl
+
+-- the table that a delete leaves, and the answer
+abbrev delete_from : Database → List ℕ → List Value → PlainTable → Outcome
+delete_from db name key table =
+    Ok (with_table db name (record table { rows = delete table.heading.key table.rows key }), reply.Done (cond (has_row table.heading.key table.rows key) 1 0))
+
+delete-tests : (db : Database) (name : List ℕ) (key : List Value) (table : PlainTable) → table_at db name ≡ Some table → delete_row db name key ≡ (key_within table.heading key >>= λ _. delete_from db name key table)
+delete-tests db name key table found =
+    finds NoTable (table_at db name) table _ found
+    ∙ tested (some table.heading.key) (fits_key table.heading.columns table.heading.key key) (not (list_any is_null key)) (delete_from db name key table)
+
+-- the table of a name without the row of a key, or as it was
+pub took_out : (db : Database) (name : List ℕ) (i : ℕ) (at : List ℕ × PlainTable) (key : List Value) (result : Result Bool Refused) (new : PlainTable)
+    → StandsAt db name i → at ≡ get_or db i at → Deletes key result at.1 new → Settles deleted (delete_row db name key) result db (set db i (at.0, new))
+took_out db name i at key (Ok found) new s is h =
+    let same : at ≡ s.entry = is ∙ get_or_default db i at s.entry s.within ∙ sym s.here in
+    let there : table_at db name ≡ Some at.1 = s.table ∙ ap (λ (e : List ℕ × PlainTable). Some e.1) (sym same) in
+    let table : PlainTable = record at.1 { rows = delete at.1.heading.key at.1.rows key } in (
+      with_table db name table,
+      delete-tests db name key at.1 there ∙ ap (λ r. r >>= λ _. delete_from db name key at.1) h.0 ∙ ap (λ b. Ok (with_table db name table, deleted b)) (sym h.2),
+      subst (λ (d : Database). SameTables d (set db i (at.0, new))) (sym (s.changed table ∙ ap (λ (e : List ℕ × PlainTable). set db i (e.0, table)) (sym same)))
+          (same_at db i at.0 table new (sym h.1.heading) h.1.rows),
+    )
+took_out db name i at key (Err why) new s is h =
+    let same : at ≡ s.entry = is ∙ get_or_default db i at s.entry s.within ∙ sym s.here in
+    let there : table_at db name ≡ Some at.1 = s.table ∙ ap (λ (e : List ℕ × PlainTable). Some e.1) (sym same) in
+    let kept : set db i (at.0, new) ≡ db = ap (λ (t : PlainTable). set db i (at.0, t)) h.0 ∙ (ap (set db i) is ∙ set-get_or db i at) in
+    (subst (SameTables db) (sym kept) (same_tables db), delete-tests db name key at.1 there ∙ ap (λ r. r >>= λ _. delete_from db name key at.1) h.1)
+
+-- without the table at a place the names still differ, and so do keys
+pub removed_stands : (db : Database) (name : List ℕ) (i : ℕ) (new : Database) → StandsAt db name i → IsTrue (names_differ db) × IsKeyed db → new ≡ remove db i → IsTrue (names_differ new) × IsKeyed new
+removed_stands db name i new s h e =
+    let P : Database → Type 0 = λ d. IsTrue (names_differ d) × IsKeyed d in
+    subst P (sym (e ∙ sym (dropped_at db name i s h.0))) (differ_without db name h.0, without_keyed db name h.1)
+
+-- and the table is dropped
+pub removed : (db : Database) (name : List ℕ) (i : ℕ) (new : Database) → StandsAt db name i → IsTrue (names_differ db) × IsKeyed db → new ≡ remove db i → Settles {X = Unit {0}} (λ _. reply.Done 0) (drop_table db name) (Ok tt) db new
+removed db name i new s h e = (
+  without_table db name,
+  drop_takes db name s.entry.1 s.table,
+  subst (SameTables (without_table db name)) (dropped_at db name i s h.0 ∙ sym e) (same_tables (without_table db name)),
+)

@@ -1,17 +1,23 @@
 -- Worked examples, computed by the definitions.
-use Rattle.std.proofs.Common.{◌≡◌, ℕ, List, [], ◌∷◌, pos, None, refl, codes}
+use Rattle.std.proofs.Common.{◌≡◌, ℕ, List, [], ◌∷◌, pos, negsuc, Some, None, Ok, Err, refl, codes}
 use Rattle.gq_row.specs.declared.value.Value.{Value}
 use Rattle.gq_row.specs.declared.value.Value.TheVariants.{Null, Int, Text}
 use Rattle.gq_row.specs.declared.schema.Column.{Column}
 use Rattle.gq_row.specs.declared.schema.Kind.TheVariants as kind
 use Rattle.gq_row.specs.declared.limits.Bounds.{Bounds}
+use Rattle.gq_row.specs.Headings.{Heading}
 use Rattle.gq_row.specs.Limits.{GREATEST}
+use Rattle.gq_load.specs.declared.load_refusal.LoadRefusal.TheVariants as fault
+use Rattle.gq_load.specs.Payloads.{load}
+use Rattle.gq_command.specs.Commands.{Bytes}
 use Rattle.gq_command.specs.declared.command.Command.{Command}
-use Rattle.gq_command.specs.declared.command.Command.TheVariants.{Create, Upsert, Group}
+use Rattle.gq_command.specs.declared.command.Command.TheVariants.{Create, Drop, Load, Upsert, Delete, Show, Group}
+use Rattle.gq_command.specs.declared.command.Payload.{Payload}
+use Rattle.gq_command.specs.declared.command.Payload.TheVariants as payload
 use Rattle.gq_command.specs.declared.command.Aggregate.TheVariants.{CountAll}
 use Rattle.gq_command.specs.declared.reader.Item.TheVariants as item
 use Rattle.gq_command.specs.declared.lines.LineRefusal.TheVariants as line
-use Rattle.gq_reply.specs.declared.refusal.Refusal.TheVariants.{LineTooLong, NoTable, TableExists, NoColumn, TypeMismatch, NullKey, Limit}
+use Rattle.gq_reply.specs.declared.refusal.Refusal.TheVariants.{LineTooLong, NoTable, TableExists, NoColumn, TypeMismatch, NoKey, NullKey, Header, FieldCount, BadInt, BadText, Limit, Memory, LoadOpen}
 use Rattle.gq_reply.specs.declared.reply.Reply.{Reply}
 use Rattle.gq_reply.specs.declared.reply.Reply.TheVariants as reply
 use Rattle.gq_engine.specs.Databases.{Database}
@@ -133,3 +139,164 @@ equal_rows = refl
 -- a line that is refused leaves the database
 refused_line : step GREATEST two_cities (item.Refused line.LineTooLong) ≡ (two_cities, refused LineTooLong)
 refused_line = refl
+
+-- drop
+
+abbrev drop_s : Command
+drop_s = Drop (codes "s")
+
+abbrev show_s : Command
+show_s = Show (codes "s")
+
+dropped : answer GREATEST two_cities drop_s ≡ reply.Done 0
+dropped = refl
+
+dropped_is_gone : answer GREATEST (after GREATEST two_cities drop_s) show_s ≡ refused NoTable
+dropped_is_gone = refl
+
+nothing_to_drop : step GREATEST two_cities (item.Command (Drop (codes "zz"))) ≡ (two_cities, refused NoTable)
+nothing_to_drop = refl
+
+room_for_another : answer one_each (after one_each (after one_each [] create_s) drop_s) create_s ≡ reply.Done 0
+room_for_another = refl
+
+-- show: rows in the order of the key, whatever their order was, and without a key in that of whole rows
+
+no_rows : answer GREATEST empty_s show_s ≡ reply.Rows (codes "id" ∷ codes "city" ∷ []) []
+no_rows = refl
+
+-- create v (n int, x int, key (n))
+abbrev upsert_v : Value → Value → Command
+upsert_v n x = Upsert (codes "v") (n ∷ x ∷ [])
+
+abbrev three_numbers : Database
+three_numbers =
+    after GREATEST (after GREATEST (after GREATEST (after GREATEST [] (Create (codes "v") (number (codes "n") ∷ number (codes "x") ∷ []) (codes "n" ∷ [])))
+    (upsert_v (Int (pos 3)) (Int (negsuc 0)))) (upsert_v (Int (pos 2)) (Int (pos 1)))) (upsert_v (Int (pos 1)) (Int (pos 9223372036854775807)))
+
+abbrev delete_v : List Value → Command
+delete_v key = Delete (codes "v") key
+
+by_key : answer GREATEST three_numbers (Show (codes "v"))
+    ≡ reply.Rows (codes "n" ∷ codes "x" ∷ []) ((Int (pos 1) ∷ Int (pos 9223372036854775807) ∷ []) ∷ (Int (pos 2) ∷ Int (pos 1) ∷ []) ∷ (Int (pos 3) ∷ Int (negsuc 0) ∷ []) ∷ [])
+by_key = refl
+
+by_row : answer GREATEST (after GREATEST (after GREATEST no_key (Upsert (codes "s") (Null ∷ []))) (Upsert (codes "s") (Int (pos 0) ∷ []))) show_s
+    ≡ reply.Rows (codes "a" ∷ []) ((Null ∷ []) ∷ (Int (pos 0) ∷ []) ∷ (Int (pos 1) ∷ []) ∷ (Int (pos 1) ∷ []) ∷ [])
+by_row = refl
+
+-- delete
+
+deleted : answer GREATEST three_numbers (delete_v (Int (pos 3) ∷ [])) ≡ reply.Done 1
+deleted = refl
+
+deleted_is_gone : answer GREATEST (after GREATEST three_numbers (delete_v (Int (pos 3) ∷ []))) (Show (codes "v"))
+    ≡ reply.Rows (codes "n" ∷ codes "x" ∷ []) ((Int (pos 1) ∷ Int (pos 9223372036854775807) ∷ []) ∷ (Int (pos 2) ∷ Int (pos 1) ∷ []) ∷ [])
+deleted_is_gone = refl
+
+nothing_to_delete : step GREATEST three_numbers (item.Command (delete_v (Int (pos 99) ∷ []))) ≡ (three_numbers, reply.Done 0)
+nothing_to_delete = refl
+
+no_table_to_delete_from : answer GREATEST [] (delete_v []) ≡ refused NoTable
+no_table_to_delete_from = refl
+
+delete_without_a_key : answer GREATEST no_key (Delete (codes "s") (Text (codes "x") ∷ Null ∷ [])) ≡ refused NoKey
+delete_without_a_key = refl
+
+delete_of_too_many_values : answer GREATEST three_numbers (delete_v (Int (pos 1) ∷ Null ∷ [])) ≡ refused TypeMismatch
+delete_of_too_many_values = refl
+
+delete_of_a_wrong_kind : answer GREATEST three_numbers (delete_v (Text (codes "1") ∷ [])) ≡ refused TypeMismatch
+delete_of_a_wrong_kind = refl
+
+delete_of_null : answer GREATEST three_numbers (delete_v (Null ∷ [])) ≡ refused NullKey
+delete_of_null = refl
+
+-- create p (a int, b text, key (b, a)): the values of a delete come in the order of the key
+abbrev two_keys : Database
+two_keys = after GREATEST (after GREATEST [] (Create (codes "p") (number (codes "a") ∷ column (codes "b") ∷ []) (codes "b" ∷ codes "a" ∷ []))) (Upsert (codes "p") (Int (pos 1) ∷ Text (codes "x") ∷ []))
+
+in_the_keys_order : answer GREATEST two_keys (Delete (codes "p") (Text (codes "x") ∷ Int (pos 1) ∷ [])) ≡ reply.Done 1
+in_the_keys_order = refl
+
+in_the_columns_order : answer GREATEST two_keys (Delete (codes "p") (Int (pos 1) ∷ Text (codes "x") ∷ [])) ≡ refused TypeMismatch
+in_the_columns_order = refl
+
+kinds_before_null_of_a_delete : answer GREATEST two_keys (Delete (codes "p") (Null ∷ Text (codes "x") ∷ [])) ≡ refused TypeMismatch
+kinds_before_null_of_a_delete = refl
+
+-- load, of what its payload gives
+
+abbrev load_s : Payload → Command
+load_s carried = Load (codes "s") carried
+
+-- s (id int, city text, key (id))
+abbrev s : Heading
+s = record { columns = number (codes "id") ∷ column (codes "city") ∷ []; key = 0 ∷ [] }
+
+abbrev city : ℕ → List ℕ → List Value
+city id name = Int (pos id) ∷ Text name ∷ []
+
+abbrev one_city : Database
+one_city = after GREATEST empty_s (upsert_s (Int (pos 1)) (Text (codes "Rome")))
+
+-- of two records with one key the last stays, and both are counted
+last_of_one_key : (bytes : Bytes) → load s GREATEST bytes ≡ Ok (city 1 (codes "Oslo") ∷ city 1 (codes "Rome") ∷ []) → step GREATEST empty_s (item.Command (load_s (payload.Bytes bytes))) ≡ (one_city, reply.Done 2)
+last_of_one_key bytes given = rw given refl
+
+over_one_there : (bytes : Bytes) → load s GREATEST bytes ≡ Ok (city 1 (codes "Oslo") ∷ city 2 (codes "Rome") ∷ []) → step GREATEST one_city (item.Command (load_s (payload.Bytes bytes))) ≡ (two_cities, reply.Done 2)
+over_one_there bytes given = rw given refl
+
+no_records : (bytes : Bytes) → load s GREATEST bytes ≡ Ok [] → step GREATEST one_city (item.Command (load_s (payload.Bytes bytes))) ≡ (one_city, reply.Done 0)
+no_records bytes given = rw given refl
+
+-- a faulty record is named by its number, and none is put
+faulty_record : (bytes : Bytes) → load s GREATEST bytes ≡ Err (fault.BadInt 3) → step GREATEST one_city (item.Command (load_s (payload.Bytes bytes))) ≡ (one_city, reply.Refused BadInt (Some 3))
+faulty_record bytes given = rw given refl
+
+null_in_a_record : (bytes : Bytes) → load s GREATEST bytes ≡ Err (fault.NullKey 1) → step GREATEST one_city (item.Command (load_s (payload.Bytes bytes))) ≡ (one_city, reply.Refused NullKey (Some 1))
+null_in_a_record bytes given = rw given refl
+
+too_few_fields : (bytes : Bytes) → load s GREATEST bytes ≡ Err (fault.FieldCount 1) → step GREATEST one_city (item.Command (load_s (payload.Bytes bytes))) ≡ (one_city, reply.Refused FieldCount (Some 1))
+too_few_fields bytes given = rw given refl
+
+no_text : (bytes : Bytes) → load s GREATEST bytes ≡ Err (fault.BadText 1) → step GREATEST one_city (item.Command (load_s (payload.Bytes bytes))) ≡ (one_city, reply.Refused BadText (Some 1))
+no_text bytes given = rw given refl
+
+another_header : (bytes : Bytes) → load s GREATEST bytes ≡ Err fault.Header → step GREATEST one_city (item.Command (load_s (payload.Bytes bytes))) ≡ (one_city, refused Header)
+another_header bytes given = rw given refl
+
+long_text : (bytes : Bytes) → load s GREATEST bytes ≡ Err fault.Limit → step GREATEST one_city (item.Command (load_s (payload.Bytes bytes))) ≡ (one_city, refused Limit)
+long_text bytes given = rw given refl
+
+-- an open payload, one that is too long, one for which there was no memory
+open_payload : step GREATEST one_city (item.Command (load_s payload.Open)) ≡ (one_city, refused LoadOpen)
+open_payload = refl
+
+long_payload : step GREATEST one_city (item.Command (load_s payload.TooLong)) ≡ (one_city, refused Limit)
+long_payload = refl
+
+lost_payload : step GREATEST one_city (item.Command (load_s payload.NoMemory)) ≡ (one_city, refused Memory)
+lost_payload = refl
+
+no_table_to_load_into : answer GREATEST [] (load_s payload.Open) ≡ refused NoTable
+no_table_to_load_into = refl
+
+no_memory_before_no_table : answer GREATEST [] (load_s payload.NoMemory) ≡ refused Memory
+no_memory_before_no_table = refl
+
+-- at most three rows: those that replace others count once
+abbrev three_each : Bounds
+three_each = record GREATEST { rows = 3 }
+
+abbrev two_of_three : Database
+two_of_three = after three_each (after three_each (after three_each [] create_s) (upsert_s (Int (pos 1)) (Text (codes "a")))) (upsert_s (Int (pos 2)) (Text (codes "b")))
+
+abbrev three_of_three : Database
+three_of_three = after three_each (after three_each (after three_each two_of_three (upsert_s (Int (pos 1)) (Text (codes "x")))) (upsert_s (Int (pos 2)) (Text (codes "y")))) (upsert_s (Int (pos 3)) (Text (codes "z")))
+
+as_many_as_may_be : (bytes : Bytes) → load s three_each bytes ≡ Ok (city 1 (codes "x") ∷ city 2 (codes "y") ∷ city 3 (codes "z") ∷ []) → step three_each two_of_three (item.Command (load_s (payload.Bytes bytes))) ≡ (three_of_three, reply.Done 3)
+as_many_as_may_be bytes given = rw given refl
+
+one_row_too_many : (bytes : Bytes) → load s three_each bytes ≡ Ok (city 3 (codes "z") ∷ city 4 (codes "q") ∷ []) → step three_each two_of_three (item.Command (load_s (payload.Bytes bytes))) ≡ (two_of_three, refused Limit)
+one_row_too_many bytes given = rw given refl

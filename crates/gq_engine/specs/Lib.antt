@@ -8,6 +8,7 @@ pub mod Orders
 pub mod Repeating
 -- and what they stand on
 pub mod Outcomes
+pub mod Loading
 pub mod Refusing
 pub mod Engines
 -- contracts of single functions

@@ -1,16 +1,20 @@
 -- What a table takes.
-use Rattle.std.specs.Prelude.{Bool, not, List, length, nat_le, Result, Ok}
+use Rattle.std.specs.Prelude.{◌&&◌, ◌∷◌, [], ℕ, Bool, true, false, not, List, length, nat_le, Result, Ok}
 use Rattle.std.specs.List.{list_any}
 use Rattle.gq_row.specs.declared.value.Value.{Value}
+use Rattle.gq_row.specs.declared.schema.Column.{Column}
 use Rattle.gq_row.specs.declared.limits.Bounds.{Bounds}
-use Rattle.gq_row.specs.Fitting.{fits_columns, has_null}
-use Rattle.gq_row.specs.Tables.{PlainTable, put}
-use Rattle.gq_engine.specs.Outcomes.{◌>>=◌, true_or}
+use Rattle.gq_row.specs.Fitting.{fits_columns, goes_in, has_null, is_null}
+use Rattle.gq_row.specs.Headings.{Heading}
+use Rattle.gq_row.specs.Tables.{PlainTable, put, put_all}
+use Rattle.gq_load.specs.Payloads.{kind_at}
+use Rattle.gq_command.specs.Commands.{some}
 use Rattle.gq_reply.specs.declared.refusal.Refusal.{Refusal}
-use Rattle.gq_reply.specs.declared.refusal.Refusal.TheVariants.{TypeMismatch, NullKey, Limit, Memory}
+use Rattle.gq_reply.specs.declared.refusal.Refusal.TheVariants.{TypeMismatch, NoKey, NullKey, Limit, Memory}
 use Rattle.gq_reply.specs.declared.refusal.Refused.{Refused}
 use Rattle.gq_table.specs.declared.refusal.TableRefusal.{TableRefusal}
 use Rattle.gq_table.specs.declared.refusal.TableRefusal.TheVariants as untaken
+use Rattle.gq_engine.specs.Outcomes.{◌>>=◌, true_or}
 
 -- whether a row has null in a key column
 abbrev pub has_null_key : PlainTable → List Value → Bool
@@ -27,6 +31,26 @@ put_within limits table row = do
   keyed ← true_or NullKey (not (has_null_key table row))
   few ← true_or Limit (nat_le (length (rows_with table row)) limits.rows)
   Ok (rows_with table row)
+
+-- the rows of a table after rows were put, one after the other, where they are few enough
+abbrev pub put_all_within : Bounds → PlainTable → List (List Value) → Result (List (List Value)) Refused
+put_all_within limits table new = do
+  few ← true_or Limit (nat_le (length (put_all table.heading.key table.rows new)) limits.rows)
+  Ok (put_all table.heading.key table.rows new)
+
+-- as many values as key columns, and each may stand in its column
+abbrev pub fits_key : List Column → List ℕ → List Value → Bool
+fits_key columns [] [] = true
+fits_key columns [] (value ∷ values) = false
+fits_key columns (position ∷ positions) [] = false
+fits_key columns (position ∷ positions) (value ∷ values) = goes_in (kind_at columns position) value && fits_key columns positions values
+
+-- nothing where values are a key of the table, or why they are none
+abbrev pub key_within : Heading → List Value → Result (Unit {0}) Refused
+key_within heading key = do
+  keyed ← true_or NoKey (some heading.key)
+  fitting ← true_or TypeMismatch (fits_key heading.columns heading.key key)
+  true_or NullKey (not (list_any is_null key))
 
 -- a table's refusal, as that of a command
 abbrev pub table_refusal : TableRefusal → Refusal

@@ -2,7 +2,7 @@
 use Rattle.std.specs.Prelude.{◌≡◌, ◌⊎◌, ◌+◌, ◌≤◌, ℕ, Bool, true, false, List, [], ◌∷◌, count_by, IsPermutation}
 use Rattle.gq_row.specs.declared.limits.Bounds.{Bounds}
 use Rattle.gq_command.specs.declared.command.Command.{Command}
-use Rattle.gq_command.specs.declared.command.Command.TheVariants.{Group, Distinct}
+use Rattle.gq_command.specs.declared.command.Command.TheVariants.{Drop, Delete, Group, Distinct}
 use Rattle.gq_command.specs.declared.reader.Item.{Item}
 use Rattle.gq_command.specs.declared.reader.Item.TheVariants as item
 use Rattle.gq_command.specs.Script.{Entry}
@@ -79,6 +79,17 @@ pub record AnsweredAlike (setting : Setting) (old : Database) (it : Item) (answe
   pub last : Database
   pub legal : LegalAnswer setting old it answer last
   pub same : SameTables last new
+
+-- the commands that take no memory
+abbrev pub takes_no_memory : Command → Bool
+takes_no_memory (Drop table) = true
+takes_no_memory (Delete table values) = true
+takes_no_memory _ = false
+
+-- an item was answered as plain lists answer it, up to the order of rows within tables
+pub record AnsweredAsLists (limits : Bounds) (old : Database) (it : Item) (answer : Reply) (new : Database) : Type 0 where
+  pub reply : answer ≡ (step limits old it).1
+  pub same : SameTables (step limits old it).0 new
 
 -- only a command that was carried out may leave other tables
 abbrev pub KeptUnlessDone : Reply → Database → Database → Type 0

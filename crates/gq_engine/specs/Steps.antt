@@ -1,26 +1,31 @@
 -- What one item of a script does to a database. A command is its steps in the order of refusals: the first that fails is its refusal.
-use Rattle.std.specs.Prelude.{ℕ, List, [], ◌∷◌, ◌++◌, length, not, nat_lt, is_some, codes, Option, Some, None, Result, Ok, Err}
+use Rattle.std.specs.Prelude.{ℕ, List, [], ◌∷◌, ◌++◌, length, not, nat_lt, is_some, codes, Result, Ok, Err, if◌then◌else◌}
+use Rattle.std.specs.List.{list_any}
 use Rattle.gq_row.specs.declared.value.Value.{Value}
 use Rattle.gq_row.specs.declared.schema.Column.{Column}
 use Rattle.gq_row.specs.declared.limits.Bounds.{Bounds}
+use Rattle.gq_row.specs.Fitting.{is_null}
 use Rattle.gq_row.specs.Headings.{positions_of}
-use Rattle.gq_row.specs.Tables.{PlainTable}
+use Rattle.gq_row.specs.Tables.{PlainTable, delete, has_row}
+use Rattle.gq_command.specs.Commands.{column_names, some}
 use Rattle.gq_command.specs.declared.command.Command.{Command}
 use Rattle.gq_command.specs.declared.command.Command.TheVariants.{Create, Drop, Load, Upsert, Delete, Show, Group, Distinct}
+use Rattle.gq_command.specs.declared.command.Payload.{Payload}
 use Rattle.gq_command.specs.declared.lines.LineRefusal.{LineRefusal}
 use Rattle.gq_command.specs.declared.lines.LineRefusal.TheVariants as line
 use Rattle.gq_command.specs.declared.reader.Item.{Item}
 use Rattle.gq_command.specs.declared.reader.Item.TheVariants as item
 use Rattle.gq_reply.specs.declared.refusal.Refusal.{Refusal}
-use Rattle.gq_reply.specs.declared.refusal.Refusal.TheVariants.{Syntax, LineTooLong, NoTable, TableExists, NoColumn, Limit, Memory}
+use Rattle.gq_reply.specs.declared.refusal.Refusal.TheVariants.{Syntax, LineTooLong, NoTable, TableExists, NoColumn, TypeMismatch, NoKey, NullKey, Limit, Memory}
 use Rattle.gq_reply.specs.declared.refusal.Refused.{Refused}
 use Rattle.gq_reply.specs.declared.reply.Reply.{Reply}
 use Rattle.gq_reply.specs.declared.reply.Reply.TheVariants as reply
-use Rattle.gq_engine.specs.Answers.{counted_groups}
-use Rattle.gq_engine.specs.Databases.{Database, table_at, with_table}
+use Rattle.gq_engine.specs.Answers.{counted_groups, rows_shown}
+use Rattle.gq_engine.specs.Databases.{Database, table_at, with_table, without_table}
+use Rattle.gq_engine.specs.Loading.{is_lost, bytes_told, rows_told}
 use Rattle.gq_engine.specs.Outcomes.{◌>>=◌, some_or, true_or}
 use Rattle.gq_reply.specs.Refusals.{unnumbered, told, refused}
-use Rattle.gq_engine.specs.Refusing.{put_within}
+use Rattle.gq_engine.specs.Refusing.{put_within, put_all_within, fits_key}
 
 -- what a command comes to: the database and the reply where it is carried out, or why it is refused
 abbrev pub Outcome : Type 0
@@ -38,6 +43,12 @@ create limits db name columns key = do
   room ← true_or Limit (nat_lt (length db) limits.tables)
   Ok (db ++ (name, record { heading = record { columns = columns; key = positions }; rows = [] }) ∷ [], reply.Done 0)
 
+-- a table is taken out
+abbrev pub drop_table : Database → List ℕ → Outcome
+drop_table db name = do
+  table ← table_in db name
+  Ok (without_table db name, reply.Done 0)
+
 -- a row is put
 abbrev pub with_row : Bounds → Database → List ℕ → List Value → Result Database Refused
 with_row limits db name row = do
@@ -50,6 +61,38 @@ upsert limits db name row = do
   new ← with_row limits db name row
   Ok (new, reply.Done 1)
 
+-- rows are put, one after the other
+abbrev pub with_rows : Bounds → Database → List ℕ → List (List Value) → Result Database Refused
+with_rows limits db name new = do
+  table ← table_in db name
+  rows ← put_all_within limits table new
+  Ok (with_table db name (record table { rows = rows }))
+
+-- the rows of a payload are put; that there was no memory for the payload is told before all else
+abbrev pub load_table : Bounds → Database → List ℕ → Payload → Outcome
+load_table limits db name payload = do
+  there ← true_or Memory (not (is_lost payload))
+  table ← table_in db name
+  bytes ← bytes_told payload
+  rows ← rows_told limits table.heading bytes
+  new ← with_rows limits db name rows
+  Ok (new, reply.Done (length rows))
+
+-- the row of a key is taken away, if there is one
+abbrev pub delete_row : Database → List ℕ → List Value → Outcome
+delete_row db name key = do
+  table ← table_in db name
+  keyed ← true_or NoKey (some table.heading.key)
+  fitting ← true_or TypeMismatch (fits_key table.heading.columns table.heading.key key)
+  whole ← true_or NullKey (not (list_any is_null key))
+  Ok (with_table db name (record table { rows = delete table.heading.key table.rows key }), reply.Done (if has_row table.heading.key table.rows key then 1 else 0))
+
+-- all rows are shown
+abbrev pub show_table : Database → List ℕ → Outcome
+show_table db name = do
+  table ← table_in db name
+  Ok (db, reply.Rows (column_names table.heading.columns) (rows_shown table))
+
 -- rows are grouped and counted
 abbrev pub group_header : List (List ℕ) → List (List ℕ)
 group_header by = by ++ codes "count(*)" ∷ []
@@ -60,14 +103,14 @@ group db name by = do
   columns ← some_or NoColumn (positions_of table.heading.columns by)
   Ok (db, reply.Rows (group_header by) (counted_groups columns table.rows))
 
--- no line says a command of another form yet
+-- a command; no line says a `distinct` yet
 abbrev pub outcome : Bounds → Database → Command → Outcome
 outcome bounds db (Create table columns key) = create bounds db table columns key
-outcome bounds db (Drop table) = Err (unnumbered Syntax)
-outcome bounds db (Load table payload) = Err (unnumbered Syntax)
+outcome bounds db (Drop table) = drop_table db table
+outcome bounds db (Load table payload) = load_table bounds db table payload
 outcome bounds db (Upsert table values) = upsert bounds db table values
-outcome bounds db (Delete table values) = Err (unnumbered Syntax)
-outcome bounds db (Show table) = Err (unnumbered Syntax)
+outcome bounds db (Delete table values) = delete_row db table values
+outcome bounds db (Show table) = show_table db table
 outcome bounds db (Group table by shown tests exists having) = group db table by
 outcome bounds db (Distinct table on tests) = Err (unnumbered Syntax)
 

@@ -1,14 +1,18 @@
 //! The tables of a database, by their names.
-ghost use Rattle.std.specs.Prelude.{◌≡◌, ◌++◌, ◌∷◌, [], OnOk, OnErr, length, option_copied, MatchOption, None};
+ghost use Rattle.std.specs.Prelude.{◌≡◌, ◌++◌, ◌∷◌, [], IsTrue, IfSome, OnOk, OnErr, length, option_copied, MatchOption, None};
+ghost use Rattle.std.specs.List.{list_all};
+ghost use Rattle.gq_row.specs.Fitting.{fits_columns};
+ghost use Rattle.gq_reply.specs.declared.reply.Reply.TheVariants.{Done};
 ghost use Rattle.gq_reply.specs.Refusals.{unnumbered};
 ghost use Rattle.gq_table.specs.Standing.{IsStanding};
 ghost use Rattle.gq_engine.specs.Databases.{table_at, StandsAt, IsKeyed};
-ghost use Rattle.gq_engine.specs.Refusing.{put_within, table_refusal};
-ghost use Rattle.gq_engine.specs.Serving.{Changes, Takes};
-ghost use Rattle.gq_engine.specs.Steps.{with_row};
+ghost use Rattle.gq_engine.specs.Refusing.{put_within, put_all_within, table_refusal};
+ghost use Rattle.gq_engine.specs.Serving.{Changes, Settles, Takes, Deletes, deleted};
+ghost use Rattle.gq_engine.specs.Steps.{with_row, with_rows, delete_row, drop_table};
 
+use crate::keys::check_key;
 use gq_reply::{Refusal, Refused};
-use gq_row::{Key, Limits, Row, Schema, Text};
+use gq_row::{Key, Limits, Row, Schema, Sequence, Text, Value};
 use gq_table::{Table, TableRefusal};
 use std::alloc::{AllocError, Global};
 use std::marker::Model;
@@ -74,6 +78,41 @@ impl<H: KeyHash<Key> + Copy> Catalog<H> {
         }
     }
 
+    /// Puts rows that fit it into the table of a name, one after the other: all or none.
+    pub fn load(&mut self, name: &str, rows: Sequence<Row>, limits: &Limits) -> Result<(), Refused>
+        requires { IfSome (table_at self.old name.now) (λ table. IsTrue (list_all (fits_columns table.heading.columns) rows)) }
+        ensures { Changes (with_rows limits.now.bounds self.old name.now rows) result self.old self.new }
+    {
+        match find_table(self.tables.as_slice(), name) {
+            Some(i) => put_rows(&mut self.tables[i].1, rows, limits),
+            None => Err(Refused::from(Refusal::NoTable)),
+        }
+    }
+
+    /// Takes the row of a key out of the table of a name, and tells whether there was one. It takes
+    /// no memory.
+    pub fn delete(&mut self, name: &str, key: &[Value]) -> Result<bool, Refused>
+        ensures { Settles deleted (delete_row self.old name.now key.now) result self.old self.new }
+    {
+        match find_table(self.tables.as_slice(), name) {
+            Some(i) => delete_row(&mut self.tables[i].1, key),
+            None => Err(Refused::from(Refusal::NoTable)),
+        }
+    }
+
+    /// Takes the table of a name out. It takes no memory.
+    pub fn remove(&mut self, name: &str) -> Result<(), Refused>
+        ensures { Settles (λ _. Done 0) (drop_table self.old name.now) result self.old self.new }
+    {
+        match find_table(self.tables.as_slice(), name) {
+            Some(i) => {
+                drop(self.tables.remove(i));
+                Ok(())
+            }
+            None => Err(Refused::from(Refusal::NoTable)),
+        }
+    }
+
     /// Adds an empty table under a name that has none.
     pub fn add(&mut self, name: Text, schema: Schema) -> Result<(), AllocError>
         requires { table_at self.old name ≡ None }
@@ -112,6 +151,38 @@ fn put_row<H: KeyHash<Key> + Copy>(
         Ok(()) => Ok(()),
         Err(why) => Err(refused_by_table(why)),
     }
+}
+
+// Puts rows that fit it into a table, or says why the table refuses them.
+fn put_rows<H: KeyHash<Key> + Copy>(
+    table: &mut Table<H>,
+    rows: Sequence<Row>,
+    limits: &Limits,
+) -> Result<(), Refused>
+    requires { IsTrue (list_all (fits_columns table.old.heading.columns) rows) }
+    ensures takes { Takes (put_all_within limits.now.bounds table.old rows) result table.old table.new }
+    ensures standing { IsStanding table.new }
+{
+    let taken = table.load(rows, limits);
+    let _standing = table.rows();
+    match taken {
+        Ok(()) => Ok(()),
+        Err(why) => Err(refused_by_table(why)),
+    }
+}
+
+// Takes the row of a key out of a table, or says why the key is none.
+fn delete_row<H: KeyHash<Key> + Copy>(table: &mut Table<H>, key: &[Value]) -> Result<bool, Refused>
+    ensures deletes { Deletes key.now result table.old table.new }
+    ensures standing { IsStanding table.new }
+{
+    if let Err(why) = check_key(table.schema(), key) {
+        let _standing = table.rows();
+        return Err(why);
+    }
+    let found = table.delete(key);
+    let _standing = table.rows();
+    Ok(found)
 }
 
 // A table's refusal, as that of a command.

@@ -4,7 +4,9 @@ ghost use Rattle.gq_engine.specs.Steps.{group_header};
 
 use crate::catalog::Catalog;
 use crate::grouping::count_groups;
-use gq_command::{Command, Item};
+use crate::payloads::{bytes_of, is_lost, rows_of};
+use crate::showing::{names_of, show_rows};
+use gq_command::{Command, Item, Payload};
 use gq_reply::{Refusal, Refused, Reply};
 use gq_row::{Column, Key, Limits, Row, Schema, Sequence, Text, find_positions};
 use std::alloc::{AllocError, Global};
@@ -23,9 +25,9 @@ impl<H: KeyHash<Key> + Copy> Engine<H> {
     ghost use Rattle.gq_command.specs.Commands.{is_command, as_said};
     ghost use Rattle.gq_engine.specs.Engines.{database, setting_of, failures_of};
     ghost use Rattle.gq_engine.specs.Databases.{IsKeyed};
-    ghost use Rattle.gq_engine.specs.Runs.{AnsweredAlike, KeptUnlessDone, FaultsHappened};
-    ghost use Rattle.gq_engine.specs.Serving.{Comes};
-    ghost use Rattle.gq_engine.specs.Steps.{outcome, create as created, upsert as upserted, group as grouped};
+    ghost use Rattle.gq_engine.specs.Runs.{AnsweredAlike, AnsweredAsLists, KeptUnlessDone, FaultsHappened, takes_no_memory};
+    ghost use Rattle.gq_engine.specs.Serving.{Comes, ComesSurely};
+    ghost use Rattle.gq_engine.specs.Steps.{outcome, create as created, drop_table as dropped, load_table as loaded, upsert as upserted, delete_row as removed, show_table as shown, group as grouped};
 
     /// An engine without tables, whose keys will be hashed by `hasher`.
     pub fn new(alloc: Global, hasher: H, limits: Limits) -> Engine<H>
@@ -61,6 +63,8 @@ impl<H: KeyHash<Key> + Copy> Engine<H> {
         requires { is_command (as_said command) ≡ true }
         // As plain lists answer it; only memory and the run store may refuse what they accept.
         ensures legal { AnsweredAlike (setting_of self.old) (database self.old) (Item.Command command) result (database self.new) }
+        // A drop and a delete take no memory, and are answered as plain lists answer them.
+        ensures sure { takes_no_memory command ≡ true → AnsweredAsLists (setting_of self.old).limits (database self.old) (Item.Command command) result (database self.new) }
         // A failure of the run store is told only where it failed.
         ensures faults { FaultsHappened (result ∷ []) (failures_of self.old) (failures_of self.new) }
         // Only a command that was carried out changes a table.
@@ -77,6 +81,7 @@ impl<H: KeyHash<Key> + Copy> Engine<H> {
     fn carry_out(&mut self, command: Command) -> Result<Reply, Refused>
         requires { is_command (as_said command) ≡ true }
         ensures comes { Comes (outcome (setting_of self.old).limits (database self.old) command) result (database self.old) (database self.new) }
+        ensures sure { takes_no_memory command ≡ true → ComesSurely (outcome (setting_of self.old).limits (database self.old) command) result (database self.old) (database self.new) }
         ensures setting { setting_of self.new ≡ setting_of self.old }
     {
         match command {
@@ -85,7 +90,11 @@ impl<H: KeyHash<Key> + Copy> Engine<H> {
                 columns,
                 key,
             } => return self.create(table, columns, key),
+            Command::Drop { table } => return self.drop_table(table),
+            Command::Load { table, payload } => return self.load(table, payload),
             Command::Upsert { table, values } => return self.upsert(table, values),
+            Command::Delete { table, values } => return self.delete(table, values),
+            Command::Show { table } => return self.show(table),
             Command::Group {
                 table,
                 by,
@@ -94,12 +103,8 @@ impl<H: KeyHash<Key> + Copy> Engine<H> {
                 exists: _exists,
                 having: _having,
             } => return self.group(table, by),
-            // No form below has steps yet.
-            Command::Drop { .. }
-            | Command::Load { .. }
-            | Command::Delete { .. }
-            | Command::Show { .. }
-            | Command::Distinct { .. } => return Err(Refused::from(Refusal::Syntax)),
+            // It has no steps yet.
+            Command::Distinct { .. } => return Err(Refused::from(Refusal::Syntax)),
         }
     }
 
@@ -135,6 +140,46 @@ impl<H: KeyHash<Key> + Copy> Engine<H> {
     {
         self.catalog.upsert(name.as_str(), row, &self.limits)?;
         Ok(Reply::Done(1))
+    }
+
+    fn drop_table(&mut self, name: Text) -> Result<Reply, Refused>
+        ensures surely { ComesSurely (dropped (database self.old) name) result (database self.old) (database self.new) }
+        ensures setting { setting_of self.new ≡ setting_of self.old }
+    {
+        self.catalog.remove(name.as_str())?;
+        Ok(Reply::Done(0))
+    }
+
+    fn load(&mut self, name: Text, payload: Payload) -> Result<Reply, Refused>
+        ensures comes { Comes (loaded (setting_of self.old).limits (database self.old) name payload) result (database self.old) (database self.new) }
+        ensures setting { setting_of self.new ≡ setting_of self.old }
+    {
+        if is_lost(&payload) {
+            return Err(Refused::from(Refusal::Memory));
+        }
+        let table = self.catalog.get(name.as_str()).ok_or(Refusal::NoTable)?;
+        let bytes = bytes_of(payload)?;
+        let rows = rows_of(self.alloc, bytes.as_slice(), table.schema(), &self.limits)?;
+        let count = rows.len();
+        self.catalog.load(name.as_str(), rows, &self.limits)?;
+        Ok(Reply::Done(count as u64))
+    }
+
+    fn delete(&mut self, name: Text, key: Row) -> Result<Reply, Refused>
+        ensures surely { ComesSurely (removed (database self.old) name key) result (database self.old) (database self.new) }
+        ensures setting { setting_of self.new ≡ setting_of self.old }
+    {
+        let found = self.catalog.delete(name.as_str(), key.cells())?;
+        Ok(Reply::Done(u64::from(found)))
+    }
+
+    fn show(&self, name: Text) -> Result<Reply, Refused>
+        ensures { Comes (shown (database self.now) name) result (database self.now) (database self.now) }
+    {
+        let table = self.catalog.get(name.as_str()).ok_or(Refusal::NoTable)?;
+        let header = names_of(self.alloc, table.schema().columns())?;
+        let rows = show_rows(self.alloc, table)?;
+        Ok(Reply::Rows { header, rows })
     }
 
     fn group(&self, name: Text, by: Sequence<Text>) -> Result<Reply, Refused>

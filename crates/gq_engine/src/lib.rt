@@ -31,9 +31,13 @@ mod catalog;
 mod cells;
 mod engine;
 mod grouping;
+mod keys;
 pub mod laws;
+mod ordering;
+mod payloads;
 mod run;
 mod sending;
+mod showing;
 
 pub use engine::Engine;
 pub use gq_reply::{Refusal, Refused, Reply, reply_text};

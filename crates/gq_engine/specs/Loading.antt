@@ -1,0 +1,51 @@
+-- What a load finds in its payload.
+use Rattle.std.specs.Prelude.{ℕ, Bool, true, false, List, Some, Result, Ok, Err}
+use Rattle.gq_row.specs.declared.value.Value.{Value}
+use Rattle.gq_row.specs.declared.limits.Bounds.{Bounds}
+use Rattle.gq_row.specs.Headings.{Heading}
+use Rattle.gq_load.specs.declared.load_refusal.LoadRefusal.{LoadRefusal}
+use Rattle.gq_load.specs.declared.load_refusal.LoadRefusal.TheVariants as fault
+use Rattle.gq_load.specs.Payloads.{load}
+use Rattle.gq_command.specs.declared.command.Payload.{Payload}
+use Rattle.gq_command.specs.declared.command.Payload.TheVariants as payload
+use Rattle.gq_command.specs.Commands.{Bytes}
+use Rattle.gq_reply.specs.declared.refusal.Refusal.{Refusal}
+use Rattle.gq_reply.specs.declared.refusal.Refusal.TheVariants as refusal
+use Rattle.gq_reply.specs.declared.refusal.Refused.{Refused}
+use Rattle.gq_reply.specs.Refusals.{unnumbered}
+
+-- a payload for which there was no memory
+abbrev pub is_lost : Payload → Bool
+is_lost (payload.Bytes bytes) = false
+is_lost payload.Open = false
+is_lost payload.TooLong = false
+is_lost payload.NoMemory = true
+
+-- the bytes of a payload, or why there are none
+abbrev pub bytes_told : Payload → Result Bytes Refused
+bytes_told (payload.Bytes bytes) = Ok bytes
+bytes_told payload.Open = Err (unnumbered refusal.LoadOpen)
+bytes_told payload.TooLong = Err (unnumbered refusal.Limit)
+bytes_told payload.NoMemory = Err (unnumbered refusal.Memory)
+
+-- a refusal that names a record of a payload
+abbrev pub numbered : Refusal → ℕ → Refused
+numbered why number = record { why = why; number = Some number }
+
+-- the refusal for a payload's fault, with the number of the faulty record where there is one
+abbrev pub fault_refusal : LoadRefusal → Refused
+fault_refusal (fault.NullKey number) = numbered refusal.NullKey number
+fault_refusal fault.Header = unnumbered refusal.Header
+fault_refusal (fault.FieldCount number) = numbered refusal.FieldCount number
+fault_refusal (fault.BadInt number) = numbered refusal.BadInt number
+fault_refusal (fault.BadText number) = numbered refusal.BadText number
+fault_refusal fault.Limit = unnumbered refusal.Limit
+fault_refusal fault.Memory = unnumbered refusal.Memory
+
+-- the rows of a payload for a table of this heading, or the refusal for its first fault
+abbrev pub refused_by : Result (List (List Value)) LoadRefusal → Result (List (List Value)) Refused
+refused_by (Ok rows) = Ok rows
+refused_by (Err fault) = Err (fault_refusal fault)
+
+abbrev pub rows_told : Bounds → Heading → Bytes → Result (List (List Value)) Refused
+rows_told limits heading bytes = refused_by (load heading limits bytes)
