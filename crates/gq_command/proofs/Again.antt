@@ -7,18 +7,20 @@ use Rattle.gq_token.specs.declared.token.Terminal.TheVariants as terminal
 use Rattle.gq_row.specs.declared.schema.Kind.TheVariants as kind
 use Rattle.gq_token.specs.declared.token.Token.{Token}
 use Rattle.gq_token.specs.declared.token.Token.TheVariants.{Fixed, Name}
-use Rattle.gq_command.specs.Commands.{Bytes, counts_alone, separated, parenthesized, name_words, names_words, column_words, literal_words, key_words, phrase, some, grammatical, keeps_rules, SaysTokens}
+use Rattle.gq_command.specs.Commands.{Bytes, counts_alone, separated, parenthesized, name_words, names_words, column_words, literal_words, key_words, phrase, some, grammatical, is_open, keeps_rules, SaysTokens}
 use Rattle.gq_command.specs.declared.command.Command.{Command}
 use Rattle.gq_command.specs.declared.command.Command.TheVariants.{Create, Drop, Load, Upsert, Delete, Show, Group, Distinct}
 use Rattle.gq_command.specs.declared.command.Aggregate.{Aggregate}
 use Rattle.gq_command.specs.declared.command.Aggregate.TheVariants.{CountAll}
+use Rattle.gq_command.specs.declared.command.Payload.{Payload}
+use Rattle.gq_command.specs.declared.command.Payload.TheVariants as payload
 use Rattle.gq_command.specs.declared.command.Test.{Test}
 use Rattle.gq_command.specs.declared.command.Exists.{Exists}
 use Rattle.gq_row.specs.declared.value.Value.{Value}
 use Rattle.gq_row.specs.declared.value.Value.TheVariants as value
 use Rattle.gq_row.specs.declared.schema.Column.{Column}
 use Rattle.gq_token.specs.Queue.{skip, column_comma}
-use Rattle.gq_command.specs.Reading.{name_at, literal_at, kind_at, column_at, items_within, items_at, names_at, literals_at, columns_at, in_parentheses, key_at, ended, create_at, upsert_at, group_at, form_at, command_of}
+use Rattle.gq_command.specs.Reading.{name_at, literal_at, kind_at, column_at, items_within, items_at, names_at, literals_at, columns_at, in_parentheses, key_at, ended, row_at, create_at, group_at, form_behind, form_at, command_of}
 
 -- an item that is written is read, whatever follows it
 abbrev pub Again : {A : Type 0} → (List Token → Option (A × List Token)) → (A → List Token) → Type 0
@@ -109,9 +111,9 @@ create_again t columns key filled =
     let e : (inner ++ key_words key) ++ (Fixed terminal.Close ∷ []) ≡ inner ++ (key_words key ++ (Fixed terminal.Close ∷ [])) = append_assoc inner (key_words key) (Fixed terminal.Close ∷ []) in
     rw (e, columns_again columns (key_words key ++ (Fixed terminal.Close ∷ [])) filled (columns_end key []), key_again key []) refl
 
-upsert_again : (t : Bytes) (values : List Value) → some values ≡ true → upsert_at (Name t ∷ parenthesized (separated terminal.Comma literal_words values)) ≡ Some (Upsert t values, [])
-unfolding upsert_at name_at
-upsert_again t values filled =
+row_again : (t : Bytes) (values : List Value) → some values ≡ true → row_at (Name t ∷ parenthesized (separated terminal.Comma literal_words values)) ≡ Some ((t, values), [])
+unfolding row_at name_at
+row_again t values filled =
     let text = separated terminal.Comma literal_words values in
     let h : in_parentheses literals_at (parenthesized text) ≡ Some (values, []) = ap (in_parentheses literals_at) (sym (append-nil (parenthesized text))) ∙ in_parentheses_again literals_at text values [] (literals_again values (Fixed terminal.Close ∷ []) filled refl) in
     rw h refl
@@ -122,7 +124,7 @@ alone t by (CountAll ∷ []) [] None [] h = refl
 alone t by _ _ _ _ h = absurd cc
 
 group_again : (t : Bytes) (by : List Bytes) → some by ≡ true → form_at (phrase (Group t by (CountAll ∷ []) [] None [])) ≡ Some (Group t by (CountAll ∷ []) [] None [], [])
-unfolding group_at name_at form_at phrase
+unfolding group_at name_at form_at form_behind phrase
 group_again t [] filled = absurd cc
 group_again t (n ∷ ns) filled =
     let rest : List Token = Fixed terminal.Show ∷ Fixed terminal.Count ∷ Fixed terminal.Open ∷ Fixed terminal.Star ∷ Fixed terminal.Close ∷ [] in
@@ -132,20 +134,26 @@ pub both_true : (a b : Bool) → a && b ≡ true → (a ≡ true) × (b ≡ true
 both_true true b h = (refl, h)
 both_true false b h = absurd cc
 
+pub opened : (p : Payload) → is_open p ≡ true → p ≡ payload.Open
+opened (payload.Bytes bytes) e = absurd cc
+opened payload.Open e = refl
+opened payload.TooLong e = absurd cc
+opened payload.NoMemory e = absurd cc
+
 -- a command's phrase is read as the command
-form_again : (c : Command) → grammatical c ≡ true → form_at (phrase c) ≡ Some (c, [])
-unfolding form_at phrase
-form_again (Create t columns key) h = create_again t columns key h
-form_again (Upsert t values) h = upsert_again t values h
-form_again (Drop t) h = absurd cc
-form_again (Load t carried) h = absurd cc
-form_again (Delete t values) h = absurd cc
-form_again (Show t) h = absurd cc
-form_again (Group t by shown tests exists having) h =
+form_again : (c : Command) → grammatical c ≡ true → keeps_rules c ≡ true → form_at (phrase c) ≡ Some (c, [])
+unfolding form_at form_behind name_at phrase
+form_again (Create t columns key) h k = create_again t columns key h
+form_again (Drop t) h k = refl
+form_again (Load t carried) h k = ap (λ (p : Payload). Some (Load t p, [])) (sym (opened carried k))
+form_again (Upsert t values) h k = rw (row_again t values h) refl
+form_again (Delete t values) h k = rw (row_again t values h) refl
+form_again (Show t) h k = refl
+form_again (Group t by shown tests exists having) h k =
     let p = both_true (some by) (counts_alone shown tests exists having) h in
     let same = alone t by shown tests exists having p.1 in
     ap (λ (c : Command). form_at (phrase c)) same ∙ group_again t by p.0 ∙ ap (λ (c : Command). Some (c, [])) (sym same)
-form_again (Distinct t on tests) h = absurd cc
+form_again (Distinct t on tests) h k = absurd cc
 
 -- what the tokens say is read from them
 pub command_again : (ts : List Token) (c : Command) → SaysTokens (Some ts) c → command_of ts ≡ Some c
@@ -153,7 +161,7 @@ unfolding command_of ended
 command_again ts c s =
     let e : ts ≡ phrase c = cc (s.written) in
     let p = both_true (grammatical c) (keeps_rules c) s.command in
-    ap command_of e ∙ rw (form_again c p.0) (rw p.1 refl)
+    ap command_of e ∙ rw (form_again c p.0 p.1) (rw p.1 refl)
 
 -- no tokens say two commands
 pub one_command : (ts : Option (List Token)) (c d : Command) → SaysTokens ts c → SaysTokens ts d → c ≡ d

@@ -48,7 +48,7 @@ command b line text h skipped long lost never c said within =
 pub refused : (b : Bounds) (line : OpenLine) (text : Bytes) → Gathers b.line line text → is_skipped text ≡ false → line.too_long ≡ false → line.lost ≡ false → (line.opening ≡ opening.Dash → ⊥)
     → (r : LineRefusal) → (IsErrOf {T = Command} {E = LineRefusal} (Err r) refusal.Syntax → (c : Command) → Says line.kept.items c → ⊥) → (IsErrOf {T = Command} {E = LineRefusal} (Err r) refusal.Limit → (c : Command) × Says line.kept.items c × (fits b c ≡ false)) → (IsErrOf {T = Command} {E = LineRefusal} (Err r) refusal.LineTooLong → b.line < length line.kept.items)
     → IsReadAs b (Plain text) (item.Refused r)
-refused b line text h skipped long lost never refusal.Memory syntax limit too = inr refl
+refused b line text h skipped long lost never refusal.Memory syntax limit too = inr (inl refl)
 refused b line text h skipped long lost never refusal.LineTooLong syntax limit too =
     let is = kept_is b.line line text h skipped long lost never in
     let le = short b.line line text h long in

@@ -1,5 +1,5 @@
 -- What a line says that begins with load.
-use Rattle.std.proofs.Common.{◌≡◌, ℕ, ◌≤◌, true, ◌∷◌, length, List, Some, None, refl, sym, ap, ◌∙◌}
+use Rattle.std.proofs.Common.{◌≡◌, ◌≤◌, true, ◌∷◌, length, List, Some, None, sym, ap, ◌∙◌}
 use Rattle.std.proofs.lemmas.List.{take_all}
 use Rattle.std.proofs.lemmas.Slice.Eq.{bytes_eq-Decides}
 use Rattle.std.specs.Prelude.{codes}
@@ -14,21 +14,14 @@ use Rattle.gq_script.specs.Script.{takes_payload}
 use Rattle.gq_script.proofs.LoadWord.{begins_load}
 use Rattle.gq_command.specs.declared.command.Command.{Command}
 use Rattle.gq_command.specs.declared.command.Command.TheVariants.{Create, Drop, Load, Upsert, Delete, Show, Group, Distinct}
-use Rattle.gq_command.specs.declared.command.Payload.{Payload}
 use Rattle.gq_command.specs.declared.command.Payload.TheVariants as payload
-use Rattle.gq_command.specs.Commands.{Bytes, phrase, grammatical, keeps_rules, is_open}
+use Rattle.gq_command.specs.Commands.{Bytes, phrase, grammatical, keeps_rules}
 use Rattle.gq_command.specs.Lines.{Says}
-use Rattle.gq_command.proofs.Again.{both_true}
+use Rattle.gq_command.proofs.Again.{both_true, opened}
 
 load_word : (w : Bytes) → lower w ≡ codes "load" → word w ≡ Fixed terminal.Load
 unfolding word
 load_word w e = ap (λ (l : Bytes). elim (lookup_word reserved_words l) [ Some t ↦ Fixed t | None ↦ Name w ]) e
-
-opened : (p : Payload) → is_open p ≡ true → p ≡ payload.Open
-opened (payload.Bytes bytes) e = absurd cc
-opened payload.Open e = refl
-opened payload.TooLong e = absurd cc
-opened payload.NoMemory e = absurd cc
 
 load_phrase : (c : Command) (rest : List Token) → phrase c ≡ Fixed terminal.Load ∷ rest → keeps_rules c ≡ true → (table : Bytes) × (c ≡ Load table payload.Open)
 unfolding phrase

@@ -1,41 +1,51 @@
 -- A load that was read, with its payload.
-use Rattle.std.proofs.Common.{◌≡◌, ℕ, ◌≤◌, true, false, Option, subst, ◌∙◌, inl, inr, ◌⊎◌}
+use Rattle.std.proofs.Common.{◌≡◌, ◌≤◌, true, false, ℕ, length, Option, Some, None, refl, sym, ap, subst, ◌∙◌, inl, inr}
 use Rattle.gq_row.specs.declared.limits.Bounds.{Bounds}
 use Rattle.gq_command.specs.declared.command.Command.{Command}
-use Rattle.gq_command.specs.declared.command.Command.TheVariants.{Create, Drop, Load, Upsert, Delete, Show, Group, Distinct}
+use Rattle.gq_command.specs.declared.command.Command.TheVariants.{Load}
 use Rattle.gq_command.specs.declared.command.Payload.{Payload}
 use Rattle.gq_command.specs.declared.command.Payload.TheVariants as payload
 use Rattle.gq_command.specs.declared.reader.Item.{Item}
 use Rattle.gq_command.specs.declared.reader.Item.TheVariants as item
-use Rattle.gq_command.specs.Commands.{Bytes}
-use Rattle.gq_command.specs.Items.{ReadsAs, IsReadAs, IsReady, with_payload}
+use Rattle.gq_command.specs.Commands.{Bytes, is_open, fits}
+use Rattle.gq_command.specs.Items.{StandsFor, StandsInFor, LosesPayload, IsReadAs, with_payload}
 use Rattle.gq_command.specs.Lines.{Says}
 use Rattle.gq_script.specs.Script.{Plain, Loading, takes_payload}
 use Rattle.gq_command.proofs.LoadWord.{said_load}
+use Rattle.gq_command.proofs.OneReading.{stands_some}
 
--- no line says a load yet
-not_said : (line : Bytes) (table : Bytes) → Says line (Load table payload.Open) → ⊥
-not_said line table s = let h : false ≡ true = s.command in cc
+-- a line alone loses no payload
+none_lost : (b : Bounds) (line : Bytes) (it : Item) → LosesPayload b (Plain line) it → ⊥
+none_lost b line it lost = let e : false ≡ true = sym lost.closed ∙ lost.reads.1.0.command in absurd cc
 
-none_loaded : (b : Bounds) (line : Bytes) (c : Command) → takes_payload b line ≡ true → ReadsAs b (Plain line) (item.Command c) → ⊥
-none_loaded b line c takes r =
-    let load = said_load b line c takes r.0 r.1.0 in
-    not_said line load.0 (subst (Says line) load.1 r.1.0)
+ends : (most : ℕ) (bytes : Bytes) (p : Payload) → StandsFor most (Some bytes) p → is_open p ≡ false
+ends most bytes (payload.Bytes x) h = refl
+ends most bytes payload.Open h = absurd cc
+ends most bytes payload.TooLong h = refl
+ends most bytes payload.NoMemory h = refl
 
-pub loaded : (b : Bounds) (line : Bytes) (told : Option Bytes) (p : Payload) (it : Item) → takes_payload b line ≡ true → IsReadAs b (Plain line) it → IsReadAs b (Loading line told) (with_payload p it)
-loaded b line told p (item.Refused r) takes (inl h) = inl h
-loaded b line told p (item.Refused r) takes (inr e) = inr e
-loaded b line told p (item.Command c) takes (inl h) = absurd (none_loaded b line c takes h)
-loaded b line told p (item.Command c) takes (inr e) = absurd cc
+-- a load that its line says
+read_load : (b : Bounds) (line : Bytes) (told : Option Bytes) (p : Payload) (table : Bytes) → length line ≤ b.line → Says line (Load table payload.Open) → fits b (Load table payload.Open) ≡ true → StandsInFor b.payload told p
+    → IsReadAs b (Loading line told) (item.Command (Load table p))
+read_load b line None p table le says within s = inl (le, (table, p, refl, says, within, s))
+read_load b line (Some bytes) p table le says within (inl s) = inl (le, (table, p, refl, says, within, s))
+read_load b line (Some bytes) p table le says within (inr e) =
+    let stands = stands_some b.payload (Some bytes) in
+    inr (inr (record {
+      table = table;
+      carried = stands.0;
+      reads = (le, (table, stands.0, refl, says, within, stands.1));
+      closed = ends b.payload bytes stands.0 stands.1;
+      is = ap (λ (p : Payload). item.Command (Load table p)) e;
+    }))
 
--- a command stays one that a line can say
-pub stays_ready : (b : Bounds) (p : Payload) (it : Item) → IsReady b it → IsReady b (with_payload p it)
-stays_ready b p (item.Refused r) h = h
-stays_ready b p (item.Command (Load table carried)) h = let none : false ≡ true = h.0 in absurd cc
-stays_ready b p (item.Command (Create t columns key)) h = h
-stays_ready b p (item.Command (Drop t)) h = h
-stays_ready b p (item.Command (Upsert t values)) h = h
-stays_ready b p (item.Command (Delete t values)) h = h
-stays_ready b p (item.Command (Show t)) h = h
-stays_ready b p (item.Command (Group t by shown tests exists having)) h = h
-stays_ready b p (item.Command (Distinct t on tests)) h = h
+pub loaded : (b : Bounds) (line : Bytes) (told : Option Bytes) (p : Payload) (it : Item) → takes_payload b line ≡ true → IsReadAs b (Plain line) it → StandsInFor b.payload told p → IsReadAs b (Loading line told) (with_payload p it)
+loaded b line told p (item.Refused r) takes (inl h) s = inl h
+loaded b line told p (item.Refused r) takes (inr (inl e)) s = inr (inl e)
+loaded b line told p (item.Refused r) takes (inr (inr lost)) s = absurd (none_lost b line (item.Refused r) lost)
+loaded b line told p (item.Command c) takes (inl h) s =
+    let load = said_load b line c takes h.0 h.1.0 in
+    let read = read_load b line told p load.0 h.0 (subst (Says line) load.1 h.1.0) (sym (ap (fits b) load.1) ∙ h.1.1) s in
+    subst (λ (c : Command). IsReadAs b (Loading line told) (with_payload p (item.Command c))) (sym load.1) read
+loaded b line told p (item.Command c) takes (inr (inl e)) s = absurd cc
+loaded b line told p (item.Command c) takes (inr (inr lost)) s = absurd (none_lost b line (item.Command c) lost)

@@ -1,5 +1,5 @@
 -- Each item of a script has one reading.
-use Rattle.std.proofs.Common.{◌≡◌, ℕ, ◌<◌, ◌≤◌, Bool, true, false, cond, List, [], ◌∷◌, ◌++◌, length, Option, Some, None, refl, sym, ap, subst, ◌∙◌, arith}
+use Rattle.std.proofs.Common.{◌≡◌, ℕ, ◌≤◌, Bool, true, false, cond, List, [], ◌∷◌, ◌++◌, length, Option, Some, None, refl, sym, ap, subst, ◌∙◌, arith}
 use Rattle.std.proofs.lemmas.Bool.{ltb-false, ltb-true}
 use Rattle.std.proofs.lemmas.List.Elements.{All-nil, All-cons}
 use Rattle.std.specs.List.{All}
@@ -106,7 +106,7 @@ stands_once most told (payload.Bytes x) payload.NoMemory h k = absurd k
 stands_once most told payload.Open payload.NoMemory h k = absurd k
 stands_once most told payload.TooLong payload.NoMemory h k = absurd k
 
-stands_some : (most : ℕ) (told : Option Bytes) → (p : Payload) × StandsFor most told p
+pub stands_some : (most : ℕ) (told : Option Bytes) → (p : Payload) × StandsFor most told p
 stands_some most None = (payload.Open, refl)
 stands_some most (Some bytes) = by_length (nat_lt most (length bytes)) refl
   where

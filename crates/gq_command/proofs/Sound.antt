@@ -12,14 +12,15 @@ use Rattle.gq_token.specs.declared.token.Token.{Token}
 use Rattle.gq_token.specs.declared.token.Token.TheVariants.{Fixed, Name, Number, Text}
 use Rattle.gq_command.specs.Commands.{Bytes, separated, parenthesized, name_words, names_words, kind_word, column_words, literal_words, key_words, phrase, some, grammatical, keeps_rules, SaysTokens}
 use Rattle.gq_command.specs.declared.command.Command.{Command}
-use Rattle.gq_command.specs.declared.command.Command.TheVariants.{Create, Upsert, Group}
+use Rattle.gq_command.specs.declared.command.Command.TheVariants.{Create, Drop, Load, Upsert, Delete, Show, Group}
+use Rattle.gq_command.specs.declared.command.Payload.TheVariants as payload
 use Rattle.gq_command.specs.declared.command.Aggregate.TheVariants.{CountAll}
 use Rattle.gq_row.specs.declared.value.Value.{Value}
 use Rattle.gq_row.specs.declared.value.Value.TheVariants as value
 use Rattle.gq_row.specs.declared.schema.Column.{Column}
 use Rattle.gq_token.specs.Results.{◌>>=◌}
 use Rattle.gq_token.specs.Queue.{skip, column_comma}
-use Rattle.gq_command.specs.Reading.{name_at, literal_at, kind_at, column_at, items_within, names_at, literals_at, columns_at, in_parentheses, key_at, ended, create_at, upsert_at, group_at, form_at, command_of}
+use Rattle.gq_command.specs.Reading.{name_at, literal_at, kind_at, column_at, items_within, names_at, literals_at, columns_at, in_parentheses, key_at, ended, row_at, create_at, group_at, form_behind, form_at, command_of}
 
 -- a terminal by its number
 terminal_at : ℕ → Terminal
@@ -240,15 +241,38 @@ create_sound ts c rest e =
     let worded : Fixed terminal.Create ∷ ts ≡ phrase (Create a.0.0 d.0.0 k.0.0) ++ f.0 = ap (λ (l : List Token). Fixed terminal.Create ∷ l) (name_sound ts a.0.0 a.0.1 a.1 ∙ ap (λ (l : List Token). Name a.0.0 ∷ l) whole) in
     (worded ∙ ap (λ (v : Command). phrase v ++ f.0) p.0 ∙ ap (λ (l : List Token). phrase c ++ l) p.1, ap grammatical (sym p.0) ∙ cols.1)
 
-upsert_sound : SoundForm terminal.Upsert upsert_at
-unfolding upsert_at SoundForm phrase
-upsert_sound ts c rest e =
-    let a = bind_some (name_at ts) (λ table. in_parentheses literals_at table.1 >>= λ values. Some (Upsert table.0 values.0, values.1)) (c, rest) e in
-    let b = bind_some (in_parentheses literals_at a.0.1) (λ values. Some (Upsert a.0.0 values.0, values.1)) (c, rest) a.2 in
-    let p = pair_is (Upsert a.0.0 b.0.0) c b.0.1 rest b.2 in
+-- a form with a table's name alone
+named_sound : (first : Terminal) (form : Bytes → Command) → ((t : Bytes) → phrase (form t) ≡ Fixed first ∷ Name t ∷ []) → ((t : Bytes) → grammatical (form t) ≡ true)
+    → SoundForm first (λ ts. name_at ts >>= λ table. Some (form table.0, table.1))
+unfolding SoundForm
+named_sound first form words always ts c rest e =
+    let a = bind_some (name_at ts) (λ table. Some (form table.0, table.1)) (c, rest) e in
+    let p = pair_is (form a.0.0) c a.0.1 rest a.2 in
+    let worded : Fixed first ∷ ts ≡ phrase (form a.0.0) ++ a.0.1 = ap (λ (l : List Token). Fixed first ∷ l) (name_sound ts a.0.0 a.0.1 a.1) ∙ ap (λ (l : List Token). l ++ a.0.1) (sym (words a.0.0)) in
+    (worded ∙ ap (λ (v : Command). phrase v ++ a.0.1) p.0 ∙ ap (λ (l : List Token). phrase c ++ l) p.1, ap grammatical (sym p.0) ∙ always a.0.0)
+
+row_words : Bytes × List Value → List Token
+row_words row = Name row.0 ∷ parenthesized (separated terminal.Comma literal_words row.1)
+
+row_sound : (ts : List Token) (row : Bytes × List Value) (rest : List Token) → row_at ts ≡ Some (row, rest) → (ts ≡ row_words row ++ rest) × (some row.1 ≡ true)
+unfolding row_at row_words
+row_sound ts row rest e =
+    let a = bind_some (name_at ts) (λ table. in_parentheses literals_at table.1 >>= λ values. Some ((table.0, values.0), values.1)) (row, rest) e in
+    let b = bind_some (in_parentheses literals_at a.0.1) (λ values. Some ((a.0.0, values.0), values.1)) (row, rest) a.2 in
+    let p = pair_is (a.0.0, b.0.0) row b.0.1 rest b.2 in
     let values = in_parentheses_sound literals_at (separated terminal.Comma literal_words) (λ xs. some xs ≡ true) literals_sound a.0.1 b.0.0 b.0.1 b.1 in
-    let worded : Fixed terminal.Upsert ∷ ts ≡ phrase (Upsert a.0.0 b.0.0) ++ b.0.1 = ap (λ (l : List Token). Fixed terminal.Upsert ∷ l) (name_sound ts a.0.0 a.0.1 a.1 ∙ ap (λ (l : List Token). Name a.0.0 ∷ l) values.0) in
-    (worded ∙ ap (λ (v : Command). phrase v ++ b.0.1) p.0 ∙ ap (λ (l : List Token). phrase c ++ l) p.1, ap grammatical (sym p.0) ∙ values.1)
+    (name_sound ts a.0.0 a.0.1 a.1 ∙ ap (λ (l : List Token). Name a.0.0 ∷ l) values.0 ∙ read_is row_words (a.0.0, b.0.0) row b.0.1 rest b.2, ap (λ (row : Bytes × List Value). some row.1) (sym p.0) ∙ values.1)
+
+-- a form with the literals of a row behind a table's name
+valued_sound : (first : Terminal) (form : Bytes → List Value → Command) → ((t : Bytes) (values : List Value) → phrase (form t values) ≡ Fixed first ∷ row_words (t, values)) → ((t : Bytes) (values : List Value) → grammatical (form t values) ≡ some values)
+    → SoundForm first (λ ts. row_at ts >>= λ row. Some (form row.0.0 row.0.1, row.1))
+unfolding SoundForm
+valued_sound first form words filled ts c rest e =
+    let a = bind_some (row_at ts) (λ row. Some (form row.0.0 row.0.1, row.1)) (c, rest) e in
+    let p = pair_is (form a.0.0.0 a.0.0.1) c a.0.1 rest a.2 in
+    let row = row_sound ts a.0.0 a.0.1 a.1 in
+    let worded : Fixed first ∷ ts ≡ phrase (form a.0.0.0 a.0.0.1) ++ a.0.1 = ap (λ (l : List Token). Fixed first ∷ l) row.0 ∙ ap (λ (l : List Token). l ++ a.0.1) (sym (words a.0.0.0 a.0.0.1)) in
+    (worded ∙ ap (λ (v : Command). phrase v ++ a.0.1) p.0 ∙ ap (λ (l : List Token). phrase c ++ l) p.1, ap grammatical (sym p.0) ∙ filled a.0.0.0 a.0.0.1 ∙ row.1)
 
 filled_by : (t : Bytes) (by : List Bytes) → some by ≡ true → phrase (Group t by (CountAll ∷ []) [] None []) ≡ Fixed terminal.Group ∷ Name t ∷ Fixed terminal.By ∷ (names_words by ++ (Fixed terminal.Show ∷ Fixed terminal.Count ∷ Fixed terminal.Open ∷ Fixed terminal.Star ∷ Fixed terminal.Close ∷ []))
 unfolding phrase
@@ -281,26 +305,24 @@ group_sound ts c rest e =
     ∙ ap (λ (l : List Token). l ++ f.0) (sym (filled_by a.0.0 n.0.0 names.1)) in
     (worded ∙ ap (λ (v : Command). phrase v ++ f.0) p.0 ∙ ap (λ (l : List Token). phrase c ++ l) p.1, ap grammatical (sym p.0) ∙ ap (λ (v : Bool). v && true) names.1)
 
+behind_sound : (first : Terminal) → SoundForm first (form_behind first)
+unfolding form_behind SoundForm phrase row_words
+behind_sound terminal.Create ts c rest e = create_sound ts c rest e
+behind_sound terminal.Drop ts c rest e = named_sound terminal.Drop Drop (λ t. refl) (λ t. refl) ts c rest e
+behind_sound terminal.Load ts c rest e = named_sound terminal.Load (λ t. Load t payload.Open) (λ t. refl) (λ t. refl) ts c rest e
+behind_sound terminal.Upsert ts c rest e = valued_sound terminal.Upsert Upsert (λ t values. refl) (λ t values. refl) ts c rest e
+behind_sound terminal.Delete ts c rest e = valued_sound terminal.Delete Delete (λ t values. refl) (λ t values. refl) ts c rest e
+behind_sound terminal.Show ts c rest e = named_sound terminal.Show Show (λ t. refl) (λ t. refl) ts c rest e
+behind_sound terminal.Group ts c rest e = group_sound ts c rest e
+behind_sound _ ts c rest e = absurd cc
+
 form_sound : (ts : List Token) (c : Command) (rest : List Token) → form_at ts ≡ Some (c, rest) → (ts ≡ phrase c ++ rest) × (grammatical c ≡ true)
 unfolding form_at SoundForm
-form_sound ts c rest e =
-    let Goal : Type 0 = (ts ≡ phrase c ++ rest) × (grammatical c ≡ true) in
-    let h : Option (List Token) → Option (Command × List Token) = λ o. elim o [ Some rest ↦ group_at rest | None ↦ None ] in
-    let g : Option (List Token) → Option (Command × List Token) = λ o. elim o [ Some rest ↦ upsert_at rest | None ↦ h (skip terminal.Group ts) ] in
-    let f : Option (List Token) → Option (Command × List Token) = λ o. elim o [ Some rest ↦ create_at rest | None ↦ g (skip terminal.Upsert ts) ] in
-    let groups : (o : Option (List Token)) → skip terminal.Group ts ≡ o → h o ≡ Some (c, rest) → Goal = λ o. elim o as (λ o. skip terminal.Group ts ≡ o → h o ≡ Some (c, rest) → Goal) [
-      | Some after ↦ λ is k. let s = group_sound after c rest k in (skip_sound terminal.Group ts after is ∙ s.0, s.1)
-      | None ↦ λ is k. absurd cc
-    ] in
-    let upserts : (o : Option (List Token)) → skip terminal.Upsert ts ≡ o → g o ≡ Some (c, rest) → Goal = λ o. elim o as (λ o. skip terminal.Upsert ts ≡ o → g o ≡ Some (c, rest) → Goal) [
-      | Some after ↦ λ is k. let s = upsert_sound after c rest k in (skip_sound terminal.Upsert ts after is ∙ s.0, s.1)
-      | None ↦ λ is k. groups (skip terminal.Group ts) refl k
-    ] in
-    let creates : (o : Option (List Token)) → skip terminal.Create ts ≡ o → f o ≡ Some (c, rest) → Goal = λ o. elim o as (λ o. skip terminal.Create ts ≡ o → f o ≡ Some (c, rest) → Goal) [
-      | Some after ↦ λ is h. let s = create_sound after c rest h in (skip_sound terminal.Create ts after is ∙ s.0, s.1)
-      | None ↦ λ is h. upserts (skip terminal.Upsert ts) refl h
-    ] in
-    creates (skip terminal.Create ts) refl e
+form_sound [] c rest e = absurd cc
+form_sound (Fixed first ∷ ts) c rest e = behind_sound first ts c rest e
+form_sound (Name n ∷ ts) c rest e = absurd cc
+form_sound (Number z ∷ ts) c rest e = absurd cc
+form_sound (Text s ∷ ts) c rest e = absurd cc
 
 ended_sound : (c d : Command) (ts : List Token) → ended (c, ts) ≡ Some d → (c ≡ d) × (ts ≡ [])
 unfolding ended

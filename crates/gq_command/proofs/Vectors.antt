@@ -12,12 +12,18 @@ use Rattle.gq_token.specs.declared.token.Token.{Token}
 use Rattle.gq_token.specs.declared.token.Token.TheVariants.{Fixed, Name, Number, Text}
 use Rattle.gq_command.specs.declared.command.Aggregate.TheVariants.{CountAll}
 use Rattle.gq_command.specs.declared.command.Command.{Command}
-use Rattle.gq_command.specs.declared.command.Command.TheVariants.{Create, Drop, Upsert, Group}
+use Rattle.gq_command.specs.declared.command.Command.TheVariants.{Create, Drop, Load, Upsert, Delete, Show, Group, Distinct}
+use Rattle.gq_command.specs.declared.command.Payload.TheVariants as payload
+use Rattle.gq_command.specs.declared.reader.Item.TheVariants as item
 use Rattle.gq_command.specs.Commands.{Bytes, phrase, is_command, fits}
+use Rattle.gq_command.specs.Items.{ReadsAs}
+use Rattle.gq_command.specs.Reading.{command_of, form_at, form_behind, name_at, row_at, in_parentheses, items_within, literal_at, ended}
 use Rattle.gq_token.specs.Lexing.{tokens, lexed, tokens_within, token_at, word_at, word, sign_at, digits_at, name_in_quotes, text_in_quotes}
 use Rattle.gq_command.specs.Lines.{Says}
 use Rattle.gq_script.specs.Script.{Plain, Loading, items, entries_by}
+use Rattle.gq_token.specs.Results.{◌>>=◌}
 use Rattle.gq_command.proofs.Again.{both_true}
+use Rattle.gq_command.proofs.Line.{none_said}
 
 -- a line of ASCII is text, so its tokens are computed
 
@@ -62,8 +68,57 @@ group_line : Says (codes "group s by city show count(*)") (Group (codes "s") (co
 unfolding phrase lexed tokens_within token_at word_at word sign_at digits_at name_in_quotes text_in_quotes
 group_line = said (codes "group s by city show count(*)") _ refl refl refl
 
+drop_line : Says (codes "DROP " ++ (34 ∷ codes "s" ++ 34 ∷ [])) (Drop (codes "s"))
+unfolding phrase lexed tokens_within token_at word_at word sign_at digits_at name_in_quotes text_in_quotes
+drop_line = said (codes "DROP " ++ (34 ∷ codes "s" ++ 34 ∷ [])) _ refl refl refl
+
+load_line : Says (codes "Load s") (Load (codes "s") payload.Open)
+unfolding phrase lexed tokens_within token_at word_at word sign_at digits_at name_in_quotes text_in_quotes
+load_line = said (codes "Load s") _ refl refl refl
+
+delete_line : Says (codes "delete s (1, 'Oslo')") (Delete (codes "s") (value.Int (pos 1) ∷ value.Text (codes "Oslo") ∷ []))
+unfolding phrase lexed tokens_within token_at word_at word sign_at digits_at name_in_quotes text_in_quotes
+delete_line = said (codes "delete s (1, 'Oslo')") _ refl refl refl
+
+show_line : Says (codes "show s") (Show (codes "s"))
+unfolding phrase lexed tokens_within token_at word_at word sign_at digits_at name_in_quotes text_in_quotes
+show_line = said (codes "show s") _ refl refl refl
+
+-- lines that say nothing
+
+unsaid : (line : Bytes) (ts : List Token) → is_ascii line ≡ true → lexed line ≡ Some ts → command_of ts ≡ None → (c : Command) → Says line c → ⊥
+unsaid line ts plain e none = none_said line (ap (λ (o : Option (List Token)). o >>= command_of) (cut line (Some ts) plain e) ∙ none)
+
+no_name_shown : (c : Command) → Says (codes "show") c → ⊥
+unfolding lexed tokens_within token_at word_at word sign_at digits_at name_in_quotes text_in_quotes command_of form_at form_behind name_at row_at in_parentheses items_within literal_at ended
+no_name_shown = unsaid (codes "show") _ refl refl refl
+
+two_names_loaded : (c : Command) → Says (codes "load s extra") c → ⊥
+unfolding lexed tokens_within token_at word_at word sign_at digits_at name_in_quotes text_in_quotes command_of form_at form_behind name_at row_at in_parentheses items_within literal_at ended
+two_names_loaded = unsaid (codes "load s extra") _ refl refl refl
+
+two_names_dropped : (c : Command) → Says (codes "drop s, t") c → ⊥
+unfolding lexed tokens_within token_at word_at word sign_at digits_at name_in_quotes text_in_quotes command_of form_at form_behind name_at row_at in_parentheses items_within literal_at ended
+two_names_dropped = unsaid (codes "drop s, t") _ refl refl refl
+
+no_values_deleted : (c : Command) → Says (codes "delete s") c → ⊥
+unfolding lexed tokens_within token_at word_at word sign_at digits_at name_in_quotes text_in_quotes command_of form_at form_behind name_at row_at in_parentheses items_within literal_at ended
+no_values_deleted = unsaid (codes "delete s") _ refl refl refl
+
+empty_values_deleted : (c : Command) → Says (codes "delete s ()") c → ⊥
+unfolding lexed tokens_within token_at word_at word sign_at digits_at name_in_quotes text_in_quotes command_of form_at form_behind name_at row_at in_parentheses items_within literal_at ended
+empty_values_deleted = unsaid (codes "delete s ()") _ refl refl refl
+
+bare_value_deleted : (c : Command) → Says (codes "delete s 1") c → ⊥
+unfolding lexed tokens_within token_at word_at word sign_at digits_at name_in_quotes text_in_quotes command_of form_at form_behind name_at row_at in_parentheses items_within literal_at ended
+bare_value_deleted = unsaid (codes "delete s 1") _ refl refl refl
+
+values_shown : (c : Command) → Says (codes "show s (1)") c → ⊥
+unfolding lexed tokens_within token_at word_at word sign_at digits_at name_in_quotes text_in_quotes command_of form_at form_behind name_at row_at in_parentheses items_within literal_at ended
+values_shown = unsaid (codes "show s (1)") _ refl refl refl
+
 -- forms that come later say nothing yet
-not_yet : is_command (Drop (codes "s")) ≡ false
+not_yet : is_command (Distinct (codes "s") (codes "a" ∷ []) []) ≡ false
 not_yet = refl
 
 -- tokens
@@ -125,6 +180,21 @@ mixed = refl
 with_payload : items GREATEST (codes "Load s" ++ (10 ∷ 49 ∷ 13 ∷ 10 ∷ 92 ∷ 46 ∷ 10 ∷ codes "show s")) ≡ Loading (codes "Load s") (Some (49 ∷ 13 ∷ 10 ∷ [])) ∷ Plain (codes "show s") ∷ []
 unfolding entries_by
 with_payload = refl
+
+-- a line that says no load takes its payload too; a mark ends a payload only where it is the whole line
+refused_load : items GREATEST (codes "load s extra" ++ (10 ∷ (codes " \\." ++ (10 ∷ (codes "\\.x" ++ (10 ∷ (codes "\\." ++ (13 ∷ 10 ∷ codes "show s")))))))) ≡ Loading (codes "load s extra") (Some (codes " \\." ++ (10 ∷ (codes "\\.x" ++ (10 ∷ []))))) ∷ Plain (codes "show s") ∷ []
+unfolding entries_by
+refused_load = refl
+
+-- a load is read with its payload, an open one, or one past the limit
+load_read : ReadsAs GREATEST (Loading (codes "Load s") (Some (codes "id" ++ 13 ∷ 10 ∷ []))) (item.Command (Load (codes "s") (payload.Bytes (codes "id" ++ 13 ∷ 10 ∷ []))))
+load_read = (omega arith, (codes "s", payload.Bytes (codes "id" ++ 13 ∷ 10 ∷ []), refl, load_line, refl, (refl, omega arith)))
+
+open_read : ReadsAs GREATEST (Loading (codes "Load s") None) (item.Command (Load (codes "s") payload.Open))
+open_read = (omega arith, (codes "s", payload.Open, refl, load_line, refl, refl))
+
+long_read : ReadsAs (record GREATEST { payload = 2 }) (Loading (codes "Load s") (Some (codes "id" ++ 10 ∷ []))) (item.Command (Load (codes "s") payload.TooLong))
+long_read = (omega arith, (codes "s", payload.TooLong, refl, load_line, refl, (codes "id" ++ 10 ∷ [], refl, omega arith)))
 
 empty_script : items GREATEST [] ≡ []
 unfolding entries_by

@@ -12,7 +12,7 @@ use Rattle.gq_command.specs.declared.command.Aggregate.{Aggregate}
 use Rattle.gq_command.specs.declared.command.Exists.{Exists}
 use Rattle.gq_command.specs.declared.command.Test.{Test}
 use Rattle.gq_command.specs.declared.command.Command.{Command}
-use Rattle.gq_command.specs.declared.command.Command.TheVariants.{Create, Upsert, Group}
+use Rattle.gq_command.specs.declared.command.Command.TheVariants.{Create, Upsert, Delete, Group}
 use Rattle.gq_command.specs.Commands.{Bytes, fits, is_at_most, column_names, literal_texts, is_command, some, counts_alone, keeps_rules, aggregates_shown}
 use Rattle.gq_command.proofs.Again.{alone, both_true}
 
@@ -49,6 +49,9 @@ upsert_fits b t values =
     ap (λ (v : Bool). (p && true) && (v && (nat_le 0 b.columns && nat_le 0 b.aggregates))) (all_texts q values)
     ∙ ap (λ (v : Bool). (p && true) && (vs && (v && nat_le 0 b.aggregates))) (from_zero b.columns) ∙ ap (λ (v : Bool). (p && true) && (vs && v)) (from_zero b.aggregates)
     ∙ ap (λ (v : Bool). v && (vs && true)) (and_true p) ∙ ap (λ (v : Bool). p && v) (and_true vs)
+
+pub delete_fits : (b : Bounds) (t : Bytes) (values : List Value) → fits b (Delete t values) ≡ is_at_most b.name t && list_all (λ v. list_all (is_at_most b.text) (literal_texts v)) values
+delete_fits b t values = upsert_fits b t values
 
 pub group_fits : (b : Bounds) (t : Bytes) (by : List Bytes) (shown : List Aggregate) (tests : List Test) (exists : Option Exists) (having : List Test) → is_command (Group t by shown tests exists having) ≡ true
     → fits b (Group t by shown tests exists having) ≡ is_at_most b.name t && (list_all (is_at_most b.name) by && nat_le (length shown) b.aggregates)

@@ -127,11 +127,11 @@ counts_alone _ _ _ _ = false
 -- the grammar writes the command: each list that must have an item has one; a form that comes later isn't written yet
 abbrev pub grammatical : Command → Bool
 grammatical (Create t columns key) = some columns
-grammatical (Drop t) = false
-grammatical (Load t carried) = false
+grammatical (Drop t) = true
+grammatical (Load t carried) = true
 grammatical (Upsert t values) = some values
-grammatical (Delete t values) = false
-grammatical (Show t) = false
+grammatical (Delete t values) = some values
+grammatical (Show t) = true
 grammatical (Group t by shown tests exists having) = some by && counts_alone shown tests exists having
 grammatical (Distinct t on tests) = false
 
@@ -162,6 +162,11 @@ keeps_rules (Distinct t on tests) = no_repeats bytes_eq on
 -- what a line can say
 abbrev pub is_command : Command → Bool
 is_command c = grammatical c && keeps_rules c
+
+-- the command as its line says it, which is a load without its payload
+abbrev pub as_said : Command → Command
+as_said (Load t carried) = Load t payload.Open
+as_said c = c
 
 -- these tokens say the command
 pub record SaysTokens (tokens : Option (List Token)) (c : Command) : Type 0 where

@@ -9,7 +9,7 @@ use Rattle.gq_command.specs.declared.command.Payload.{Payload}
 use Rattle.gq_command.specs.declared.command.Payload.TheVariants as payload
 use Rattle.gq_command.specs.declared.command.Command.{Command}
 use Rattle.gq_command.specs.declared.command.Command.TheVariants.{Load}
-use Rattle.gq_command.specs.Commands.{Bytes, is_command, fits}
+use Rattle.gq_command.specs.Commands.{Bytes, is_command, is_open, as_said, fits}
 use Rattle.gq_command.specs.Lines.{Says}
 use Rattle.gq_script.specs.Script.{Entry, Plain, Loading, line_of, raw_lines, first_entry, items_left}
 
@@ -20,9 +20,10 @@ StandsFor most told payload.Open = told ≡ None
 StandsFor most told payload.TooLong = (bytes : Bytes) × (told ≡ Some bytes) × (most < length bytes)
 StandsFor most told payload.NoMemory = ⊥
 
--- what stands in for a payload of these bytes, where memory may be wanting
-abbrev pub StandsInFor : ℕ → Bytes → Payload → Type 0
-StandsInFor most bytes p = StandsFor most (Some bytes) p ⊎ (p ≡ payload.NoMemory)
+-- what stands in for the payload told, where memory may be wanting; an open one wants none
+abbrev pub StandsInFor : ℕ → Option Bytes → Payload → Type 0
+StandsInFor most None p = StandsFor most None p
+StandsInFor most (Some bytes) p = StandsFor most (Some bytes) p ⊎ (p ≡ payload.NoMemory)
 
 -- the entry is the command, which is within the limits
 abbrev pub IsCommandOf : Bounds → Entry → Command → Type 0
@@ -41,13 +42,21 @@ abbrev pub ReadsAs : Bounds → Entry → Item → Type 0
 ReadsAs b e (item.Command c) = (length (line_of e) ≤ b.line) × IsCommandOf b e c
 ReadsAs b e (item.Refused r) = IsRefusalOf b (line_of e) r
 
--- the entry is read so; want of memory may stand in the place of each item
-abbrev pub IsReadAs : Bounds → Entry → Item → Type 0
-IsReadAs b e it = ReadsAs b e it ⊎ (it ≡ item.Refused refusal.Memory)
+-- the entry is read as a load with a payload that ends, for which there was no memory
+pub record LosesPayload (b : Bounds) (e : Entry) (it : Item) : Type 0 where
+  pub table : Bytes
+  pub carried : Payload
+  pub reads : ReadsAs b e (item.Command (Load table carried))
+  pub closed : is_open carried ≡ false
+  pub is : it ≡ item.Command (Load table payload.NoMemory)
 
--- a command of the item is one that a line can say, and within the limits of a line
+-- the entry is read so; want of memory may stand in the place of each item, and of each payload that ends
+abbrev pub IsReadAs : Bounds → Entry → Item → Type 0
+IsReadAs b e it = ReadsAs b e it ⊎ ((it ≡ item.Refused refusal.Memory) ⊎ LosesPayload b e it)
+
+-- a command of the item is one that a line can say, a load with any payload, and within the limits of a line
 abbrev pub IsReady : Bounds → Item → Type 0
-IsReady b (item.Command c) = (is_command c ≡ true) × (fits b c ≡ true)
+IsReady b (item.Command c) = (is_command (as_said c) ≡ true) × (fits b c ≡ true)
 IsReady b (item.Refused r) = Unit {0}
 
 -- of the bytes that were left the first entry was taken, with the blank lines and comments before it and nothing behind it, and this item was read from it

@@ -1,5 +1,6 @@
 -- Reading tokens from left to right.
 use Rattle.std.specs.Prelude.{ℕ, zero, suc, List, [], ◌∷◌, length, Option, Some, None, if◌then◌else◌}
+use Rattle.gq_token.specs.declared.token.Terminal.{Terminal}
 use Rattle.gq_token.specs.declared.token.Terminal.TheVariants as terminal
 use Rattle.gq_row.specs.declared.schema.Kind.{Kind}
 use Rattle.gq_row.specs.declared.schema.Kind.TheVariants as kind
@@ -10,7 +11,8 @@ use Rattle.gq_token.specs.declared.token.Token.{Token}
 use Rattle.gq_token.specs.declared.token.Token.TheVariants.{Fixed, Name, Number, Text}
 use Rattle.gq_command.specs.Commands.{Bytes, keeps_rules}
 use Rattle.gq_command.specs.declared.command.Command.{Command}
-use Rattle.gq_command.specs.declared.command.Command.TheVariants.{Create, Upsert, Group}
+use Rattle.gq_command.specs.declared.command.Command.TheVariants.{Create, Drop, Load, Upsert, Delete, Show, Group}
+use Rattle.gq_command.specs.declared.command.Payload.TheVariants as payload
 use Rattle.gq_command.specs.declared.command.Aggregate.TheVariants.{CountAll}
 use Rattle.gq_row.specs.declared.value.Value.{Value}
 use Rattle.gq_row.specs.declared.value.Value.TheVariants as value
@@ -71,10 +73,14 @@ in_parentheses inner ts = do
 unfoldable pub key_at : List Token → Option (List Bytes × List Token)
 key_at ts = elim (skip terminal.Comma ts) [ None ↦ Some ([], ts) | Some after ↦ skip terminal.Key after >>= λ rest. in_parentheses names_at rest ]
 
-unfoldable pub ended : {A : Type 0} → A × List Token → Option A
-ended (x, []) = Some x
-ended (x, t ∷ ts) = None
+-- a table's name, and the literals of a row
+unfoldable pub row_at : List Token → Option ((Bytes × List Value) × List Token)
+row_at ts = do
+  table ← name_at ts
+  values ← in_parentheses literals_at table.1
+  Some ((table.0, values.0), values.1)
 
+-- forms behind their first words
 unfoldable pub create_at : List Token → Option (Command × List Token)
 create_at ts = do
   table ← name_at ts
@@ -83,12 +89,6 @@ create_at ts = do
   key ← key_at columns.1
   closed ← skip terminal.Close key.1
   Some (Create table.0 columns.0 key.0, closed)
-
-unfoldable pub upsert_at : List Token → Option (Command × List Token)
-upsert_at ts = do
-  table ← name_at ts
-  values ← in_parentheses literals_at table.1
-  Some (Upsert table.0 values.0, values.1)
 
 unfoldable pub group_at : List Token → Option (Command × List Token)
 group_at ts = do
@@ -102,14 +102,38 @@ group_at ts = do
   closed ← skip terminal.Close star
   Some (Group table.0 names.0 (CountAll ∷ []) [] None [], closed)
 
+-- the form that begins with the word, behind it
+unfoldable pub form_behind : Terminal → List Token → Option (Command × List Token)
+form_behind terminal.Create ts = create_at ts
+form_behind terminal.Drop ts = do
+  table ← name_at ts
+  Some (Drop table.0, table.1)
+form_behind terminal.Load ts = do
+  table ← name_at ts
+  Some (Load table.0 payload.Open, table.1)
+form_behind terminal.Upsert ts = do
+  row ← row_at ts
+  Some (Upsert row.0.0 row.0.1, row.1)
+form_behind terminal.Delete ts = do
+  row ← row_at ts
+  Some (Delete row.0.0 row.0.1, row.1)
+form_behind terminal.Show ts = do
+  table ← name_at ts
+  Some (Show table.0, table.1)
+form_behind terminal.Group ts = group_at ts
+form_behind _ ts = None
+
 unfoldable pub form_at : List Token → Option (Command × List Token)
-form_at ts = elim (skip terminal.Create ts) [
-  | Some rest ↦ create_at rest
-  | None ↦ elim (skip terminal.Upsert ts) [
-    | Some rest ↦ upsert_at rest
-    | None ↦ elim (skip terminal.Group ts) [ Some rest ↦ group_at rest | None ↦ None ]
-  ]
-]
+form_at [] = None
+form_at (Fixed first ∷ rest) = form_behind first rest
+form_at (Name n ∷ rest) = None
+form_at (Number z ∷ rest) = None
+form_at (Text s ∷ rest) = None
+
+-- what was read, where no token is left
+unfoldable pub ended : {A : Type 0} → A × List Token → Option A
+ended (x, []) = Some x
+ended (x, t ∷ ts) = None
 
 -- the command that all of the tokens say, if they say one
 unfoldable pub command_of : List Token → Option Command

@@ -13,7 +13,11 @@
 //!
 //! ```text
 //! command = "create" name "(" column { "," column } [ "," "key" "(" names ")" ] ")"
+//!         | "drop" name
+//!         | "load" name
 //!         | "upsert" name "(" literal { "," literal } ")"
+//!         | "delete" name "(" literal { "," literal } ")"
+//!         | "show" name
 //!         | "group" name "by" names "show" "count" "(" "*" ")"
 //! column  = name ( "int" | "text" )
 //! names   = name { "," name }
@@ -25,13 +29,15 @@
 //! double quotes and isn't empty, a string in single quotes; a quote in either is doubled. Names
 //! are the same where their bytes are, quoted or not. An int is an optional `+` or `-` directly
 //! before its digits, within 64 bits, with no letter, digit or underscore right behind it. No name
-//! stands twice among the columns of a table, in a key, or behind `by`. `drop`, `load`, `delete`,
-//! `show`, `distinct` and the other parts of `group` have their places in [`Command`] and in the
-//! grammar of `specs/`; no line says one of them yet.
+//! stands twice among the columns of a table, in a key, or behind `by`. `distinct` and the other parts
+//! of `group` have their places in [`Command`] and in the grammar of `specs/`; no line says one of
+//! them yet.
 //!
 //! The one contract above this crate: [`CommandReader::next`] gives the items of a reader's bytes
 //! in order, in whatever pieces the bytes come. A command is one that its line says, within the
-//! limits; [`LineRefusal::Syntax`] comes only where the line says none, [`LineRefusal::Limit`] only
+//! limits, and a load has its payload, or what stands for it: [`Payload::Open`] exactly where no
+//! line ends it, [`Payload::TooLong`] only where it passes the limit, [`Payload::NoMemory`] only where
+//! it ends. [`LineRefusal::Syntax`] comes only where the line says none, [`LineRefusal::Limit`] only
 //! where it says one past a limit, [`LineRefusal::LineTooLong`] by the line's length alone, before
 //! all else. The laws in [`laws`] say what that rests on: no line says two commands, each item is
 //! read as one thing, and each token is the longest that the text spells.

@@ -1,5 +1,5 @@
 //! Lines as commands.
-ghost use Rattle.std.specs.Prelude.{true, false, ◌≡◌, ◌↔◌, ◌<◌, IfOk, IsErrOf, length};
+ghost use Rattle.std.specs.Prelude.{true, false, ◌≡◌, ◌&&◌, ◌↔◌, ◌<◌, IfOk, IsErrOf, length};
 ghost use Rattle.std.specs.List.{list_all};
 ghost use Rattle.gq_command.specs.Commands.{is_command, fits, is_at_most, literal_texts};
 ghost use Rattle.gq_command.specs.Lines.{command_on, Says};
@@ -7,7 +7,7 @@ ghost use Rattle.gq_token.specs.Results.{Gives};
 
 use crate::command::Command;
 use crate::parsing::command_in;
-use gq_row::{Bounds, Column, Limits, Text, Value};
+use gq_row::{Bounds, Column, Limits, Row, Text, Value};
 use gq_token::{ParseError, lex};
 use std::alloc::Global;
 use thiserror::Error;
@@ -70,6 +70,13 @@ fn values_fit(values: &[Value], most: usize) -> bool
     values.iter().all(|value| value_fits(value, most))
 }
 
+/// Whether a table's name and the literals of a row are within the limits of a line.
+fn row_fits(table: &Text, row: &Row, bounds: &Bounds) -> bool
+    ensures { result ≡ (is_at_most bounds.now.name table.now && list_all (λ v. list_all (is_at_most bounds.now.text) (literal_texts v)) row.now) }
+{
+    table.len() <= bounds.name && values_fit(row.cells(), bounds.text)
+}
+
 /// Whether a command that a line says is within the limits of a line.
 fn fits(command: &Command, bounds: &Bounds) -> bool
     requires { is_command command.now ≡ true }
@@ -86,9 +93,11 @@ fn fits(command: &Command, bounds: &Bounds) -> bool
                 && names_fit(key.as_slice(), bounds.name)
                 && columns.len() <= bounds.columns
         }
-        Command::Upsert { table, values } => {
-            table.len() <= bounds.name && values_fit(values.cells(), bounds.text)
+        Command::Drop { table } | Command::Load { table, .. } | Command::Show { table } => {
+            table.len() <= bounds.name
         }
+        Command::Upsert { table, values } => row_fits(table, values, bounds),
+        Command::Delete { table, values } => row_fits(table, values, bounds),
         Command::Group {
             table,
             by,
@@ -99,12 +108,8 @@ fn fits(command: &Command, bounds: &Bounds) -> bool
                 && names_fit(by.as_slice(), bounds.name)
                 && shown.len() <= bounds.aggregates
         }
-        // No line says one of these yet.
-        Command::Drop { .. }
-        | Command::Load { .. }
-        | Command::Delete { .. }
-        | Command::Show { .. }
-        | Command::Distinct { .. } => true,
+        // No line says one yet.
+        Command::Distinct { .. } => true,
     }
 }
 

@@ -5,7 +5,7 @@ ghost use Rattle.gq_row.specs.Repeats.{no_repeats};
 ghost use Rattle.gq_command.specs.Commands.{column_names, keeps_rules};
 ghost use Rattle.gq_token.specs.Results.{Gives};
 ghost use Rattle.gq_token.specs.Queue.{skip, column_comma};
-ghost use Rattle.gq_command.specs.Reading.{name_at, literal_at, kind_at, column_at, names_at, literals_at, columns_at, key_at, create_at, upsert_at, group_at, form_at, command_of};
+ghost use Rattle.gq_command.specs.Reading.{name_at, literal_at, kind_at, column_at, names_at, literals_at, columns_at, key_at, row_at, create_at, group_at, form_behind, form_at, command_of};
 ghost use Rattle.gq_command.specs.declared.command.Aggregate.TheVariants.{CountAll};
 ghost use Rattle.gq_command.specs.declared.command.Command.TheVariants.{Group};
 ghost use Rattle.gq_token.specs.declared.parse_error.ParseError.TheVariants.{Memory};
@@ -143,18 +143,16 @@ fn create_of(alloc: Global, tokens: &mut Tokens) -> Result<Command, ParseError>
     })
 }
 
-#[tactic(auto, unfolding(crate::specs::Reading::upsert_at, crate::specs::Reading::in_parentheses))]
-fn upsert_of(alloc: Global, tokens: &mut Tokens) -> Result<Command, ParseError>
-    ensures { Gives (λ command. (command, tokens.new)) result (upsert_at tokens.old) }
+/// A table's name, and the literals of a row.
+#[tactic(auto, unfolding(crate::specs::Reading::row_at, crate::specs::Reading::in_parentheses))]
+fn row_of(alloc: Global, tokens: &mut Tokens) -> Result<(Text, Row), ParseError>
+    ensures { Gives (λ row. (row, tokens.new)) result (row_at tokens.old) }
 {
     let table = name_of(tokens)?;
     expect(tokens, Terminal::Open)?;
     let values = literals_of(alloc, tokens)?;
     expect(tokens, Terminal::Close)?;
-    Ok(Command::Upsert {
-        table,
-        values: Row::new(values),
-    })
+    Ok((table, Row::new(values)))
 }
 
 #[tactic(auto, unfolding(crate::specs::Reading::group_at))]
@@ -189,18 +187,43 @@ fn counted(alloc: Global, table: Text, by: Vec<Text>) -> Result<Command, ParseEr
     })
 }
 
+/// The command that begins with this word, by the tokens behind it.
+#[tactic(auto, unfolding(crate::specs::Reading::form_behind))]
+fn form_behind(alloc: Global, first: Terminal, tokens: &mut Tokens) -> Result<Command, ParseError>
+    ensures { Gives (λ command. (command, tokens.new)) result (form_behind first tokens.old) }
+{
+    match first {
+        Terminal::Create => create_of(alloc, tokens),
+        Terminal::Drop => Ok(Command::Drop {
+            table: name_of(tokens)?,
+        }),
+        Terminal::Load => Ok(Command::Load {
+            table: name_of(tokens)?,
+            payload: Payload::Open,
+        }),
+        Terminal::Upsert => {
+            let (table, values) = row_of(alloc, tokens)?;
+            Ok(Command::Upsert { table, values })
+        }
+        Terminal::Delete => {
+            let (table, values) = row_of(alloc, tokens)?;
+            Ok(Command::Delete { table, values })
+        }
+        Terminal::Show => Ok(Command::Show {
+            table: name_of(tokens)?,
+        }),
+        Terminal::Group => group_of(alloc, tokens),
+        _ => Err(ParseError::Syntax),
+    }
+}
+
 #[tactic(auto, unfolding(crate::specs::Reading::form_at))]
 fn form_of(alloc: Global, tokens: &mut Tokens) -> Result<Command, ParseError>
     ensures { Gives (λ command. (command, tokens.new)) result (form_at tokens.old) }
 {
-    if tokens.skip(Terminal::Create) {
-        create_of(alloc, tokens)
-    } else if tokens.skip(Terminal::Upsert) {
-        upsert_of(alloc, tokens)
-    } else if tokens.skip(Terminal::Group) {
-        group_of(alloc, tokens)
-    } else {
-        Err(ParseError::Syntax)
+    match tokens.take() {
+        Some(Token::Fixed(first)) => form_behind(alloc, first, tokens),
+        _ => Err(ParseError::Syntax),
     }
 }
 

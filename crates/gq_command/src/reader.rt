@@ -1,10 +1,10 @@
 //! The commands of a script.
-ghost use Rattle.std.specs.Prelude.{◌≡◌, ◌≤◌, ℕ, [], false, Some, None, IfOk, IfSome, IfNone, OnOk};
+ghost use Rattle.std.specs.Prelude.{◌≡◌, ◌≤◌, ℕ, [], false, Option, Some, IfOk, IfSome, IfNone, OnOk};
 ghost use Rattle.gq_command.specs.Commands.{Bytes};
 ghost use Rattle.gq_script.specs.Script.{raw_lines, first_entry, items_left, is_skipped, Counts, Plain};
 ghost use Rattle.gq_script.specs.Gathering.{Gathers};
 ghost use Rattle.gq_command.specs.Items.{Gave, IsReadAs, IsReady, StandsInFor, with_payload};
-ghost use Rattle.gq_script.specs.Payloads.{Holds, KeptOf};
+ghost use Rattle.gq_script.specs.Payloads.{Holds, KeptTold};
 
 use crate::command::{Command, Payload};
 use crate::lines::{LineRefusal, parse_line};
@@ -54,8 +54,7 @@ fn kept_for(alloc: Global, item: &Item) -> Kept
 
 /// What stands for a payload of which this was kept, or for an open one.
 fn payload_of(kept: Option<Kept>) -> Payload
-    ensures open_is { kept ≡ None → result ≡ Payload.Open }
-    ensures closed { (most : ℕ) (bytes : Bytes) → KeptOf most bytes kept → StandsInFor most bytes result }
+    ensures { (most : ℕ) (told : Option Bytes) → KeptTold most told kept → StandsInFor most told result }
 {
     match kept {
         None => Payload::Open,

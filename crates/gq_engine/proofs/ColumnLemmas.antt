@@ -5,7 +5,7 @@ use Rattle.std.specs.List.{list_any, list_all}
 use Rattle.std.proofs.lemmas.Bool.{eqb-true, ltb-true, lt-ltb, not-true}
 use Rattle.std.proofs.lemmas.Slice.Eq.{bytes_eq-Decides}
 use Rattle.std.proofs.lemmas.List.Quantifiers.{position-Some}
-use Rattle.std.proofs.lemmas.List.Elements.{All-cons, All-nil}
+use Rattle.std.proofs.lemmas.List.Elements.{All-cons, All-nil, All-weaker}
 use Rattle.gq_row.specs.declared.schema.Column.{Column}
 use Rattle.gq_row.specs.declared.value.Value.{Value}
 use Rattle.gq_row.specs.declared.schema.Kind.TheVariants as kind
@@ -13,8 +13,8 @@ use Rattle.gq_row.specs.Headings.{is_heading, position_of, positions_of}
 use Rattle.gq_row.specs.Repeats.{no_repeats}
 use Rattle.gq_row.specs.Tables.{PlainTable}
 use Rattle.gq_row.specs.Fitting.{fits_columns, goes_in}
-use Rattle.gq_engine.specs.Standing.{IsStanding}
-use Rattle.gq_engine.proofs.PutLemmas.{two, both}
+use Rattle.gq_table.specs.Standing.{IsStanding}
+use Rattle.gq_table.proofs.StandingLemmas.{two, both}
 
 pub no_false : false ≡ true → ⊥
 no_false e = let none : ⊥ = cc in none
@@ -110,14 +110,15 @@ all_tested : {X : Type 0} (P : X → Type 0) (p : X → Bool) → ((x : X) → p
 all_tested P p says [] h = All-nil P
 all_tested P p says (x ∷ xs) h = All-cons P x xs (says x (two (p x) (list_all p xs) h).0) (all_tested P p says xs (two (p x) (list_all p xs) h).1)
 
--- the columns of a key that was found are those of each row of a table
-pub rows_long_enough : (table : PlainTable) (names : List (List ℕ)) (positions : List ℕ) (rows : List (List Value)) → IsStanding table → positions_of table.heading.columns names ≡ Some positions → rows ≡ table.rows
-    → All (λ row. All (λ position. position < length row) positions) rows
-rows_long_enough table names positions rows standing h e =
+-- the positions that were found are those of columns
+pub positions_within : (columns : List Column) (names : List (List ℕ)) (positions : List ℕ) → positions_of columns names ≡ Some positions → All (λ position. position < length columns) positions
+positions_within columns names positions h =
+    all_tested (λ position. position < length columns) (λ position. nat_lt position (length columns)) (λ position below. ltb-true position (length columns) below) positions (all_in_range columns names positions h)
+
+-- positions of columns are positions in each row of a table
+pub rows_long_enough : (table : PlainTable) (positions : List ℕ) → IsStanding table → All (λ position. position < length table.heading.columns) positions → All (λ row. All (λ position. position < length row) positions) table.rows
+rows_long_enough table positions standing within =
     let Long : List Value → Type 0 = λ row. All (λ position. position < length row) positions in
-    let Rows : List (List Value) → Type 0 = λ l. All Long l in
     let long : (row : List Value) → fits_columns table.heading.columns row ≡ true → Long row =
-    λ row fits. all_tested (λ position. position < length row) (λ position. nat_lt position (length table.heading.columns))
-    (λ position below. omega (arith, ltb-true position (length table.heading.columns) below, as_long table.heading.columns row fits))
-    positions (all_in_range table.heading.columns names positions h) in
-    subst Rows (sym e) (all_tested Long (fits_columns table.heading.columns) long table.rows standing.fitting)
+    λ row fits. All-weaker (λ position. position < length table.heading.columns) (λ position. position < length row) (λ position below. omega (arith, below, as_long table.heading.columns row fits)) positions within in
+    all_tested Long (fits_columns table.heading.columns) long table.rows standing.fitting

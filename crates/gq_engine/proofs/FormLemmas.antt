@@ -1,5 +1,5 @@
 -- The steps of drop, load, delete and show, one after the other.
-use Rattle.std.proofs.Common.{◌≡◌, ℕ, true, false, not, IsTrue, List, length, ap, ◌∙◌, refl, Some, None}
+use Rattle.std.proofs.Common.{◌≡◌, ◌⊎◌, inl, inr, ℕ, true, false, not, IsTrue, List, length, ap, ◌∙◌, refl, Some, None}
 use Rattle.std.specs.Prelude.{Result, Ok, Err, remove, if◌then◌else◌}
 use Rattle.std.specs.List.{list_any}
 use Rattle.gq_row.specs.declared.value.Value.{Value}
@@ -15,7 +15,7 @@ use Rattle.gq_reply.specs.declared.reply.Reply.TheVariants as reply
 use Rattle.gq_reply.specs.Refusals.{unnumbered}
 use Rattle.gq_engine.specs.Answers.{rows_shown}
 use Rattle.gq_engine.specs.Databases.{Database, StandsAt, table_at, with_table, without_table, names_differ}
-use Rattle.gq_engine.specs.Loading.{is_lost, rows_told}
+use Rattle.gq_engine.specs.Loading.{bytes_told, is_lost, rows_told}
 use Rattle.gq_engine.specs.Outcomes.{◌>>=◌}
 use Rattle.gq_engine.specs.Refusing.{put_all_within, fits_key}
 use Rattle.gq_engine.specs.Steps.{drop_table, with_rows, load_table, delete_row, show_table}
@@ -89,6 +89,19 @@ module _ (limits : Bounds) (db : Database) (name : List ℕ) where
 
     pub load_too_long : load_table limits db name payload.TooLong ≡ Err (unnumbered Limit)
     load_too_long = finds NoTable (table_at db name) table _ found
+
+    pub load_untold : (carried : Payload) (why : Refused) → is_lost carried ≡ false → bytes_told carried ≡ Err why → load_table limits db name carried ≡ Err why
+    load_untold carried why lost h =
+        passes Memory (not (is_lost carried)) _ (ap not lost) ∙ finds NoTable (table_at db name) table _ found ∙ stops (bytes_told carried) why _ h
+
+    pub load_told : (carried : Payload) (bytes : Bytes) (why : Refused) → is_lost carried ≡ false → bytes_told carried ≡ Ok bytes → rows_told limits table.heading bytes ≡ Err why → load_table limits db name carried ≡ Err why
+    load_told carried bytes why lost h k =
+        passes Memory (not (is_lost carried)) _ (ap not lost) ∙ finds NoTable (table_at db name) table _ found ∙ gives (bytes_told carried) bytes _ h ∙ stops (rows_told limits table.heading bytes) why _ k
+
+    pub load_faulted : (carried : Payload) (bytes : Bytes) (why : Refused) → is_lost carried ≡ false → bytes_told carried ≡ Ok bytes → (why ≡ unnumbered Memory) ⊎ (rows_told limits table.heading bytes ≡ Err why)
+        → (why ≡ unnumbered Memory) ⊎ (load_table limits db name carried ≡ Err why)
+    load_faulted carried bytes why lost h (inl e) = inl e
+    load_faulted carried bytes why lost h (inr e) = inr (load_told carried bytes why lost h e)
 
     pub load_faulty : (bytes : Bytes) (why : Refused) → rows_told limits table.heading bytes ≡ Err why → load_table limits db name (payload.Bytes bytes) ≡ Err why
     load_faulty bytes why h = finds NoTable (table_at db name) table _ found ∙ stops (rows_told limits table.heading bytes) why _ h

@@ -1,5 +1,5 @@
 -- The different keys of rows, one row after the other, and the groups in order.
-use Rattle.std.proofs.Common.{◌≡◌, ◌+◌, ◌<◌, ◌≤◌, ℕ, Bool, true, false, cond, List, [], ◌∷◌, ◌++◌, length, take, get_or, map, refl, sym, ap, ◌∙◌, arith, Ordering, subst, not, IsTrue}
+use Rattle.std.proofs.Common.{◌≡◌, ◌≤◌, ℕ, true, false, cond, List, [], ◌∷◌, ◌++◌, length, take, map, refl, sym, ap, ◌∙◌, arith, Ordering, subst, not, IsTrue, append_assoc}
 use Rattle.std.specs.Prelude.{IsPermutation}
 use Rattle.std.specs.List.{list_any}
 use Rattle.std.specs.List.Sorted.{IsSortedByKey, IsSortedByClosure}
@@ -10,7 +10,7 @@ use Rattle.std.proofs.lemmas.List.Sorted.{ranks_by}
 use Rattle.std.proofs.lemmas.Fn.{always_returns_same}
 use Rattle.std.specs.Ordering.{is_lt}
 use Rattle.std.proofs.lemmas.List.Filters.{length-filter_both}
-use Rattle.std.proofs.lemmas.List.{take_more, take_all}
+use Rattle.std.proofs.lemmas.List.{append-nil, take_all}
 use Rattle.gq_row.specs.declared.value.Value.{Value}
 use Rattle.gq_row.specs.Order.{same_key, compare_keys}
 use Rattle.gq_row.specs.Rows.{key_of}
@@ -23,24 +23,32 @@ use Rattle.gq_row.proofs.ArrangeLemmas.{in_order-alone}
 use Rattle.gq_row.proofs.DistinctLemmas.{no_repeats-without}
 use Rattle.gq_engine.specs.Answers.{count_row, counted_groups}
 
--- the keys of one more row, where a search told whether its key is one of them
-keys_more : (columns : List ℕ) (rows : List (List Value)) (i : ℕ) (row : List Value) (here : Bool) → i < length rows → row ≡ get_or rows i row
-    → here ≡ list_any (λ key. same_key (key_of columns row) key) (keys columns (take i rows))
-    → keys columns (take (i + 1) rows) ≡ cond here (keys columns (take i rows)) (keys columns (take i rows) ++ key_of columns row ∷ [])
-keys_more columns rows i row here lt is h =
-    ap (keys columns) (take_more rows i row lt ∙ ap (λ r. take i rows ++ r ∷ []) (sym is))
-    ∙ keys-push columns (take i rows) row
-    ∙ ap (λ b. cond b (keys columns (take i rows)) (keys columns (take i rows) ++ key_of columns row ∷ [])) (sym h)
+-- the keys that are known, and those of further rows that are not
+abbrev pub keys_with : List ℕ → List (List Value) → List (List Value) → List (List Value)
+keys_with columns known [] = known
+keys_with columns known (row ∷ rows) = keys_with columns (cond (list_any (λ key. same_key (key_of columns row) key) known) known (known ++ key_of columns row ∷ [])) rows
 
-pub keys_kept : (columns : List ℕ) (rows : List (List Value)) (i : ℕ) (row : List Value) (here : Bool) → i < length rows → row ≡ get_or rows i row
-    → here ≡ list_any (λ key. same_key (key_of columns row) key) (keys columns (take i rows)) → here ≡ true
-    → keys columns (take (i + 1) rows) ≡ keys columns (take i rows)
-keys_kept columns rows i row here lt is h t = keys_more columns rows i row here lt is h ∙ ap (λ b. cond b (keys columns (take i rows)) (keys columns (take i rows) ++ key_of columns row ∷ [])) t
+keys_with-more : (columns : List ℕ) (done rows : List (List Value)) → keys_with columns (keys columns done) rows ≡ keys columns (done ++ rows)
+keys_with-more columns done [] = ap (keys columns) (sym (append-nil done))
+keys_with-more columns done (row ∷ rows) =
+    ap (λ known. keys_with columns known rows) (sym (keys-push columns done row))
+    ∙ keys_with-more columns (done ++ row ∷ []) rows
+    ∙ ap (keys columns) (append_assoc done (row ∷ []) rows)
 
-pub keys_added : (columns : List ℕ) (rows : List (List Value)) (i : ℕ) (row : List Value) (here : Bool) → i < length rows → row ≡ get_or rows i row
-    → here ≡ list_any (λ key. same_key (key_of columns row) key) (keys columns (take i rows)) → here ≡ false
-    → keys columns (take (i + 1) rows) ≡ keys columns (take i rows) ++ key_of columns row ∷ []
-keys_added columns rows i row here lt is h t = keys_more columns rows i row here lt is h ∙ ap (λ b. cond b (keys columns (take i rows)) (keys columns (take i rows) ++ key_of columns row ∷ [])) t
+-- one more row, whose key is known
+pub keys_with-known : (columns : List ℕ) (known all : List (List Value)) (row : List Value) (rest : List (List Value)) → all ≡ row ∷ rest → list_any (λ key. same_key (key_of columns row) key) known ≡ true
+    → keys_with columns known rest ≡ keys_with columns known all
+keys_with-known columns known all row rest e h =
+    sym (ap (keys_with columns known) e ∙ ap (λ b. keys_with columns (cond b known (known ++ key_of columns row ∷ [])) rest) h)
+
+-- one more row, whose key is new
+pub keys_with-new : (columns : List ℕ) (known all : List (List Value)) (row : List Value) (rest : List (List Value)) → all ≡ row ∷ rest → list_any (λ key. same_key (key_of columns row) key) known ≡ false
+    → keys_with columns (known ++ key_of columns row ∷ []) rest ≡ keys_with columns known all
+keys_with-new columns known all row rest e h =
+    sym (ap (keys_with columns known) e ∙ ap (λ b. keys_with columns (cond b known (known ++ key_of columns row ∷ [])) rest) h)
+
+pub keys_with-all : (columns : List ℕ) (rows : List (List Value)) → keys_with columns [] rows ≡ keys columns rows
+keys_with-all columns rows = keys_with-more columns [] rows
 
 -- what a sort by a closure that compares keys ensures
 pub sorted_keys : {F : Type 0} {g : Mut F (Bor (List Value) × (Bor (List Value) × Unit {0})) Ordering} {f : F} (xs : List (List Value)) → IsSortedByClosure g f xs

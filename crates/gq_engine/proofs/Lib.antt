@@ -5,9 +5,9 @@ pub mod GroupLemmas
 pub mod KeyLemmas
 pub mod MapLemmas
 pub mod OrderLemmas
+pub mod OrderingLemmas
 pub mod PlainRuns
 pub mod PlainSteps
-pub mod PutLemmas
 pub mod RepeatedRuns
 pub mod RunLemmas
 pub mod StepLemmas

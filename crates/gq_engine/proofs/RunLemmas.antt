@@ -21,7 +21,7 @@ use Rattle.gq_engine.specs.Runs.{Setting, LegalAnswer, AsListsAnswer, WantsMemor
 use Rattle.gq_engine.specs.Headline.{State, Answered, Ran}
 use Rattle.gq_engine.specs.Serving.{Wrote, WroteFront}
 use Rattle.gq_reply.proofs.Texts.{flat_map-push}
-use Rattle.gq_engine.proofs.OrderLemmas.{same_tables, answered_from, keyed_after}
+use Rattle.gq_engine.proofs.OrderLemmas.{same_tables, answer_lost, answered_from, keyed_after}
 use Rattle.gq_engine.proofs.Bytes.{appends_more, appends_nothing}
 
 -- a run so far: the entries that were answered, and the bytes that are left
@@ -63,7 +63,11 @@ no_store setting between reply new (StoreLied kept grouping lied) = absurd group
 step_of : (setting : Setting) (between : Database) (entry : Entry) (it : Item) (reply : Reply) (new : Database) → IsReadAs setting.limits entry it → LegalAnswer setting between it reply new → LegalStep setting between entry reply new
 step_of setting between entry it reply new r h =
     let P : Item → Type 0 = λ i. LegalAnswer setting between i reply new in
-    elim r as (λ _. LegalStep setting between entry reply new) [ inl p ↦ inl (it, p, h) | inr e ↦ inr (no_store setting between reply new (subst P e h)) ]
+    elim r as (λ _. LegalStep setting between entry reply new) [
+      | inl p ↦ inl (it, p, h)
+      | inr (inl e) ↦ inr (no_store setting between reply new (subst P e h))
+      | inr (inr lost) ↦ inr (answer_lost setting between new lost.table reply (subst P lost.is h))
+    ]
 
 pub begin : (setting : Setting) (old : State) (script : Option Bytes) (reader : Pending) (before : Option Bytes) → IsKeyed old.database → IfSome script (λ bytes. reader.left ≡ Some (without_mark bytes)) → IfSome script (λ bytes. reader.given + length (without_mark bytes) ≡ length bytes)
     → Going setting old script old reader before before 0 0

@@ -5,15 +5,15 @@ use Rattle.gq_engine.specs.Databases.{Database}
 use Rattle.gq_engine.specs.Headline.{State}
 use Rattle.gq_engine.specs.Runs.{Setting}
 
-abbrev pub database : Engine → Database
+abbrev pub database : {H : Type 0} → Engine H → Database
 database engine = engine.catalog
 
 -- an engine that keeps no runs has a store that never fails and never lies
-abbrev pub setting_of : Engine → Setting
+abbrev pub setting_of : {H : Type 0} → Engine H → Setting
 setting_of engine = record { limits = engine.limits.bounds; honest = true }
 
-abbrev pub failures_of : Engine → ℕ
+abbrev pub failures_of : {H : Type 0} → Engine H → ℕ
 failures_of engine = 0
 
-abbrev pub state_of : Engine → State
+abbrev pub state_of : {H : Type 0} → Engine H → State
 state_of engine = record { database = database engine; failures = failures_of engine }

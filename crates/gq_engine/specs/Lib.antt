@@ -14,5 +14,4 @@ pub mod Refusing
 pub mod Engines
 -- contracts of single functions
 pub mod Sending
-pub mod Standing
 pub mod Serving

@@ -1,17 +1,22 @@
 -- What answering one item and writing its reply did.
-use Rattle.std.specs.Prelude.{◌≡◌, ◌⊎◌, ◌∷◌, [], Option, Result, Ok, Err}
+use Rattle.std.specs.Prelude.{◌≡◌, ◌⊎◌, Bool, List, ◌∷◌, [], Option, Result, Ok, Err, IsPermutation, if◌then◌else◌}
 use Rattle.std.specs.Io.KnownBytes.{Appends}
+use Rattle.gq_row.specs.declared.value.Value.{Value}
+use Rattle.gq_row.specs.Tables.{PlainTable, has_row}
+use Rattle.gq_table.specs.Changes.{IsDeleted}
 use Rattle.gq_command.specs.declared.reader.Item.{Item}
 use Rattle.gq_command.specs.Commands.{Bytes}
 use Rattle.gq_reply.specs.declared.refusal.Refusal.TheVariants.{Memory}
 use Rattle.gq_reply.specs.declared.refusal.Refused.{Refused}
 use Rattle.gq_reply.specs.declared.reply.Reply.{Reply}
+use Rattle.gq_reply.specs.declared.reply.Reply.TheVariants as reply
 use Rattle.gq_engine.specs.declared.sending.WriteFault.{WriteFault}
 use Rattle.gq_engine.specs.Databases.{Database}
 use Rattle.gq_engine.specs.Headline.{State}
 use Rattle.gq_reply.specs.Refusals.{unnumbered}
 use Rattle.gq_reply.specs.Replies.{text}
 use Rattle.gq_engine.specs.Runs.{Setting, AnsweredAlike, SameTables, KeptUnlessDone, FaultsHappened}
+use Rattle.gq_engine.specs.Refusing.{key_within}
 use Rattle.gq_engine.specs.Sending.{AppendsFront}
 use Rattle.gq_engine.specs.Steps.{Outcome}
 
@@ -36,6 +41,32 @@ ComesSurely steps (Err why) old new = SameTables old new × (steps ≡ Err why)
 abbrev pub Changes : {X : Type 0} → Result Database Refused → Result X Refused → Database → Database → Type 0
 Changes steps (Ok x) old new = (last : Database) × (steps ≡ Ok last) × SameTables last new
 Changes steps (Err why) old new = SameTables old new × ((why ≡ unnumbered Memory) ⊎ (steps ≡ Err why))
+
+-- what a command did that takes no memory: what its steps come to, with this answer, or they are refused
+abbrev pub Settles : {X : Type 0} → (X → Reply) → Outcome → Result X Refused → Database → Database → Type 0
+Settles answer steps (Ok x) old new = (last : Database) × (steps ≡ Ok (last, answer x)) × SameTables last new
+Settles answer steps (Err why) old new = SameTables old new × (steps ≡ Err why)
+
+-- a table has the rows that some steps give, but for their order
+pub record HasRows (steps : Result (List (List Value)) Refused) (old new : PlainTable) : Type 0 where
+  pub given : List (List Value)
+  pub done : steps ≡ Ok given
+  pub heading : new.heading ≡ old.heading
+  pub same : IsPermutation given new.rows
+
+-- what a change of one table did: what its steps come to, or they are refused, or there was no memory; the last two leave the table
+abbrev pub Takes : {X : Type 0} → Result (List (List Value)) Refused → Result X Refused → PlainTable → PlainTable → Type 0
+Takes steps (Ok x) old new = HasRows steps old new
+Takes steps (Err why) old new = (new ≡ old) × ((why ≡ unnumbered Memory) ⊎ (steps ≡ Err why))
+
+-- what a delete from one table did: the row of the key is away, and whether there was one is told; or it is refused and the table left
+abbrev pub Deletes : List Value → Result Bool Refused → PlainTable → PlainTable → Type 0
+Deletes key (Ok found) old new = (key_within old.heading key ≡ Ok tt) × IsDeleted old key new × (found ≡ has_row old.heading.key old.rows key)
+Deletes key (Err why) old new = (new ≡ old) × (key_within old.heading key ≡ Err why)
+
+-- the reply to a delete
+abbrev pub deleted : Bool → Reply
+deleted found = reply.Done (if found then 1 else 0)
 
 -- an item was answered, and the reply's text written
 pub record Wrote (setting : Setting) (old : State) (it : Item) (new : State) (before after : Option Bytes) (answer : Reply) : Type 0 where

@@ -1,24 +1,33 @@
 //! The tables of a database, by their names.
-ghost use Rattle.std.specs.Prelude.{◌≡◌, ◌++◌, ◌∷◌, [], IfOk, OnOk, OnErr, length, option_copied, MatchOption, None};
+ghost use Rattle.std.specs.Prelude.{◌≡◌, ◌++◌, ◌∷◌, [], IsTrue, IfSome, OnOk, OnErr, length, option_copied, MatchOption, None};
+ghost use Rattle.std.specs.List.{list_all};
+ghost use Rattle.gq_row.specs.Fitting.{fits_columns};
+ghost use Rattle.gq_reply.specs.declared.reply.Reply.TheVariants.{Done};
+ghost use Rattle.gq_reply.specs.Refusals.{unnumbered};
+ghost use Rattle.gq_table.specs.Standing.{IsStanding};
 ghost use Rattle.gq_engine.specs.Databases.{table_at, StandsAt, IsKeyed};
-ghost use Rattle.gq_engine.specs.Serving.{Changes};
-ghost use Rattle.gq_engine.specs.Steps.{with_row};
+ghost use Rattle.gq_engine.specs.Refusing.{put_within, put_all_within, table_refusal};
+ghost use Rattle.gq_engine.specs.Serving.{Changes, Settles, Takes, Deletes, deleted};
+ghost use Rattle.gq_engine.specs.Steps.{with_row, with_rows, delete_row, drop_table};
 
-use crate::table::Table;
+use crate::keys::check_key;
 use gq_reply::{Refusal, Refused};
-use gq_row::{Limits, Row, Schema, Text};
+use gq_row::{Key, Limits, Row, Schema, Sequence, Text, Value};
+use gq_table::{Table, TableRefusal};
 use std::alloc::{AllocError, Global};
 use std::marker::Model;
+use sw_probe::KeyHash;
 
 /// Tables by their names, in a list that is searched from its front, since there are few. No name
 /// stands twice.
 #[derive(Drop)]
-pub struct Catalog {
+pub struct Catalog<H: KeyHash<Key>> {
     alloc: Global,
-    tables: Vec<(Text, Table)>,
+    hasher: H,
+    tables: Vec<(Text, Table<H>)>,
 }
 
-impl Model for Catalog {
+impl<H: KeyHash<Key>> Model for Catalog<H> {
     ghost use Rattle.gq_engine.specs.Databases.{Database};
 
     ghost Value = { Database };
@@ -31,12 +40,14 @@ impl Model for Catalog {
     ghost invariant = { λ c. IsTrue (names_differ c.tables.items) × IsKeyed c.tables.items };
 }
 
-impl Catalog {
-    pub fn new(alloc: Global) -> Catalog
+impl<H: KeyHash<Key> + Copy> Catalog<H> {
+    /// A catalog without tables, whose keys will be hashed by `hasher`.
+    pub fn new(alloc: Global, hasher: H) -> Catalog<H>
         ensures { result ≡ [] }
     {
         Catalog {
             alloc,
+            hasher,
             tables: Vec::new(alloc),
         }
     }
@@ -50,7 +61,7 @@ impl Catalog {
     }
 
     /// The table of a name.
-    pub fn get(&self, name: &str) -> Option<&Table>
+    pub fn get(&self, name: &str) -> Option<&Table<H>>
         ensures { option_copied result ≡ table_at self.now name.now }
     {
         let i = find_table(self.tables.as_slice(), name)?;
@@ -62,11 +73,41 @@ impl Catalog {
         ensures { Changes (with_row limits.now.bounds self.old name.now row) result self.old self.new }
     {
         match find_table(self.tables.as_slice(), name) {
+            Some(i) => put_row(&mut self.tables[i].1, row, limits),
+            None => Err(Refused::from(Refusal::NoTable)),
+        }
+    }
+
+    /// Puts rows that fit it into the table of a name, one after the other: all or none.
+    pub fn load(&mut self, name: &str, rows: Sequence<Row>, limits: &Limits) -> Result<(), Refused>
+        requires { IfSome (table_at self.old name.now) (λ table. IsTrue (list_all (fits_columns table.heading.columns) rows)) }
+        ensures { Changes (with_rows limits.now.bounds self.old name.now rows) result self.old self.new }
+    {
+        match find_table(self.tables.as_slice(), name) {
+            Some(i) => put_rows(&mut self.tables[i].1, rows, limits),
+            None => Err(Refused::from(Refusal::NoTable)),
+        }
+    }
+
+    /// Takes the row of a key out of the table of a name, and tells whether there was one. It takes
+    /// no memory.
+    pub fn delete(&mut self, name: &str, key: &[Value]) -> Result<bool, Refused>
+        ensures { Settles deleted (delete_row self.old name.now key.now) result self.old self.new }
+    {
+        match find_table(self.tables.as_slice(), name) {
+            Some(i) => delete_row(&mut self.tables[i].1, key),
+            None => Err(Refused::from(Refusal::NoTable)),
+        }
+    }
+
+    /// Takes the table of a name out. It takes no memory.
+    pub fn remove(&mut self, name: &str) -> Result<(), Refused>
+        ensures { Settles (λ _. Done 0) (drop_table self.old name.now) result self.old self.new }
+    {
+        match find_table(self.tables.as_slice(), name) {
             Some(i) => {
-                let table = &mut self.tables[i].1;
-                let taken = table.upsert(row, limits);
-                let _standing = table.rows();
-                taken
+                drop(self.tables.remove(i));
+                Ok(())
             }
             None => Err(Refused::from(Refusal::NoTable)),
         }
@@ -78,13 +119,13 @@ impl Catalog {
         ensures ok { OnOk result (self.new ≡ self.old ++ (name, record { heading = schema; rows = [] }) ∷ []) }
         ensures err { OnErr result (self.new ≡ self.old) }
     {
-        let table = Table::new(self.alloc, schema);
+        let table = Table::new(self.alloc, schema, self.hasher);
         self.tables.push((name, table))?;
         Ok(())
     }
 }
 
-fn find_table(tables: &[(Text, Table)], name: &str) -> Option<usize>
+fn find_table<H: KeyHash<Key>>(tables: &[(Text, Table<H>)], name: &str) -> Option<usize>
     ensures { MatchOption result (table_at tables.now name.now ≡ None) (λ i. StandsAt tables.now name.now i) }
 {
     for (i, entry) in tables.iter().enumerate() {
@@ -93,4 +134,65 @@ fn find_table(tables: &[(Text, Table)], name: &str) -> Option<usize>
         }
     }
     None
+}
+
+// Puts a row into a table, or says why the table refuses it.
+fn put_row<H: KeyHash<Key> + Copy>(
+    table: &mut Table<H>,
+    row: Row,
+    limits: &Limits,
+) -> Result<(), Refused>
+    ensures takes { Takes (put_within limits.now.bounds table.old row) result table.old table.new }
+    ensures standing { IsStanding table.new }
+{
+    let taken = table.upsert(row, limits);
+    let _standing = table.rows();
+    match taken {
+        Ok(()) => Ok(()),
+        Err(why) => Err(refused_by_table(why)),
+    }
+}
+
+// Puts rows that fit it into a table, or says why the table refuses them.
+fn put_rows<H: KeyHash<Key> + Copy>(
+    table: &mut Table<H>,
+    rows: Sequence<Row>,
+    limits: &Limits,
+) -> Result<(), Refused>
+    requires { IsTrue (list_all (fits_columns table.old.heading.columns) rows) }
+    ensures takes { Takes (put_all_within limits.now.bounds table.old rows) result table.old table.new }
+    ensures standing { IsStanding table.new }
+{
+    let taken = table.load(rows, limits);
+    let _standing = table.rows();
+    match taken {
+        Ok(()) => Ok(()),
+        Err(why) => Err(refused_by_table(why)),
+    }
+}
+
+// Takes the row of a key out of a table, or says why the key is none.
+fn delete_row<H: KeyHash<Key> + Copy>(table: &mut Table<H>, key: &[Value]) -> Result<bool, Refused>
+    ensures deletes { Deletes key.now result table.old table.new }
+    ensures standing { IsStanding table.new }
+{
+    if let Err(why) = check_key(table.schema(), key) {
+        let _standing = table.rows();
+        return Err(why);
+    }
+    let found = table.delete(key);
+    let _standing = table.rows();
+    Ok(found)
+}
+
+// A table's refusal, as that of a command.
+fn refused_by_table(why: TableRefusal) -> Refused
+    ensures { result ≡ unnumbered (table_refusal why) }
+{
+    Refused::from(match why {
+        TableRefusal::TypeMismatch => Refusal::TypeMismatch,
+        TableRefusal::NullKey => Refusal::NullKey,
+        TableRefusal::Limit => Refusal::Limit,
+        TableRefusal::Memory => Refusal::Memory,
+    })
 }

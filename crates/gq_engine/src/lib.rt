@@ -11,9 +11,9 @@
 //! - [`Engine::run`] reads the items of a script one after the other, answers each, writes the
 //!   reply's text and flushes. [`Engine::execute`] carries out one command, and [`reply_text`] is
 //!   the text of a reply.
-//! - A table is a list of rows under a schema; a row that is put replaces the row of the same key,
-//!   or is added. Tables are found by linear search, and so are groups: their keys are sorted at
-//!   the end.
+//! - A table has a schema and rows, which stand in a flat map under their keys, or in a list where
+//!   the table has no key (`gq_table`); a row that is put replaces the row of the same key, or is
+//!   added. Tables are found by linear search, and so are groups: their keys are sorted at the end.
 //! - A command is refused by the first reason that applies, and a refused command changes nothing.
 //!   Want of memory may stand in place of any reply.
 //!
@@ -31,10 +31,13 @@ mod catalog;
 mod cells;
 mod engine;
 mod grouping;
+mod keys;
 pub mod laws;
+mod ordering;
+mod payloads;
 mod run;
 mod sending;
-mod table;
+mod showing;
 
 pub use engine::Engine;
 pub use gq_reply::{Refusal, Refused, Reply, reply_text};

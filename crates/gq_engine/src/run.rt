@@ -8,8 +8,10 @@ use crate::engine::Engine;
 use crate::sending::{WriteFault, send};
 use gq_command::{CommandReader, Item, LineRefusal, ReadFault};
 use gq_reply::{Refusal, Reply, line_of, rows_text};
+use gq_row::Key;
 use std::alloc::AllocError;
 use std::io::{Read, Write};
+use sw_probe::KeyHash;
 use thiserror::Error;
 
 /// What a run counted.
@@ -46,7 +48,7 @@ pub enum Fault {
     Write,
 }
 
-impl Engine {
+impl<H: KeyHash<Key> + Copy> Engine<H> {
     ghost use Rattle.std.specs.Prelude.{◌≡◌, ◌∷◌, [], IfSome, IfNone};
     ghost use Rattle.gq_command.specs.Items.{IsReady};
     ghost use Rattle.gq_engine.specs.Engines.{database, failures_of, setting_of, state_of};

@@ -7,6 +7,7 @@ use std::alloc::{AllocError, Global};
 use std::io::ErrorKind;
 use std::process::Abort;
 use std::test::Fail;
+use sw_probe::Fnv1a;
 
 /// The replies to the first lines of the script.
 fn replies_to(alloc: Global, lines: usize) -> Result<Vec<u8>, AllocError> {
@@ -29,7 +30,12 @@ fn cities_after(commands: usize) -> &'static [u8] {
 }
 
 /// Asserts that the tables are those after the first commands of the script.
-fn assert_stands_after(rt: &impl Abort, alloc: Global, engine: &mut Engine, commands: usize) {
+fn assert_stands_after(
+    rt: &impl Abort,
+    alloc: Global,
+    engine: &mut Engine<Fnv1a>,
+    commands: usize,
+) {
     let mut written = Vec::new(alloc);
     let ended = engine.run(b"group s by city show count(*)".as_slice(), &mut written);
     assert!(rt; ended.is_ok());
@@ -47,7 +53,7 @@ fn each_read_fails(rt: HostRuntime) -> Result<(), Fail> {
     let whole = script(rt.alloc())?;
     for fails_at in 1..whole.len().saturating_add(2) {
         for error in [ErrorKind::Other, ErrorKind::Interrupted] {
-            let mut engine = Engine::new(rt.alloc(), Limits::greatest());
+            let mut engine = Engine::new(rt.alloc(), Fnv1a { seed: 0 }, Limits::greatest());
             let mut written = Vec::new(rt.alloc());
             let reader = Pieces {
                 bytes: whole.as_slice(),
@@ -84,7 +90,7 @@ fn a_reader_without_an_end(rt: HostRuntime) -> Result<(), Fail> {
     // whole within the limit are answered.
     let cases: [([u8; 2], usize); 4] = [(*b"\n\n", 0), (*b"xx", 0), (*b"  ", 0), (*b"x\n", 50)];
     for (bytes, lines) in cases {
-        let mut engine = Engine::new(rt.alloc(), limits);
+        let mut engine = Engine::new(rt.alloc(), Fnv1a { seed: 0 }, limits);
         let mut written = Vec::new(rt.alloc());
         let ended = engine.run(Endless { bytes, given: 0 }, &mut written);
         assert!(rt; ended == Err(Fault::Read), "{bytes:?}");
@@ -109,7 +115,7 @@ fn each_write_fails(rt: HostRuntime) -> Result<(), Fail> {
             Trouble::Write(ErrorKind::Interrupted),
             Trouble::Full,
         ] {
-            let mut engine = Engine::new(rt.alloc(), Limits::greatest());
+            let mut engine = Engine::new(rt.alloc(), Fnv1a { seed: 0 }, Limits::greatest());
             let mut writer = Fussy::new(rt.alloc(), 1, trouble, k);
             let ended = engine.run(whole.as_slice(), &mut writer);
             assert!(rt; ended == Err(Fault::Write), "write {k}");
@@ -130,7 +136,7 @@ fn each_flush_fails(rt: HostRuntime) -> Result<(), Fail> {
     for k in 1..STATIONS.len().saturating_add(1) {
         for error in [ErrorKind::Other, ErrorKind::Interrupted] {
             for most in [1usize, 1000] {
-                let mut engine = Engine::new(rt.alloc(), Limits::greatest());
+                let mut engine = Engine::new(rt.alloc(), Fnv1a { seed: 0 }, Limits::greatest());
                 let mut writer = Fussy::new(rt.alloc(), most, Trouble::Flush(error), k);
                 let ended = engine.run(whole.as_slice(), &mut writer);
                 assert!(rt; ended == Err(Fault::Write), "flush {k}");

@@ -16,6 +16,8 @@ mod limits;
 #[cfg(test)]
 mod lines;
 #[cfg(test)]
+mod payloads;
+#[cfg(test)]
 mod refusal_texts;
 #[cfg(test)]
 mod runs;

@@ -3,6 +3,7 @@ use gq_engine::{Engine, Fault};
 use gq_row::{Bounds, Limits};
 use std::alloc::Global;
 use std::test::Fail;
+use sw_probe::Fnv1a;
 
 /// The greatest bounds, and a field's place among them.
 const FIELDS: [(&str, u64); 9] = [
@@ -58,7 +59,7 @@ fn limits_from_one_to_the_greatest(rt: HostRuntime) {
 
 /// What a run under limits writes, and whether a read fault ended it.
 fn run(alloc: Global, limits: Limits, script: &[u8]) -> (Vec<u8>, bool) {
-    let mut engine = Engine::new(alloc, limits);
+    let mut engine = Engine::new(alloc, Fnv1a { seed: 0 }, limits);
     let mut written = Vec::new(alloc);
     let ended = engine.run(script, &mut written);
     (written, ended == Err(Fault::Read))

@@ -1,13 +1,15 @@
 //! Lines and scripts, as users write them. Expected answers are the language's rules, written by
 //! hand.
 use crate::devices::Pieces;
-use gq_command::{Aggregate, Command, CommandReader, Item, LineRefusal, ReadFault, parse_line};
+use gq_command::{
+    Aggregate, Command, CommandReader, Item, LineRefusal, Payload, ReadFault, parse_line,
+};
 use gq_row::{Bounds, Kind, Limits, Value};
 use std::io::{ErrorKind, Read};
 use std::test::Fail;
 
 /// Limits of a line and a script that a test can reach.
-fn small(line: usize, script: u64) -> Option<Limits> {
+pub fn small(line: usize, script: u64) -> Option<Limits> {
     Limits::new(Bounds {
         tables: 2,
         columns: 2,
@@ -21,13 +23,22 @@ fn small(line: usize, script: u64) -> Option<Limits> {
     })
 }
 
-/// What a line gives, in one letter: a command's form, or a refusal.
+/// What a line gives, in one letter: a command's form, a load's by its payload, or a refusal.
 fn letter(answer: &Result<Command, LineRefusal>) -> char {
     match answer {
         Ok(Command::Create { .. }) => 'c',
+        Ok(Command::Drop { .. }) => 'd',
+        Ok(Command::Load { payload, .. }) => match payload {
+            Payload::Bytes(_) => 'b',
+            Payload::Open => 'o',
+            Payload::TooLong => 't',
+            Payload::NoMemory => 'm',
+        },
         Ok(Command::Upsert { .. }) => 'u',
+        Ok(Command::Delete { .. }) => 'x',
+        Ok(Command::Show { .. }) => 's',
         Ok(Command::Group { .. }) => 'g',
-        Ok(_) => '?',
+        Ok(Command::Distinct { .. }) => '?',
         Err(LineRefusal::Syntax) => 'S',
         Err(LineRefusal::LineTooLong) => 'T',
         Err(LineRefusal::Limit) => 'L',
@@ -36,7 +47,7 @@ fn letter(answer: &Result<Command, LineRefusal>) -> char {
 }
 
 /// Lines, each with what it gives at the greatest limits.
-const LINES: [(&[u8], char); 44] = [
+const LINES: [(&[u8], char); 66] = [
     (b"create s (id int, city text, key (id))", 'c'),
     (b"CREATE s(id INT,city Text,KEY(id))", 'c'),
     (b"\tcreate\tt (a int)  ", 'c'),
@@ -77,9 +88,31 @@ const LINES: [(&[u8], char); 44] = [
     (b"group s by a show count(*), count(*)", 'S'),
     (b"group s by a show count(a)", 'S'),
     (b"group s show count(*)", 'S'),
-    (b"show s", 'S'),
-    (b"drop s", 'S'),
-    (b"load s", 'S'),
+    (b"show s", 's'),
+    (b"SHOW \"show\"", 's'),
+    (b"show", 'S'),
+    (b"show s, t", 'S'),
+    (b"show 's'", 'S'),
+    (b"show show", 'S'),
+    (b"drop s", 'd'),
+    (b"\tDrop\t\"s\" ", 'd'),
+    (b"drop", 'S'),
+    (b"drop s t", 'S'),
+    (b"drop table s", 'S'),
+    (b"load s", 'o'),
+    (b"  LOAD \"\"\"\"", 'o'),
+    (b"load", 'S'),
+    (b"load s extra", 'S'),
+    (b"load s (1)", 'S'),
+    (b"delete s (1)", 'x'),
+    (b"DELETE s(null,'a',-1)", 'x'),
+    (b"delete s", 'S'),
+    (b"delete s ()", 'S'),
+    (b"delete s 1", 'S'),
+    (b"delete s (1,)", 'S'),
+    (b"delete s (1) x", 'S'),
+    (b"delete (1)", 'S'),
+    (b"distinct s on a", 'S'),
     (b"upsert s (1)\r", 'S'),
 ];
 
@@ -141,6 +174,34 @@ fn what_an_upsert_says(rt: HostRuntime) -> Result<(), Fail> {
 }
 
 #[test]
+fn what_a_delete_says(rt: HostRuntime) -> Result<(), Fail> {
+    let limits = Limits::greatest();
+    let taken = parse_line(rt.alloc(), b"delete \"a b\" ('x', -7)", &limits);
+    let Ok(Command::Delete { table, values }) = taken else {
+        return Err(Fail::new("no such command"));
+    };
+    assert_eq!(rt; table.as_str(), "a b");
+    assert!(rt;
+        matches!(values.cells(), [Value::Text(text), Value::Int(-7)] if text.as_str() == "x")
+    );
+    Ok(())
+}
+
+#[test]
+fn what_a_name_alone_says(rt: HostRuntime) -> Result<(), Fail> {
+    let limits = Limits::greatest();
+    let dropped = parse_line(rt.alloc(), b"DROP \"s\"", &limits);
+    assert!(rt; matches!(&dropped, Ok(Command::Drop { table }) if table.as_str() == "s"));
+    let shown = parse_line(rt.alloc(), b"show S", &limits);
+    assert!(rt; matches!(&shown, Ok(Command::Show { table }) if table.as_str() == "S"));
+    let loaded = parse_line(rt.alloc(), b"load \"load\"", &limits);
+    assert!(rt;
+        matches!(&loaded, Ok(Command::Load { table, payload: Payload::Open }) if table.as_str() == "load")
+    );
+    Ok(())
+}
+
+#[test]
 fn what_a_group_says(rt: HostRuntime) -> Result<(), Fail> {
     let limits = Limits::greatest();
     let asked = parse_line(rt.alloc(), b"group s by city show count(*)", &limits);
@@ -168,7 +229,7 @@ fn what_a_group_says(rt: HostRuntime) -> Result<(), Fail> {
 /// Each limit of a line, at the limit and one past it.
 #[test]
 fn limits_of_a_line(rt: HostRuntime) -> Result<(), Fail> {
-    let cases: [(&[u8], char); 14] = [
+    let cases: [(&[u8], char); 23] = [
         (b"create abcd (a int)", 'c'),
         (b"create abcde (a int)", 'L'),
         (b"create \"ab\"\"d\" (a int)", 'c'),
@@ -183,6 +244,15 @@ fn limits_of_a_line(rt: HostRuntime) -> Result<(), Fail> {
         (b"upsert a ('12345')", 'u'),
         (b"upsert a ('123456')", 'L'),
         (b"upsert a ('1234''6')", 'L'),
+        (b"drop abcd", 'd'),
+        (b"drop abcde", 'L'),
+        (b"show abcd", 's'),
+        (b"show abcde", 'L'),
+        (b"load abcd", 'o'),
+        (b"load abcde", 'L'),
+        (b"delete abcd ('12345')", 'x'),
+        (b"delete abcde ('12345')", 'L'),
+        (b"delete abcd ('123456')", 'L'),
     ];
     let Some(limits) = small(40, 1000) else {
         return Err(Fail::new("no limits"));
@@ -198,19 +268,23 @@ fn limits_of_a_line(rt: HostRuntime) -> Result<(), Fail> {
     Ok(())
 }
 
-/// What each `next` of a reader gives: a command's form, a refusal, `F` for a fault, `.` for the
-/// end.
-fn next_letter<R: Read>(
-    alloc: std::alloc::Global,
-    reader: &mut CommandReader<R>,
-    limits: &Limits,
-) -> char {
-    match reader.next(alloc, limits) {
+/// What a `next` of a reader gave: a command's form, a refusal, `F` for a fault, `.` for the end.
+pub fn letter_of(given: Result<Option<Item>, ReadFault>) -> char {
+    match given {
         Ok(Some(Item::Command(command))) => letter(&Ok(command)),
         Ok(Some(Item::Refused(refusal))) => letter(&Err(refusal)),
         Ok(None) => '.',
         Err(ReadFault) => 'F',
     }
+}
+
+/// The same of the reader's next item.
+pub fn next_letter<R: Read>(
+    alloc: std::alloc::Global,
+    reader: &mut CommandReader<R>,
+    limits: &Limits,
+) -> char {
+    letter_of(reader.next(alloc, limits))
 }
 
 /// Scripts under small limits, each with what every `next` of its reader gives.
@@ -222,7 +296,7 @@ const SCRIPTS: [(&[u8], &[char]); 19] = [
     (b"\n\r\n \t\n-- note\n  --\n", &['.']),
     (b"upsert s (1)\r\nupsert s (2)\n", &['u', 'u', '.']),
     (b"upsert s (1)\r", &['S', '.']),
-    (b"-\nshow s\n- -\n", &['S', 'S', 'S', '.']),
+    (b"-\nshow s\n- -\n", &['S', 's', 'S', '.']),
     (
         b"                                              -- long\n                                              \nupsert s (1)",
         &['u', '.'],
@@ -231,7 +305,7 @@ const SCRIPTS: [(&[u8], &[char]); 19] = [
         b"upsert s (1, 1, 1, 1, 1, 1, 1, 1, 1, 1, 1)\nupsert s (1)",
         &['T', 'u', '.'],
     ),
-    (b"load s\nid\n\\.\nupsert s (1)", &['S', 'u', '.']),
+    (b"load s\nid\n\\.\nupsert s (1)", &['b', 'u', '.']),
     (
         b" \tLoad,\r\n\\\n\\.x\n\\.\r\nupsert s (1)",
         &['S', 'u', '.'],
@@ -240,10 +314,10 @@ const SCRIPTS: [(&[u8], &[char]); 19] = [
     (b"\"load\" s\nupsert s (1)", &['S', 'u', '.']),
     (
         b"load s\n-- note\n\n\\.\\.\nupsert s (1)\n\\. \n",
-        &['S', '.'],
+        &['o', '.'],
     ),
-    (b"load s\nupsert s (1)\n\\.", &['S', '.']),
-    (b"load s\nupsert s (1)\n\\.\r", &['S', '.']),
+    (b"load s\nupsert s (1)\n\\.", &['b', '.']),
+    (b"load s\nupsert s (1)\n\\.\r", &['o', '.']),
     (
         b"load s -- and more than forty bytes of line\nid\n\\.\nupsert s (1)",
         &['T', 'u', '.'],
@@ -295,7 +369,7 @@ fn pieces_of_any_size(rt: HostRuntime) -> Result<(), Fail> {
     let limits = Limits::greatest();
     for size in 1..50 {
         let mut reader = CommandReader::new(Pieces::of(SCRIPT, size));
-        for want in ['u', 'S', 'u', '.', '.'] {
+        for want in ['u', 's', 'u', '.', '.'] {
             assert_eq!(rt;
                 next_letter(rt.alloc(), &mut reader, &limits),
                 want,
@@ -325,7 +399,7 @@ fn failing_reads(rt: HostRuntime) -> Result<(), Fail> {
         let bytes = fails_at - 1;
         for (letter, end) in [
             ('u', 17),
-            ('S', 32),
+            ('s', 32),
             ('u', SCRIPT.len() + 1),
             ('.', SCRIPT.len() + 2),
         ] {

@@ -5,6 +5,7 @@ use gq_engine::{Engine, Refusal, Reply, Summary, reply_text};
 use gq_row::{Limits, Value};
 use std::alloc::{AllocError, Global};
 use std::test::Fail;
+use sw_probe::Fnv1a;
 
 /// Lines of a script, each with its reply.
 pub const STATIONS: [(&[u8], &[u8]); 5] = [
@@ -58,7 +59,7 @@ fn a_run_counts_its_commands_and_refusals(rt: HostRuntime) -> Result<(), Fail> {
         ),
     ];
     for (script, due, commands, refused) in cases {
-        let mut engine = Engine::new(rt.alloc(), Limits::greatest());
+        let mut engine = Engine::new(rt.alloc(), Fnv1a { seed: 0 }, Limits::greatest());
         let mut written = Vec::new(rt.alloc());
         let ended = engine.run(script, &mut written);
         assert_eq!(rt; written.as_slice(), due);
@@ -69,7 +70,7 @@ fn a_run_counts_its_commands_and_refusals(rt: HostRuntime) -> Result<(), Fail> {
 
 #[test]
 fn tables_stay_from_run_to_run(rt: HostRuntime) -> Result<(), Fail> {
-    let mut engine = Engine::new(rt.alloc(), Limits::greatest());
+    let mut engine = Engine::new(rt.alloc(), Fnv1a { seed: 0 }, Limits::greatest());
     for (line, reply) in STATIONS {
         let mut written = Vec::new(rt.alloc());
         let ended = engine.run(line, &mut written);
@@ -88,7 +89,7 @@ fn tables_stay_from_run_to_run(rt: HostRuntime) -> Result<(), Fail> {
 #[test]
 fn commands_carried_out_one_by_one(rt: HostRuntime) -> Result<(), Fail> {
     let limits = Limits::greatest();
-    let mut engine = Engine::new(rt.alloc(), limits);
+    let mut engine = Engine::new(rt.alloc(), Fnv1a { seed: 0 }, limits);
     for (line, due) in STATIONS {
         let Ok(command) = parse_line(rt.alloc(), line, &limits) else {
             return Err(Fail::new("a line says no command"));
@@ -167,7 +168,7 @@ fn scripts_cut_at_each_byte(rt: HostRuntime) -> Result<(), Fail> {
         let due = replies_to_front(rt.alloc(), count)?;
         for size in [1usize, 2, 3, 7, 1000] {
             let (front, _rest) = whole.as_slice().split_at(count.min(whole.len()));
-            let mut engine = Engine::new(rt.alloc(), Limits::greatest());
+            let mut engine = Engine::new(rt.alloc(), Fnv1a { seed: 0 }, Limits::greatest());
             let mut written = Vec::new(rt.alloc());
             let ended = engine.run(Pieces::of(front, size), &mut written);
             assert!(rt; ended.is_ok());

@@ -11,10 +11,11 @@ use gq_row::Limits;
 use std::alloc::Global;
 use std::rt::Files;
 use std::{fs, io};
+use sw_probe::Fnv1a;
 
 /// What a run of a script writes.
 fn replies(alloc: Global, script: &[u8]) -> Vec<u8> {
-    let mut engine = Engine::new(alloc, Limits::greatest());
+    let mut engine = Engine::new(alloc, Fnv1a { seed: 0 }, Limits::greatest());
     let mut written = Vec::new(alloc);
     let _ended = engine.run(script, &mut written);
     written

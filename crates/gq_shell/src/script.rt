@@ -10,6 +10,7 @@ use gq_engine::Engine;
 use gq_row::Limits;
 use std::alloc::Global;
 use std::io::{self, Read, Write};
+use sw_probe::Fnv1a;
 
 /// Runs a script in a new engine under the greatest limits, and answers the exit status. The script
 /// is what `opener` gives for the path, and `input` where there is no path.
@@ -37,7 +38,7 @@ where
         (option_map (λ s. s.now) path.entry) (stream W.contents replies.old replies.new)
         (stream E.contents errors.old errors.new) result }
 {
-    let mut engine = Engine::new(alloc, Limits::greatest());
+    let mut engine = Engine::new(alloc, Fnv1a { seed: 0 }, Limits::greatest());
     match path {
         None => session(&mut engine, input, replies, errors),
         Some(path) => match opener(path) {

@@ -6,12 +6,14 @@ ghost use Rattle.gq_shell.specs.Streams.{stream};
 
 use crate::telling::tell;
 use gq_engine::{Engine, Fault, Summary};
+use gq_row::Key;
 use std::io::{Read, Write};
+use sw_probe::KeyHash;
 
 /// Runs a script: reads it from the reader, writes the reply to each command, and answers the exit
 /// status. A fault is told to `errors`; one in telling it is passed over.
-pub fn session<R: Read + Drop, W: Write, E: Write>(
-    engine: &mut Engine,
+pub fn session<H: KeyHash<Key> + Copy, R: Read + Drop, W: Write, E: Write>(
+    engine: &mut Engine<H>,
     reader: R,
     writer: &mut W,
     errors: &mut E,

@@ -9,6 +9,7 @@ use gq_row::{Bounds, Limits};
 use std::alloc::{AllocError, Global};
 use std::io::{self, ErrorKind, Read, Write};
 use std::test::Fail;
+use sw_probe::Fnv1a;
 
 fn owned(alloc: Global, words: &[&str]) -> Result<Vec<String>, AllocError> {
     let mut all = Vec::new(alloc);
@@ -114,7 +115,7 @@ fn statuses(rt: HostRuntime) -> Result<(), Fail> {
         ),
     ];
     for (script, due, status) in cases {
-        let mut engine = Engine::new(rt.alloc(), Limits::greatest());
+        let mut engine = Engine::new(rt.alloc(), Fnv1a { seed: 0 }, Limits::greatest());
         let mut replies = Vec::new(rt.alloc());
         let mut errors = Vec::new(rt.alloc());
         let answered = session(&mut engine, script, &mut replies, &mut errors);
@@ -192,7 +193,7 @@ fn read_faults(rt: HostRuntime) -> Result<(), Fail> {
         return Err(Fail::new("no limits"));
     };
     for limits in [Limits::greatest(), short] {
-        let mut engine = Engine::new(rt.alloc(), limits);
+        let mut engine = Engine::new(rt.alloc(), Fnv1a { seed: 0 }, limits);
         let mut replies = Vec::new(rt.alloc());
         let mut errors = Vec::new(rt.alloc());
         let script = Broken {
@@ -209,7 +210,7 @@ fn read_faults(rt: HostRuntime) -> Result<(), Fail> {
 #[test]
 fn write_faults(rt: HostRuntime) -> Result<(), Fail> {
     for error in [None, Some(ErrorKind::Other), Some(ErrorKind::Interrupted)] {
-        let mut engine = Engine::new(rt.alloc(), Limits::greatest());
+        let mut engine = Engine::new(rt.alloc(), Fnv1a { seed: 0 }, Limits::greatest());
         let mut replies = Narrow::new(rt.alloc(), 4, error);
         let mut errors = Narrow::new(rt.alloc(), 1000, None);
         let script: &[u8] = b"create s (a int)\nupsert s (1)\n";
@@ -229,7 +230,7 @@ fn write_faults(rt: HostRuntime) -> Result<(), Fail> {
 fn a_standard_error_that_takes_little(rt: HostRuntime) -> Result<(), Fail> {
     for error in [None, Some(ErrorKind::Other)] {
         for room in 0..10usize {
-            let mut engine = Engine::new(rt.alloc(), Limits::greatest());
+            let mut engine = Engine::new(rt.alloc(), Fnv1a { seed: 0 }, Limits::greatest());
             let mut replies = Vec::new(rt.alloc());
             let mut errors = Narrow::new(rt.alloc(), room, error);
             let status = session(

@@ -1,6 +1,6 @@
-use Rattle.std.proofs.Common.{arith}
+use Rattle.std.proofs.Common.{◌∙◌, sym, arith}
 use Rattle.std.proofs.lemmas.Grind.{common_steps}
-use Rattle.gq_command.proofs.Within.{create_fits, upsert_fits}
+use Rattle.gq_command.proofs.Within.{create_fits, upsert_fits, delete_fits}
 use Rattle.gq_command.proofs.lines.fits.Goals as goal
 
 pub returns-then-names_fit : goal.returns-then-names_fit
@@ -9,5 +9,8 @@ returns-then-names_fit c = grind (arith, common_steps, create_fits)
 pub returns-else-names_fit : goal.returns-else-names_fit
 returns-else-names_fit c = grind (arith, common_steps, create_fits)
 
-pub returns-then-len-bounds-2 : goal.returns-then-len-bounds-2
-returns-then-len-bounds-2 c = grind (arith, common_steps, upsert_fits)
+pub returns-in-Upsert : goal.returns-in-Upsert
+returns-in-Upsert c = rw c.in-Upsert.is (c.row_fits.ensures ∙ sym (upsert_fits c.args.bounds.now c.in-Upsert.table c.in-Upsert.values))
+
+pub returns-in-Delete : goal.returns-in-Delete
+returns-in-Delete c = rw c.in-Delete.is (c.row_fits-in-Delete.ensures ∙ sym (delete_fits c.args.bounds.now c.in-Delete.table c.in-Delete.values))

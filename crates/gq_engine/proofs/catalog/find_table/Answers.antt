@@ -4,6 +4,6 @@ use Rattle.gq_engine.proofs.TableLemmas.{stands_at}
 use Rattle.gq_engine.proofs.catalog.find_table.Goals as goal
 
 pub returns-then-eq : goal.returns-then-eq
-returns-then-eq c =
+returns-then-eq g c =
     stands_at c.args.tables.now c.args.name.now c.loop-i.i c.index-tables-i.result c.loop-i-test.true c.index-tables-i.is
     (ap (λ s. bytes_eq s c.args.name.now) (sym c.as_str.ensures) ∙ sym c.eq.ensures ∙ c.if-eq.true) c.loop-i.invariant.there c.loop-i.invariant.after

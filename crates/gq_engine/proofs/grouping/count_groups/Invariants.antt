@@ -4,4 +4,4 @@ use Rattle.gq_engine.specs.Answers.{count_row}
 use Rattle.gq_engine.proofs.grouping.count_groups.Given as goal
 
 abbrev pub invariant-loop-key : goal.invariant-loop-key
-invariant-loop-key l = l.groups.items ≡ map (λ key. count_row key (length (of_key l.by l.rows key))) (take l.key-index l.key-items)
+invariant-loop-key g l = l.groups.items ≡ map (λ key. count_row key (length (of_key l.by l.table.rows key))) (take l.key-index l.key-items)

@@ -11,11 +11,11 @@ use Rattle.gq_engine.proofs.StepLemmas.{no_memory, no_memory_at, refuses, carrie
 use Rattle.gq_row.specs.Repeats.{no_repeats}
 use Rattle.gq_command.specs.Commands.{some, column_names}
 use Rattle.gq_engine.proofs.ColumnLemmas.{is_heading_of, no_false}
-use Rattle.gq_engine.proofs.PutLemmas.{two}
+use Rattle.gq_table.proofs.StandingLemmas.{two}
 use Rattle.gq_engine.proofs.engine.Engine.create.Goals as goal
 
 pub unreachable-requires : goal.unreachable-requires
-unreachable-requires c =
+unreachable-requires g c =
     let rules = two (no_repeats bytes_eq (column_names c.args.columns)) (no_repeats bytes_eq c.args.key) (two (some c.args.columns) _ c.requires).1 in
     let found = sym (rw (c.as_slice.ensures, c.as_slice-2.ensures) at c.in_ok-find_positions.ensures) ∙ c.in_ok-positions.ensures.ok_part in
     let heading = is_heading_of c.args.columns c.args.key c.in_ok-positions.positions rules.0 rules.1 found in
@@ -24,19 +24,19 @@ unreachable-requires c =
 
 -- what was found of the name and of the key columns
 pub returns-then-is_some-clause-comes : goal.returns-then-is_some-clause-comes
-returns-then-is_some-clause-comes c =
+returns-then-is_some-clause-comes g c =
     let db = database c.args.self.now in
     refuses (create c.args.self.now.limits.bounds db c.args.name c.args.columns c.args.key) TableExists c.from.result db c.from.ensures
     (create_exists c.args.self.now.limits.bounds db c.args.name c.args.columns c.args.key (search rules))
 
 pub returns-in_err-find_positions-clause-comes : goal.returns-in_err-find_positions-clause-comes
-returns-in_err-find_positions-clause-comes c =
+returns-in_err-find_positions-clause-comes g c =
     let db = database c.args.self.now in
     let p = err_from_is_err_and c.from_residual.result c.from_residual.ensures.1 in
     rw p.1 (no_memory (create c.args.self.now.limits.bounds db c.args.name c.args.columns c.args.key) p.0 db p.2)
 
 pub returns-in_err-positions-clause-comes : goal.returns-in_err-positions-clause-comes
-returns-in_err-positions-clause-comes c =
+returns-in_err-positions-clause-comes g c =
     let db = database c.args.self.now in
     let p = err_from_is_err_and c.from_residual-in_err-positions.result c.from_residual-in_err-positions.ensures.1 in
     let m = missed c.in_ok-find_positions.field-0 c.in_err-positions.field-0.0 NoColumn c.in_err-positions.ensures.value in
@@ -44,20 +44,20 @@ returns-in_err-positions-clause-comes c =
     (create_lacks c.args.self.now.limits.bounds db c.args.name c.args.columns c.args.key (search rules) (sym (rw (c.as_slice.ensures, c.as_slice-2.ensures) at c.in_ok-find_positions.ensures) ∙ m.0)))
 
 pub returns-then-self-len-clause-comes : goal.returns-then-self-len-clause-comes
-returns-then-self-len-clause-comes c =
+returns-then-self-len-clause-comes g c =
     let db = database c.args.self.now in
     refuses (create c.args.self.now.limits.bounds db c.args.name c.args.columns c.args.key) Limit c.from-then-self-len.result db c.from-then-self-len.ensures
     (create_full c.args.self.now.limits.bounds db c.args.name c.args.columns c.args.key c.in_ok-positions.positions (search rules)
     (sym (rw (c.as_slice.ensures, c.as_slice-2.ensures) at c.in_ok-find_positions.ensures) ∙ c.in_ok-positions.ensures.ok_part) (search rules))
 
 pub returns-in_err-add-clause-comes : goal.returns-in_err-add-clause-comes
-returns-in_err-add-clause-comes c =
+returns-in_err-add-clause-comes g c =
     let db = database c.args.self.now in
     let p = err_from_is_err_and c.from_residual-in_err-add.result c.from_residual-in_err-add.ensures.1 in
     rw p.1 (no_memory_at (create c.args.self.now.limits.bounds db c.args.name c.args.columns c.args.key) p.0 db c.add.new.self c.in_err-add.ensures.err p.2)
 
 pub returns-clause-comes : goal.returns-clause-comes
-returns-clause-comes c =
+returns-clause-comes g c =
     let db = database c.args.self.now in
     let added : db ++ (c.args.name, record { heading = record { columns = c.args.columns; key = c.in_ok-positions.positions }; rows = [] }) ∷ [] ≡ c.add.new.self = search rules in
     let P : Database → Type 0 = λ d. create c.args.self.now.limits.bounds db c.args.name c.args.columns c.args.key ≡ Ok (d, reply.Done 0) in

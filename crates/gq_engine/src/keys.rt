@@ -1,0 +1,47 @@
+//! Values given as the key of a row.
+ghost use Rattle.std.specs.Prelude.{◌≡◌, ◌<◌, All, length};
+ghost use Rattle.std.specs.List.{list_any};
+ghost use Rattle.gq_row.specs.Fitting.{is_null};
+ghost use Rattle.gq_engine.specs.Refusing.{fits_key, key_within};
+
+use gq_reply::{Refusal, Refused};
+use gq_row::{Column, Schema, Value};
+
+/// Why values are no key of a row in a table: it has no key, they don't fit its key columns, or one
+/// of them is null.
+pub fn check_key(schema: &Schema, values: &[Value]) -> Result<(), Refused>
+    ensures { result ≡ key_within schema.now values.now }
+{
+    if schema.key().is_empty() {
+        return Err(Refused::from(Refusal::NoKey));
+    }
+    if !fit_key(schema.columns(), schema.key(), values) {
+        return Err(Refused::from(Refusal::TypeMismatch));
+    }
+    if has_null(values) {
+        return Err(Refused::from(Refusal::NullKey));
+    }
+    Ok(())
+}
+
+// Whether there are as many values as key columns, and each may stand in its column.
+fn fit_key(columns: &[Column], key: &[usize], values: &[Value]) -> bool
+    requires { All (λ position. position < length columns.now) key.now }
+    ensures { result ≡ fits_key columns.now key.now values.now }
+{
+    if key.len() != values.len() {
+        return false;
+    }
+    for i in 0..key.len() {
+        if !columns[key[i]].kind.takes(&values[i]) {
+            return false;
+        }
+    }
+    true
+}
+
+fn has_null(values: &[Value]) -> bool
+    ensures { result ≡ list_any is_null values.now }
+{
+    values.iter().any(|value| value.is_null())
+}

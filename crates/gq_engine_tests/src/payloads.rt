@@ -1,0 +1,206 @@
+//! Loads with their payloads, as a reader gives them. What is expected is written by hand.
+use crate::devices::Pieces;
+use crate::lines::{letter_of, next_letter, small};
+use gq_command::{Command, CommandReader, Item, Payload, ReadFault};
+use gq_row::Limits;
+use std::alloc::{AllocError, Global};
+use std::io::ErrorKind;
+use std::process::Abort;
+use std::test::Fail;
+
+/// An item of a script: a load of a table with these bytes, or one by its letter.
+#[derive(Clone, Copy)]
+enum Wanted {
+    Load(&'static str, &'static [u8]),
+    Other(char),
+}
+
+/// Loads whose payloads hold marks that close nothing, a refused load line, and an open payload.
+const SCRIPT: &[u8] =
+    b"load s\nid,city\r\n1,\\N\n-- no comment\n\n\\.x\n \\.\n\\\n\\.\\.\n\\.\r\nload s extra\ndrop s\nshow s\n\\.\n Load \"t\"\r\n\\.\nshow s\nLOAD u\n\xFF\0\n\\.\rshow s\n";
+
+const ITEMS: [Wanted; 6] = [
+    Wanted::Load(
+        "s",
+        b"id,city\r\n1,\\N\n-- no comment\n\n\\.x\n \\.\n\\\n\\.\\.\n",
+    ),
+    Wanted::Other('S'),
+    Wanted::Load("t", b""),
+    Wanted::Other('s'),
+    Wanted::Other('o'),
+    Wanted::Other('.'),
+];
+
+/// Whether a `next` gave a load of this table with these bytes.
+fn is_load(given: &Result<Option<Item>, ReadFault>, name: &str, bytes: &[u8]) -> bool {
+    match given {
+        Ok(
+            Some(
+                Item::Command(
+                    Command::Load {
+                        table,
+                        payload: Payload::Bytes(payload),
+                    },
+                ),
+            ),
+        ) => table.as_str() == name && payload.as_slice() == bytes,
+        _ => false,
+    }
+}
+
+/// Asserts that a reader of pieces of this size gives the items.
+fn assert_gives(rt: &impl Abort, alloc: Global, size: usize) {
+    let limits = Limits::greatest();
+    let mut reader = CommandReader::new(Pieces::of(SCRIPT, size));
+    for wanted in ITEMS {
+        let given = reader.next(alloc, &limits);
+        match wanted {
+            Wanted::Load(name, bytes) => {
+                assert!(rt; is_load(&given, name, bytes), "{name} by {size}");
+            }
+            Wanted::Other(want) => assert_eq!(rt; letter_of(given), want, "{size}"),
+        }
+    }
+}
+
+/// Pieces of one byte, of seven, and of each other size: so the first piece ends at each byte.
+#[test]
+fn cut_at_each_byte(rt: HostRuntime) -> Result<(), Fail> {
+    for size in 1..SCRIPT.len().saturating_add(2) {
+        assert_gives(&rt, rt.alloc(), size);
+    }
+    Ok(())
+}
+
+/// A script of a payload with this many lines of ten bytes.
+fn long(alloc: Global, lines: usize) -> Result<Vec<u8>, AllocError> {
+    let mut script = Vec::from_slice(alloc, b"load s\n")?;
+    for _ in 0..lines {
+        script.extend_from_slice(b"\\.345678\r\n")?;
+    }
+    script.extend_from_slice(b"\\.\r\nupsert s (1)")?;
+    Ok(script)
+}
+
+/// A payload that goes over many of the reader's buffers.
+#[test]
+fn longer_than_a_buffer(rt: HostRuntime) -> Result<(), Fail> {
+    const LINES: usize = 10_000;
+    let limits = Limits::greatest();
+    let script = long(rt.alloc(), LINES)?;
+    for size in [1, 7, 4096, 8191, 65536] {
+        let mut reader = CommandReader::new(Pieces::of(script.as_slice(), size));
+        let given = reader.next(rt.alloc(), &limits);
+        let Ok(
+            Some(
+                Item::Command(
+                    Command::Load {
+                        payload: Payload::Bytes(payload),
+                        ..
+                    },
+                ),
+            ),
+        ) = &given
+        else {
+            return Err(Fail::new("no load"));
+        };
+        assert_eq!(rt; payload.len(), 10 * LINES);
+        assert!(rt;
+            payload
+                .as_slice()
+                .chunks_exact(10)
+                .all(|line| line == b"\\.345678\r\n".as_slice()),
+            "{size}"
+        );
+        assert_eq!(rt; next_letter(rt.alloc(), &mut reader, &limits), 'u');
+        assert_eq!(rt; next_letter(rt.alloc(), &mut reader, &limits), '.');
+    }
+    Ok(())
+}
+
+/// A payload of 100 bytes at a limit of 100, and one of 101; a refused line's, however long it is,
+/// and one that the script's end leaves open.
+#[test]
+fn limit_of_a_payload(rt: HostRuntime) -> Result<(), Fail> {
+    let Some(limits) = small(40, 1000) else {
+        return Err(Fail::new("no limits"));
+    };
+    let cases: [(&[u8], &[u8], [char; 3]); 6] = [
+        (b"load s\n", b"\\.\nupsert s (1)", ['b', 'u', '.']),
+        (b"load s\nx", b"\\.\nupsert s (1)", ['t', 'u', '.']),
+        (b"load s,\nx", b"\\.\nupsert s (1)", ['S', 'u', '.']),
+        (b"load abcde\n", b"\\.\nupsert s (1)", ['L', 'u', '.']),
+        (b"load s\nx", b"upsert s (1)\n\\. ", ['o', '.', '.']),
+        (b"load s\n", b"\\", ['o', '.', '.']),
+    ];
+    for (front, end, wants) in cases {
+        for size in [1, 7, 1000] {
+            let mut script = Vec::from_slice(rt.alloc(), front)?;
+            for _ in 0..20 {
+                script.extend_from_slice(b"1234\n")?;
+            }
+            script.extend_from_slice(end)?;
+            let mut reader = CommandReader::new(Pieces::of(script.as_slice(), size));
+            for want in wants {
+                assert_eq!(rt;
+                    next_letter(rt.alloc(), &mut reader, &limits),
+                    want,
+                    "{front:?}, {size}"
+                );
+            }
+        }
+    }
+    Ok(())
+}
+
+/// Each failing read is a fault, in a payload too, and no part of the payload is given. So is the
+/// first byte past the script's limit.
+#[test]
+fn faults_within_a_payload(rt: HostRuntime) -> Result<(), Fail> {
+    let script: &[u8] = b"load s\nid\n1\n\\.\nshow s";
+    for fails_at in 1..23 {
+        let mut reader = CommandReader::new(Pieces {
+            bytes: script,
+            size: 1,
+            fails_at,
+            error: ErrorKind::Other,
+        });
+        // The mark's line ends with the fifteenth byte.
+        if fails_at > 15 {
+            assert_eq!(rt;
+                next_letter(rt.alloc(), &mut reader, &Limits::greatest()),
+                'b',
+                "{fails_at}"
+            );
+        }
+        assert_eq!(rt;
+            next_letter(rt.alloc(), &mut reader, &Limits::greatest()),
+            'F',
+            "{fails_at}"
+        );
+        assert_eq!(rt;
+            next_letter(rt.alloc(), &mut reader, &Limits::greatest()),
+            'F',
+            "{fails_at}"
+        );
+    }
+    for most in 1..21 {
+        let Some(limits) = small(40, most) else {
+            return Err(Fail::new("no limits"));
+        };
+        let mut reader = CommandReader::new(Pieces::of(script, 3));
+        if most >= 15 {
+            assert_eq!(rt;
+                next_letter(rt.alloc(), &mut reader, &limits),
+                'b',
+                "{most}"
+            );
+        }
+        assert_eq!(rt;
+            next_letter(rt.alloc(), &mut reader, &limits),
+            'F',
+            "{most}"
+        );
+    }
+    Ok(())
+}
