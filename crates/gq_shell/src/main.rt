@@ -5,10 +5,10 @@
 //! gives, its standard input, and its two streams. It says which script is run, what each stream
 //! got, and what the exit status stands for; `main` hands in the process's own.
 //!
-//! Below it stand [`words::read_words`], which answers the script that the command line names and
-//! tells help, mistakes and want of memory apart; [`script::run_script`], which opens that script;
-//! [`session::session`], which runs an engine; and [`stopping`], for all that ends before a run. The
-//! laws in [`laws`] say what this comes to for command lines and for statuses.
+//! Below it stand [`words::read_words`], which answers the script and the seed that the command line
+//! names and tells help, mistakes and want of memory apart; [`script::run_script`], which opens that
+//! script; [`session::session`], which runs an engine; and [`stopping`], for all that ends before a
+//! run. The laws in [`laws`] say what this comes to for command lines and for statuses.
 #![tactic(auto)]
 
 pub mod laws;
