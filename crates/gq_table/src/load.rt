@@ -10,9 +10,9 @@ ghost use Rattle.gq_table.specs.Staged.{keep, staged, laid_over};
 ghost use Rattle.gq_table.specs.declared.refusal.TableRefusal.TheVariants.{Limit, Memory};
 
 use crate::refusal::TableRefusal;
-use gq_row::{Key, Row};
+use gq_row::{Key, KeyRef, Row};
 use std::alloc::{AllocError, Global};
-use sw_flat::FlatMap;
+use sw_flat::{Entry, FlatMap};
 use sw_probe::KeyHash;
 
 // Puts rows, one after the other, where no more than `most` then stand there: all or none. They
@@ -89,6 +89,8 @@ fn stage<H: KeyHash<Key> + Copy>(
     Ok(map)
 }
 
+// Puts a row under its own key, unless a later row stands there: its key is looked up by a borrowed
+// form, hashed once, and copied only where it is new.
 fn stage_row<H: KeyHash<Key>>(
     alloc: Global,
     map: &mut FlatMap<Key, Row, H>,
@@ -98,10 +100,15 @@ fn stage_row<H: KeyHash<Key>>(
     requires { All (λ position. position < length row) positions.now }
     ensures { OnOk result (by_key map.new ≡ keep positions.now (by_key map.old) row) }
 {
-    let key = Key::of(alloc, &row, positions)?;
-    match map.try_emplace(key, row) {
-        Ok(_) => Ok(()),
-        Err(_) => Err(AllocError),
+    match map.entry(&KeyRef::new(&row, positions)) {
+        Entry::Occupied(_) => return Ok(()),
+        Entry::Vacant(vacancy) => {
+            let key = Key::of(alloc, &row, positions)?;
+            match map.fill(vacancy, key, row) {
+                Ok(_) => return Ok(()),
+                Err(_) => return Err(AllocError),
+            }
+        }
     }
 }
 
