@@ -4,7 +4,9 @@
 
 The script goes past every round number at which a program may give up: more than 1,000 blank lines
 in a row, more than 65,536 commands, lists of more than 1,000 names, lines past 4,096 bytes and of
-65,536, tables and groups of more than 1,000 rows, replies of more than 1,000 rows.
+65,536, tables and groups of more than 1,000 rows, replies of more than 1,000 rows; payloads of more than
+65,536 records and of more than 1,000,000 bytes, texts of 65,535 bytes among them, loads into tables
+that hold rows and into those that hold none, and more than 1,000 rows deleted.
 """
 import csv
 import io
@@ -65,11 +67,51 @@ class Example:
             places[at] = len(rows)
             rows.append(row)
 
+    def load(self, name, header, rows, end="\n"):
+        """Loads rows whose values stand in the order of the header."""
+        names, key, places, held = self.tables[name]
+        text = io.StringIO()
+        out = csv.writer(text, lineterminator=end)
+        out.writerow(header)
+        for row in rows:
+            out.writerow(map(cell, row))
+            row = tuple(row[header.index(column)] for column in names)
+            at = tuple(row[i] for i in key)
+            if key and at in places:
+                held[places[at]] = row
+            else:
+                places[at] = len(held)
+                held.append(row)
+        self.say(f"load {name}", f"ok {len(rows)}")
+        self.script += text.getvalue().encode() + b"\\." + end.encode()
+
+    def delete(self, name, *values):
+        _names, key, places, rows = self.tables[name]
+        there = values in places and rows[places[values]] is not None
+        self.say(f"delete {name} ({', '.join(map(literal, values))})", f"ok {int(there)}")
+        if there:
+            rows[places.pop(values)] = None
+
+    def show(self, name):
+        names, key, _places, rows = self.tables[name]
+        columns = key or range(len(names))
+        text = io.StringIO()
+        out = csv.writer(text, lineterminator="\n")
+        out.writerow(names)
+        kept = [row for row in rows if row is not None]
+        for row in sorted(kept, key=lambda row: [order(row[i]) for i in columns]):
+            out.writerow(map(cell, row))
+        self.say(f"show {name}", f"ok {len(kept)}", text.getvalue()[:-1])
+
+    def drop(self, name):
+        self.say(f"drop {name}", "ok 0")
+        del self.tables[name]
+
     def group(self, name, *by):
         names, _key, _places, rows = self.tables[name]
         columns = [names.index(column) for column in by]
         counts = {}
-        for row in rows:
+        for row in filter(None, rows):
             at = tuple(row[i] for i in columns)
             counts[at] = counts.get(at, 0) + 1
         text = io.StringIO()
@@ -138,6 +180,28 @@ def made():
     example.say(f"upsert t('{longest}x')", "err 2 LineTooLong")
     example.say("x" * 300_000, "err 2 LineTooLong")
     example.group("t", "a")
+
+    # Payloads of more than 65,536 records, into a table without rows and into one with many, with
+    # columns in another order; of one key the last record stays.
+    example.create("p", [("id", "int"), ("city", "text"), ("g", "int")], ["id"])
+    rows = [(cities[i % 8], -i * 7919 % 90_000, i % 5) for i in range(100_000)]
+    example.load("p", ["city", "id", "g"], rows)
+    rows = [(i, None if i % 3 else i, cities[i % 7]) for i in range(80_000, 150_000)]
+    example.load("p", ["id", "g", "city"], rows, end="\r\n")
+    example.group("p", "city")
+    for i in range(0, 3000, 2):
+        example.delete("p", i)
+        example.delete("p", i + 149_000)
+    example.delete("p", 0)
+    example.show("p")
+    example.load("l", ["b", "a"], [(cities[i % 8], i % 3) for i in range(70_000)])
+    example.show("l")
+    example.load("t", ["a"], [("z" * size,) for size in [4096, 5000, 65_535] * 20])
+    example.say("load p\nid,city,g\n" + "7,x,1\n" * 70_000 + "x,y,1\n\\.", "err 11 BadInt 70001")
+    example.say("load t\na\n" + "z" * 65_536 + "\n\\.", "err 14 Limit")
+    example.say("load zz\n" + "drop p\n" * 70_000 + "\\.", "err 3 NoTable")
+    example.drop("l")
+    example.show("p")
 
     # As many tables as there may be.
     for i in range(64 - len(example.tables)):

@@ -113,7 +113,7 @@ fn fits(command: &Command, bounds: &Bounds) -> bool
     }
 }
 
-/// The command that a line says. The line comes without its end.
+/// The command that a line says, where a load has an open payload. The line comes without its end.
 pub fn parse_line(alloc: Global, line: &[u8], limits: &Limits) -> Result<Command, LineRefusal>
     // A command comes only where the line says it, and it is within the limits.
     ensures said { IfOk result (λ c. Says line.now c) }

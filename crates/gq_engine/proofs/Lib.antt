@@ -13,4 +13,5 @@ pub mod RunLemmas
 pub mod StepLemmas
 pub mod TableLemmas
 pub mod TakenLemmas
+pub mod UpsertLemmas
 mod Vectors

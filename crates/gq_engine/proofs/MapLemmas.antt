@@ -10,14 +10,14 @@ use Rattle.gq_row.specs.Tables.{PlainTable}
 use Rattle.gq_table.proofs.StandingLemmas.{two, both}
 use Rattle.gq_engine.specs.Databases.{Database, table_at, with_table, without_table, names_differ, IsFiniteMap}
 
-itself : (name : List ℕ) → bytes_eq name name ≡ true
+pub itself : (name : List ℕ) → bytes_eq name name ≡ true
 itself name = (bytes_eq-Decides name name).1 refl
 
 -- names that are one are unlike the same names
 unlike : (a b c : List ℕ) → bytes_eq a b ≡ true → bytes_eq b c ≡ false → bytes_eq a c ≡ false
 unlike a b c h k = ap (λ n. bytes_eq n c) ((bytes_eq-Decides a b).0 h) ∙ k
 
-changed : (db : Database) (name : List ℕ) (table : PlainTable) → table_at (with_table db name table) name ≡ Some table
+pub changed : (db : Database) (name : List ℕ) (table : PlainTable) → table_at (with_table db name table) name ≡ Some table
 changed [] name table = ap (λ b. cond b (Some table) None) (itself name)
 changed (entry ∷ db) name table = here (bytes_eq entry.0 name) refl (changed db name table)
   where

@@ -4,6 +4,7 @@ ghost use Rattle.gq_engine.specs.Databases.{IsFiniteMap};
 ghost use Rattle.gq_engine.specs.Orders.{OrderIsUnseen};
 ghost use Rattle.gq_engine.specs.Repeating.{AnswersOnce};
 ghost use Rattle.gq_engine.specs.Runs.{OnlyMemoryRefuses};
+ghost use Rattle.gq_engine.specs.Upserting.{LoadIsUpserts};
 
 /// A database is a finite map from names to tables, and no name stands in it twice.
 pub fn database_is_a_map()
@@ -20,6 +21,12 @@ pub fn only_memory_refuses()
 /// list of items, and databases that again differ only so.
 pub fn order_is_unseen()
     ensures { OrderIsUnseen }
+{}
+
+/// A load that is carried out leaves the tables that the upserts of its rows leave, one after the
+/// other, and tells their number.
+pub fn load_is_upserts()
+    ensures { LoadIsUpserts }
 {}
 
 /// Two runs of one script give the same replies, and leave tables that differ at most in the order

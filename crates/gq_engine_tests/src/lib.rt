@@ -22,4 +22,6 @@ mod refusal_texts;
 #[cfg(test)]
 mod runs;
 #[cfg(test)]
+mod starved;
+#[cfg(test)]
 mod values;

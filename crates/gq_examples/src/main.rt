@@ -1,31 +1,38 @@
 //! Worked scripts and their replies. Each name in `data/names` is a script `NAME.gq`, which an
-//! engine runs with the greatest limits, and the bytes `NAME.out` that it must write. A new example
-//! is two files and a name in the list.
+//! engine runs with the greatest limits, and the bytes `NAME.out` that it must write: under FNV-1a
+//! with two seeds, under one hash for all keys, and under few bits of a hash. A new example is two
+//! files and a name in the list.
 //!
 //! Its standard output has a line `NAME ok` for each, so a reply that is not as it should be shows as
 //! `NAME WRONG`.
 #![tactic(auto)]
 
 use gq_engine::Engine;
-use gq_row::Limits;
+use gq_row::{Key, Limits};
 use std::alloc::Global;
 use std::rt::Files;
 use std::{fs, io};
-use sw_probe::Fnv1a;
+use sw_probe::{Constant, Fnv1a, KeyHash, LowBits};
 
-/// What a run of a script writes.
-fn replies(alloc: Global, script: &[u8]) -> Vec<u8> {
-    let mut engine = Engine::new(alloc, Fnv1a { seed: 0 }, Limits::greatest());
+/// Whether a run of a script writes what it must, under a hasher.
+fn writes<H: KeyHash<Key> + Copy>(alloc: Global, hasher: H, script: &[u8], due: &[u8]) -> bool {
+    let mut engine = Engine::new(alloc, hasher, Limits::greatest());
     let mut written = Vec::new(alloc);
     let _ended = engine.run(script, &mut written);
-    written
+    written.as_slice() == due
 }
 
 fn is_right(rt: &(impl Files + AllocGlobal), name: &str) -> io::Result<bool> {
     let alloc = rt.alloc();
     let script = fs::read(rt, format!(in alloc; "{name}.gq")?.as_str())?;
     let due = fs::read(rt, format!(in alloc; "{name}.out")?.as_str())?;
-    Ok(replies(alloc, script.as_slice()).as_slice() == due.as_slice())
+    let (script, due) = (script.as_slice(), due.as_slice());
+    Ok(
+        writes(alloc, Fnv1a { seed: 0 }, script, due)
+            && writes(alloc, Fnv1a { seed: u64::MAX }, script, due)
+            && writes(alloc, Constant(0), script, due)
+            && writes(alloc, LowBits(7), script, due),
+    )
 }
 
 fn main(rt: HostRuntime) -> io::Result<()> {

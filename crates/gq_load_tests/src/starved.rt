@@ -3,87 +3,11 @@
 use crate::tables::{Table, schema};
 use gq_load::{LoadRefusal, load_rows};
 use gq_row::{Limits, Row, Sequence, Value};
-use std::alloc::{AllocError, Global};
+use starved_tests::{POOLS, Starved};
 use std::test::Fail;
-
-// The size of a pool in bytes, small enough that the allocator keeps it among its own.
-const POOL: usize = 100_000;
-
-// More pools than there are steps.
-const POOLS: usize = 1_000;
 
 // By how many bytes what is left grows with each step.
 const STEP: usize = 16;
-
-// More blocks than there are of any size that is tried.
-const BLOCKS: usize = 500_000;
-
-// The first size that is tried, in bytes: half of what a process can address.
-const GREATEST: usize = 1 << 46;
-
-/// All memory that there was, some of it in pools that can be given back.
-#[derive(Drop)]
-struct Starved {
-    held: Vec<Vec<u8>>,
-    pools: Vec<Vec<u8>>,
-}
-
-impl Starved {
-    /// Takes the pools, and then blocks of the greatest size until none is had, then of half of it,
-    /// down to one byte.
-    fn new(alloc: Global) -> Result<Starved, AllocError> {
-        let mut pools = Vec::with_capacity(alloc, POOLS)?;
-        for _ in 0..POOLS {
-            pools.push(Vec::with_capacity(alloc, POOL)?)?;
-        }
-        let mut starved = Starved {
-            held: Vec::with_capacity(alloc, BLOCKS)?,
-            pools,
-        };
-        for halvings in 0..=46u32 {
-            starved.take_all(alloc, GREATEST >> halvings);
-        }
-        Ok(starved)
-    }
-
-    // Takes blocks of one size until none is had.
-    fn take_all(&mut self, alloc: Global, size: usize) {
-        for _ in self.held.len()..self.held.capacity() {
-            let Ok(block) = Vec::with_capacity(alloc, size) else {
-                return;
-            };
-            let _ = self.held.push(block);
-        }
-    }
-
-    // Takes what little there is: blocks of each small size, then of half the size each time, then of
-    // each small size.
-    fn take_rest(&mut self, alloc: Global) {
-        for k in 0..64usize {
-            self.take_all(alloc, 24 + 16 * k);
-        }
-        for halvings in 0..=17u32 {
-            self.take_all(alloc, (1 << 17) >> halvings);
-        }
-        for k in 0..64usize {
-            self.take_all(alloc, 24 + 16 * k);
-        }
-    }
-
-    /// Leaves so many bytes, or none where there is no pool any more, for one run.
-    fn leave(&mut self, alloc: Global, bytes: usize) -> Result<Vec<u8>, AllocError> {
-        drop(self.pools.pop());
-        Vec::with_capacity(alloc, POOL.saturating_sub(bytes))
-    }
-
-    /// Takes back what a run had, and what was kept from it.
-    fn end(&mut self, alloc: Global, kept: Vec<u8>) {
-        if self.held.len() < self.held.capacity() {
-            let _ = self.held.push(kept);
-        }
-        self.take_rest(alloc);
-    }
-}
 
 const PAYLOAD: &[u8] =
     b"city,id\nOslo,1\n\"a city of a name that takes a block of its own\",2\nRome,3\n,4\n\\N,5\nBern,6\n";

@@ -1,3 +1,5 @@
+mod GivenLemmas
 mod LineLemmas
+mod SeedLemmas
 mod StatusLemmas
 mod WordsLemmas

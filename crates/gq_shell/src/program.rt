@@ -48,7 +48,7 @@ where
         }
     };
     match read_words(alloc, words.as_slice()) {
-        Ok(options) => run_script(alloc, options.script, opener, input, replies, errors),
+        Ok(options) => run_script(alloc, options, opener, input, replies, errors),
         Err(bad) => answer_bad_line(&bad, replies, errors),
     }
 }

@@ -6,17 +6,19 @@ ghost use Rattle.gq_shell.specs.Streams.{stream};
 
 use crate::session::session;
 use crate::stopping::answer_error;
+use crate::words::Options;
 use gq_engine::Engine;
 use gq_row::Limits;
 use std::alloc::Global;
 use std::io::{self, Read, Write};
 use sw_probe::Fnv1a;
 
-/// Runs a script in a new engine under the greatest limits, and answers the exit status. The script
-/// is what `opener` gives for the path, and `input` where there is no path.
+/// Runs a script in a new engine under the greatest limits, whose hash has the seed given, and
+/// answers the exit status. The script is what `opener` gives for the path, and `input` where there
+/// is no path.
 pub fn run_script<R, S, F, W, E>(
     alloc: Global,
-    path: Option<&str>,
+    options: Options,
     opener: F,
     input: R,
     replies: &mut W,
@@ -35,11 +37,11 @@ where
           remaining = S.remaining;
           opens = λ name opened. FnOnceReturnsAt F.FnOnce opener name opened;
         })
-        (option_map (λ s. s.now) path.entry) (stream W.contents replies.old replies.new)
+        (option_map (λ s. s.now) options.entry.script) (stream W.contents replies.old replies.new)
         (stream E.contents errors.old errors.new) result }
 {
-    let mut engine = Engine::new(alloc, Fnv1a { seed: 0 }, Limits::greatest());
-    match path {
+    let mut engine = Engine::new(alloc, Fnv1a { seed: options.seed }, Limits::greatest());
+    match options.script {
         None => session(&mut engine, input, replies, errors),
         Some(path) => match opener(path) {
             Ok(script) => session(&mut engine, script, replies, errors),

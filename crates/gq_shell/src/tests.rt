@@ -19,39 +19,95 @@ fn owned(alloc: Global, words: &[&str]) -> Result<Vec<String>, AllocError> {
     Ok(all)
 }
 
-/// Each command line, and the script that it names, if it is one.
+/// Each command line, and the script and the seed that it names.
 #[test]
 fn command_lines(rt: HostRuntime) -> Result<(), Fail> {
-    let cases: [(&[&str], Option<Option<&str>>); 15] = [
-        (&["groupsh"], Some(None)),
-        (&["groupsh", "a.gq"], Some(Some("a.gq"))),
-        (&["groupsh", ""], Some(Some(""))),
-        (&["groupsh", "-"], Some(Some("-"))),
-        (&["groupsh", "--", "a.gq"], Some(Some("a.gq"))),
-        (&["groupsh", "--", "--help"], Some(Some("--help"))),
-        (&["groupsh", "--"], Some(None)),
-        (&["groupsh", "a.gq", "b.gq"], None),
-        (&["groupsh", "--budget", "7"], None),
-        (&["groupsh", "--budget=7"], None),
-        (&["groupsh", "--seed", "7"], None),
-        (&["groupsh", "--spill", "d"], None),
-        (&["groupsh", "--stats"], None),
-        (&["groupsh", "-x"], None),
-        (&["groupsh", "--version"], None),
+    let cases: [(&[&str], Option<&str>, u64); 16] = [
+        (&["groupsh"], None, 0),
+        (&["groupsh", "a.gq"], Some("a.gq"), 0),
+        (&["groupsh", ""], Some(""), 0),
+        (&["groupsh", "-"], Some("-"), 0),
+        (&["groupsh", "--", "a.gq"], Some("a.gq"), 0),
+        (&["groupsh", "--", "--help"], Some("--help"), 0),
+        (&["groupsh", "--"], None, 0),
+        (&["groupsh", "--seed", "5"], None, 5),
+        (&["groupsh", "--seed", "5", "a.gq"], Some("a.gq"), 5),
+        (&["groupsh", "--seed=5", "a.gq"], Some("a.gq"), 5),
+        (&["groupsh", "a.gq", "--seed", "5"], Some("a.gq"), 5),
+        (&["groupsh", "a.gq", "--seed=5"], Some("a.gq"), 5),
+        (&["groupsh", "--seed", "+042"], None, 42),
+        (&["groupsh", "--seed", "0", "7"], Some("7"), 0),
+        (&["groupsh", "--seed=18446744073709551615"], None, u64::MAX),
+        (&["groupsh", "--", "--seed=5"], Some("--seed=5"), 0),
     ];
-    for (words, script) in cases {
+    for (words, script, seed) in cases {
         let words = owned(rt.alloc(), words)?;
         match read_words(rt.alloc(), words.as_slice()) {
-            Ok(options) => assert!(rt; Some(options.script) == script, "{words:?}"),
-            Err(BadLine::Mistake(text)) => {
-                assert!(rt; script.is_none(), "{words:?}");
-                assert!(rt; text.as_str().starts_with("error: "), "{text}");
-                assert!(rt;
-                    text.as_str().contains("Usage: groupsh [SCRIPT]\n"),
-                    "{text}"
-                );
+            Ok(options) => {
+                assert!(rt; options.script == script, "{words:?}");
+                assert!(rt; options.seed == seed, "{words:?}");
             }
             Err(other) => assert!(rt; false, "{words:?}: {other:?}"),
+        }
+    }
+    Ok(())
+}
+
+/// Each command line that is none, and what is wrong with it.
+#[test]
+fn mistakes(rt: HostRuntime) -> Result<(), Fail> {
+    let cases: [(&[&str], &str); 18] = [
+        (&["groupsh", "a.gq", "b.gq"], "argument 'b.gq' found\n"),
+        (&["groupsh", "--budget", "7"], "argument '--budget' found\n"),
+        (&["groupsh", "--budget=7"], "argument '--budget' found\n"),
+        (&["groupsh", "--spill", "d"], "argument '--spill' found\n"),
+        (&["groupsh", "--stats"], "argument '--stats' found\n"),
+        (&["groupsh", "-x"], "argument '-x' found\n"),
+        (&["groupsh", "--version"], "argument '--version' found\n"),
+        (&["groupsh", "--see", "7"], "argument '--see' found\n"),
+        (
+            &["groupsh", "--seed"],
+            "a value is required for '--seed <N>'",
+        ),
+        (
+            &["groupsh", "--seed", "--", "7"],
+            "a value is required for '--seed <N>'",
+        ),
+        (&["groupsh", "--seed", "-1"], "argument '-1' found\n"),
+        (
+            &["groupsh", "--seed=-1"],
+            "invalid value '-1' for '--seed <N>'",
+        ),
+        (&["groupsh", "--seed="], "invalid value '' for '--seed <N>'"),
+        (
+            &["groupsh", "--seed", "x"],
+            "invalid value 'x' for '--seed <N>'",
+        ),
+        (
+            &["groupsh", "--seed", "1.5"],
+            "invalid value '1.5' for '--seed <N>'",
+        ),
+        (
+            &["groupsh", "--seed", "a.gq"],
+            "invalid value 'a.gq' for '--seed <N>'",
+        ),
+        (
+            &["groupsh", "--seed", "18446744073709551616"],
+            "number too large to fit in target type",
+        ),
+        (
+            &["groupsh", "--seed", "1", "--seed=1"],
+            "cannot be used multiple times",
+        ),
+    ];
+    for (words, wrong) in cases {
+        let words = owned(rt.alloc(), words)?;
+        match read_words(rt.alloc(), words.as_slice()) {
+            Err(BadLine::Mistake(text)) => {
+                assert!(rt; text.as_str().starts_with("error: "), "{text}");
+                assert!(rt; text.as_str().contains(wrong), "{text}");
+            }
+            other => assert!(rt; false, "{words:?}: {other:?}"),
         }
     }
     Ok(())
@@ -70,7 +126,7 @@ fn help(rt: HostRuntime) -> Result<(), Fail> {
             return Err(Fail::new("no help"));
         };
         for part in [
-            "Usage: groupsh [SCRIPT]\n",
+            "Usage: groupsh [OPTIONS] [SCRIPT]\n",
             "upsert s (1, 'Oslo')\n",
             "docs/LANGUAGE.md",
         ] {
@@ -277,8 +333,10 @@ fn programs(rt: HostRuntime) -> Result<(), Fail> {
     let both = b"ok 0\nerr 1 Syntax\n".as_slice();
     let unopened = b"groupsh: cannot open script\n".as_slice();
     let full = b"groupsh: out of memory\n".as_slice();
-    let cases: [(&[&str], u8, &[u8], &[u8]); 7] = [
+    let cases: [(&[&str], u8, &[u8], &[u8]); 9] = [
         (&["groupsh"], 1, refused, b""),
+        (&["groupsh", "--seed=7"], 1, refused, b""),
+        (&["groupsh", "--seed", "7", "-"], 1, both, b""),
         (&["groupsh", "a.gq"], 0, b"ok 0\n", b""),
         (&["groupsh", "-"], 1, both, b""),
         (&["groupsh", "--", "-"], 1, both, b""),
@@ -298,8 +356,9 @@ fn programs(rt: HostRuntime) -> Result<(), Fail> {
 
 #[test]
 fn command_lines_that_run_nothing(rt: HostRuntime) -> Result<(), Fail> {
-    let cases: [(&[&str], u8, &str, &str); 2] = [
+    let cases: [(&[&str], u8, &str, &str); 3] = [
         (&["groupsh", "--help"], 0, "Keeps rows", ""),
+        (&["groupsh", "--seed", "x", "a.gq"], 2, "", "error: "),
         (&["groupsh", "a.gq", "b.gq"], 2, "", "error: "),
     ];
     for (words, status, replies_front, errors_front) in cases {

@@ -1,11 +1,11 @@
 //! The program's command line.
-ghost use Rattle.std.specs.Prelude.{◌≡◌, IfOk, map, string_bytes};
-ghost use Rattle.clap.specs.Words.{app_of, kind_of};
+ghost use Rattle.std.specs.Prelude.{◌≡◌, IfOk, codes, map, string_bytes};
+ghost use Rattle.clap.specs.Words.{app_of, found_of, kind_of, one_text};
 ghost use Rattle.gq_shell.specs.CommandLine.{LINE};
-ghost use Rattle.gq_shell.specs.Words.{IsToldAs, Reads};
+ghost use Rattle.gq_shell.specs.Words.{IsReadAs, IsToldAs, Reads};
 
 use clap::error::ErrorKind;
-use clap::{Arg, Command, Error};
+use clap::{Arg, ArgMatches, Command, Error, value_parser};
 use std::alloc::{AllocError, Global};
 
 /// What a command line asks for.
@@ -13,6 +13,8 @@ use std::alloc::{AllocError, Global};
 pub struct Options<'a> {
     /// The path of the script. Without one the script is the standard input.
     pub script: Option<&'a str>,
+    /// The seed of the hash by which tables keep their rows. No reply depends on it.
+    pub seed: u64,
 }
 
 /// Why a command line asks for no run.
@@ -61,6 +63,12 @@ Exit status:
 fn command_line<'a>(alloc: Global) -> Result<Command<'a>, AllocError>
     ensures { IfOk result (λ c. app_of c ≡ LINE) }
 {
+    let seed = Arg::new(alloc, "seed")
+        .long("seed")
+        .value_name("N")
+        .value_parser(value_parser!(u64))
+        .default_value("0")
+        .help("Seed of the hash that tables use; no reply depends on it");
     let script = Arg::new(alloc, "SCRIPT").help(
         "File with the script; without it, standard input is read",
     );
@@ -68,7 +76,15 @@ fn command_line<'a>(alloc: Global) -> Result<Command<'a>, AllocError>
         .bin_name("groupsh")?
         .about(ABOUT)
         .after_help(MORE)
+        .arg(seed)?
         .arg(script)
+}
+
+// The seed among the matches.
+fn seed_in(matches: &ArgMatches) -> u64
+    ensures { IsReadAs (one_text (found_of matches.now) (codes "seed")) result }
+{
+    matches.get_one("seed").unwrap_or(0)
 }
 
 // What clap answers in place of matches.
@@ -96,6 +112,7 @@ pub fn read_words<'a>(alloc: Global, words: &'a [String]) -> Result<Options<'a>,
     match line.try_get_matches_from(words) {
         Ok(matches) => Ok(Options {
             script: matches.get_str("SCRIPT"),
+            seed: seed_in(&matches),
         }),
         Err(error) => Err(bad_line(alloc, &error)),
     }

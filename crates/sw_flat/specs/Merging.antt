@@ -1,10 +1,9 @@
 -- One map into another.
-use Rattle.std.specs.Prelude.{◌≡◌, ℕ, ◌+◌, ◌≤◌, List}
+use Rattle.std.specs.Prelude.{◌≡◌, ℕ, ◌+◌, List}
 use Rattle.std.specs.Option.{option_or}
 use Rattle.std.specs.FinMap.{get, len}
-use Rattle.sw_table.specs.View.{View, slot_count}
+use Rattle.sw_table.specs.View.{View}
 use Rattle.sw_table.specs.Entries.{entries}
-use Rattle.sw_table.specs.Sizes.{room_of, IsCapacity}
 use Rattle.sw_flat.specs.Maps.{lacked, shared}
 
 module _ {K V H : Type 0} (class : K → List ℕ) where
@@ -16,11 +15,6 @@ module _ {K V H : Type 0} (class : K → List ℕ) where
   pub record MovesLacked (m n m' n' : View K V H) : Type 0 where
     pub union : (c : List ℕ) → get (entries class m') c ≡ option_or (get (entries class m) c) (get (entries class n) c)
     pub left : entries class n' ≡ shared (entries class m) (entries class n)
-
-  -- m' has at least as many slots as m, and at most as many as the least capacity with room for the union
-  pub record GrowsForUnion (m n m' : View K V H) : Type 0 where
-    pub grows : slot_count m ≤ slot_count m'
-    pub least : (c : ℕ) → IsCapacity c → union_size m n ≤ room_of c → slot_count m ≤ c → slot_count m' ≤ c
 
 -- both maps keep their hashers
 pub record KeepsHashers {K V H : Type 0} (m n m' n' : View K V H) : Type 0 where

@@ -50,12 +50,13 @@ impl<K: Keyed, H: KeyHash<K>> FlatSet<K, H> {
 
     /// Takes the next key of a walk out, where no key stands before the walk. So from
     /// [`FlatSet::walk`] on the calls give each key once, in the order of the slots, and take no
-    /// memory. At the end the set has its slots, all of them empty. Until then the keys that did not
-    /// come are in the set still.
+    /// memory. At the end the set has its slots, all of them empty. Until then the keys that did
+    /// not come are in the set still.
     #[inline]
     pub fn drain_next(&mut self, walk: &mut Walk) -> Option<K>
         requires { IsDraining self.old walk.old }
-        ensures key { IfSome result (λ k. filled self.old.places ≡ (k, tt) ∷ filled self.new.places) }
+        ensures key { IfSome result (λ k. filled self.old.places ≡
+            (k, tt) ∷ filled self.new.places) }
         ensures entries { IfSome result (λ k. entries K.class self.new ≡
             remove (entries K.class self.old) (K.class k)) }
         ensures end { IfNone result ((filled self.old.places ≡ []) ×

@@ -62,7 +62,8 @@ impl<K: Keyed, V, H: KeyHash<K>> FlatMap<K, V, H> {
     #[inline]
     pub fn value_mut(&mut self, slot: SlotNo) -> &mut V
         requires { IsFull self.old slot.index }
-        ensures* writes_back { sem 𝓛 (lends_slot K.row V.row H.row K.Keyed H.KeyHash self.entry slot.index result) }
+        ensures* writes_back { sem 𝓛
+            (lends_slot K.row V.row H.row K.Keyed H.KeyHash self.entry slot.index result) }
         ensures value { option_map (λ p. p.1) (entry_at self.old slot.index) ≡ Some result.now }
         ensures entries { (p : K × V) (w : V) → entry_at self.old slot.index ≡ Some p →
             entries K.class (with_value self.old slot.index w) ≡
@@ -76,7 +77,8 @@ impl<K: Keyed, V, H: KeyHash<K>> FlatMap<K, V, H> {
     ///
     /// The capacity stays where the table has space, as for [`FlatMap::try_emplace`], and then no
     /// call is refused. Else the capacity doubles, or the call refuses: with `Limit` where the
-    /// capacity is 2^28, else with `Memory`. The pair is then handed back, and the map is as it was.
+    /// capacity is 2^28, else with `Memory`. The pair is then handed back, and the map is as it
+    /// was.
     #[inline]
     pub fn fill(&mut self, vacancy: Vacancy, key: K, value: V) -> Result<SlotNo, Refused<K, V>>
         requires { IsVacancy K.class (hash_by H.hash_of K.bytes self.old.hasher) self.old

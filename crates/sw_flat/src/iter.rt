@@ -72,7 +72,8 @@ impl<'a, K: Keyed, H: KeyHash<K>> IntoIterator for &'a FlatSet<K, H> {
 
     type IntoIter = Keys<'a, K, (), H>;
 
-    ghost into_iter_gives = { λ set it. ListsAll K.class (map (λ k. (k, tt)) it) (entries K.class set.now) };
+    ghost into_iter_gives = { λ set it.
+        ListsAll K.class (map (λ k. (k, tt)) it) (entries K.class set.now) };
 
     #[inline]
     fn into_iter(self) -> Keys<'a, K, (), H> {

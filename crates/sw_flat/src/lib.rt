@@ -15,6 +15,9 @@
 //! - [`FlatMap::iter`], `keys` and `values` go over the slots in order, and read the control bytes of
 //!   a group once. [`FlatMap::drain_next`] takes the entries out one by one, each once, and leaves
 //!   the slots empty.
+//! - [`FlatMap::retain`] asks a closure of each entry, and drops those that it doesn't keep.
+//! - Maps are equal where each key of one is in the other with an equal value, whatever the order of
+//!   their slots, and sets where each key of one is in the other.
 //! - [`FlatMap::merge`] makes room first, so that it moves all entries or none, and does nothing
 //!   where no key is new.
 //!
@@ -39,16 +42,19 @@
 //! and what a refusal leaves, and the room promise holds.
 #![tactic(auto)]
 
+mod debug;
 mod drain;
 mod emplaced;
 mod entries;
 mod entry;
+mod equality;
 mod iter;
 mod keys;
 mod laws;
 mod list;
 mod map;
 mod merge;
+mod retain;
 mod set;
 mod values;
 

@@ -15,9 +15,9 @@ impl<K: Keyed + Drop, V: Drop, H: KeyHash<K> + Drop> FlatMap<K, V, H> {
         ensures list { IfOk result (λ list. ListsAll K.class list.items (entries K.class self)) }
         ensures handed_back { IfErr result (λ map. map ≡ self) }
     {
-        let FlatMap { mut table, alloc } = self;
-        let Ok(mut list) = Vec::with_capacity(alloc, table.len()) else {
-            return Err(FlatMap { table, alloc });
+        let FlatMap { mut table } = self;
+        let Ok(mut list) = Vec::with_capacity(table.allocator(), table.len()) else {
+            return Err(FlatMap { table });
         };
         let _ = table.capacity();
         let mut walk = Walk::new();
@@ -34,14 +34,15 @@ impl<K: Keyed + Drop, H: KeyHash<K> + Drop> FlatSet<K, H> {
     /// The keys as a list, each once, in no order that is promised. Where memory for the list is
     /// refused, the set comes back.
     pub fn into_list(self) -> Result<Vec<K>, FlatSet<K, H>>
-        ensures list { IfOk result (λ list. ListsAll K.class (map (λ k. (k, tt)) list.items) (entries K.class self)) }
+        ensures list { IfOk result (λ list.
+            ListsAll K.class (map (λ k. (k, tt)) list.items) (entries K.class self)) }
         ensures handed_back { IfErr result (λ set. set ≡ self) }
     {
         let FlatSet { map } = self;
-        let FlatMap { mut table, alloc } = map;
-        let Ok(mut list) = Vec::with_capacity(alloc, table.len()) else {
+        let FlatMap { mut table } = map;
+        let Ok(mut list) = Vec::with_capacity(table.allocator(), table.len()) else {
             return Err(FlatSet {
-                map: FlatMap { table, alloc },
+                map: FlatMap { table },
             });
         };
         let _ = table.capacity();

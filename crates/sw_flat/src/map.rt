@@ -5,7 +5,7 @@ ghost use Rattle.std.specs.FinMap.{empty, len, contains_key};
 ghost use Rattle.sw_table.specs.View.{slot_count, fresh, NoneDeleted};
 ghost use Rattle.sw_table.specs.Entries.{entries};
 ghost use Rattle.sw_table.specs.Sizes.{room_of, IsCapacity};
-ghost use Rattle.sw_table.specs.declared.refused.Why.TheVariants.{Limit};
+ghost use Rattle.sw_table.specs.Room.{IsMadeFor, GrowsFor, RefusesPast, RefusesRoom};
 ghost use Rattle.sw_flat.specs.Maps.{value_at};
 
 use std::alloc::Global;
@@ -20,7 +20,6 @@ use sw_table::{Table, Why};
 #[derive(Drop)]
 pub struct FlatMap<K: Keyed, V, H: KeyHash<K>> {
     pub(crate) table: Table<K, V, H>,
-    pub(crate) alloc: Global,
 }
 
 impl<K: Keyed, V, H: KeyHash<K>> Model for FlatMap<K, V, H> {
@@ -44,7 +43,6 @@ impl<K: Keyed, V, H: KeyHash<K>> FlatMap<K, V, H> {
     {
         FlatMap {
             table: Table::new(alloc, hasher),
-            alloc,
         }
     }
 
@@ -56,16 +54,12 @@ impl<K: Keyed, V, H: KeyHash<K>> FlatMap<K, V, H> {
     pub fn with_room(alloc: Global, hasher: H, n: usize) -> Result<FlatMap<K, V, H>, Why>
     where
         H: Drop,
-        ensures table { IfOk result (λ m. m ≡ fresh (slot_count m) hasher) }
-        ensures entries { IfOk result (λ m. entries K.class m ≡ empty) }
-        ensures room { IfOk result (λ m. n ≤ room_of (slot_count m)) }
-        ensures least { IfOk result (λ m. (c : ℕ) → IsCapacity c → n ≤ room_of c → slot_count m ≤ c) }
+        ensures made { IfOk result (IsMadeFor K.class hasher n) }
         ensures no_memory { n ≡ 0 → IsOk result }
-        ensures limit { (result ≡ Err Limit) ↔ (room_of (2 ^ 28) < n) }
+        ensures limit { RefusesPast n result }
     {
         Ok(FlatMap {
             table: Table::with_room(alloc, hasher, n)?,
-            alloc,
         })
     }
 
@@ -118,12 +112,9 @@ impl<K: Keyed, V, H: KeyHash<K>> FlatMap<K, V, H> {
     pub fn reserve(&mut self, n: usize) -> Result<(), Why>
         ensures entries { entries K.class self.new ≡ entries K.class self.old }
         ensures room { OnOk result (n ≤ room_of (slot_count self.new)) }
-        ensures grows { slot_count self.old ≤ slot_count self.new }
-        ensures least { (c : ℕ) → IsCapacity c → n ≤ room_of c → slot_count self.old ≤ c → slot_count self.new ≤ c }
-        ensures enough { n ≤ room_of (slot_count self.old) → IsOk result × (self.new ≡ self.old) }
+        ensures grows { GrowsFor n self.old self.new }
         ensures hasher { self.new.hasher ≡ self.old.hasher }
-        ensures unchanged { OnErr result (self.new ≡ self.old) }
-        ensures limit { (result ≡ Err Limit) ↔ (room_of (2 ^ 28) < n) }
+        ensures refused { RefusesRoom n result self.old self.new }
     {
         self.table.reserve(n)
     }
@@ -163,8 +154,10 @@ impl<K: Keyed, V, H: KeyHash<K>> FlatMap<K, V, H> {
     /// under the key that is stored.
     #[inline]
     pub fn get_mut<Q: Names<K>>(&mut self, q: &Q) -> Option<&mut V>
-        ensures* writes_back { sem 𝓛 (lends_value K.row V.row H.row K.Keyed H.KeyHash self.entry (Q.named q.now) result) }
-        ensures value { option_copied_mut result ≡ value_at (entries K.class self.old) (Q.named q.now) }
+        ensures* writes_back { sem 𝓛
+            (lends_value K.row V.row H.row K.Keyed H.KeyHash self.entry (Q.named q.now) result) }
+        ensures value { option_copied_mut result ≡
+            value_at (entries K.class self.old) (Q.named q.now) }
     {
         let slot = self.table.find(q)?;
         Some(self.table.at_mut(slot))

@@ -3,10 +3,11 @@ ghost use Rattle.std.specs.Prelude.{◌≡◌, ◌↔◌, ◌+◌, ◌<◌, ◌�
 ghost use Rattle.std.specs.FinMap.{len};
 ghost use Rattle.sw_table.specs.View.{slot_count};
 ghost use Rattle.sw_table.specs.Entries.{entries};
+ghost use Rattle.sw_table.specs.Room.{GrowsFor};
 ghost use Rattle.sw_table.specs.Sizes.{room_of};
 ghost use Rattle.sw_table.specs.declared.refused.Why.TheVariants.{Limit};
 ghost use Rattle.sw_flat.specs.Maps.{lacked};
-ghost use Rattle.sw_flat.specs.Merging.{MovesLacked, GrowsForUnion, KeepsHashers, union_size};
+ghost use Rattle.sw_flat.specs.Merging.{MovesLacked, KeepsHashers, union_size};
 
 use crate::map::FlatMap;
 use crate::set::FlatSet;
@@ -15,8 +16,8 @@ use sw_table::{Walk, Why};
 
 impl<K: Keyed, V, H: KeyHash<K>> FlatMap<K, V, H> {
     /// Moves the entries of `other` over whose keys this map lacks, and leaves the others. What
-    /// moves is hashed by this map's hasher. Where nothing is lacking nothing changes, and no memory
-    /// is asked for.
+    /// moves is hashed by this map's hasher. Where nothing is lacking nothing changes, and no
+    /// memory is asked for.
     ///
     /// Else room for both maps' keys together is made first, by the least capacity that has it.
     /// That is refused with `Limit` where the capacity would pass 2^28, and else with `Memory`, and
@@ -30,7 +31,7 @@ impl<K: Keyed, V, H: KeyHash<K>> FlatMap<K, V, H> {
             IsOk result × (self.new ≡ self.old) × (other.new ≡ other.old) }
         ensures enough { union_size K.class self.old other.old ≤ room_of (slot_count self.old) →
             IsOk result × (slot_count self.new ≡ slot_count self.old) }
-        ensures grows { GrowsForUnion K.class self.old other.old self.new }
+        ensures grows { GrowsFor (union_size K.class self.old other.old) self.old self.new }
         ensures room { OnOk result (
             0 < len (lacked (entries K.class self.old) (entries K.class other.old)) →
             union_size K.class self.old other.old ≤ room_of (slot_count self.new)) }
@@ -116,8 +117,8 @@ impl<K: Keyed, V, H: KeyHash<K>> FlatMap<K, V, H> {
 
 impl<K: Keyed, H: KeyHash<K>> FlatSet<K, H> {
     /// Moves the keys of `other` over that this set lacks, and leaves the others. What moves is
-    /// hashed by this set's hasher. Where nothing is lacking nothing changes, and no memory is asked
-    /// for.
+    /// hashed by this set's hasher. Where nothing is lacking nothing changes, and no memory is
+    /// asked for.
     ///
     /// Else room for the keys of both together is made first, by the least capacity that has it.
     /// That is refused with `Limit` where the capacity would pass 2^28, and else with `Memory`, and
@@ -130,7 +131,7 @@ impl<K: Keyed, H: KeyHash<K>> FlatSet<K, H> {
             IsOk result × (self.new ≡ self.old) × (other.new ≡ other.old) }
         ensures enough { union_size K.class self.old other.old ≤ room_of (slot_count self.old) →
             IsOk result × (slot_count self.new ≡ slot_count self.old) }
-        ensures grows { GrowsForUnion K.class self.old other.old self.new }
+        ensures grows { GrowsFor (union_size K.class self.old other.old) self.old self.new }
         ensures room { OnOk result (
             0 < len (lacked (entries K.class self.old) (entries K.class other.old)) →
             union_size K.class self.old other.old ≤ room_of (slot_count self.new)) }

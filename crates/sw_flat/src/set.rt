@@ -8,7 +8,7 @@ ghost use Rattle.sw_table.specs.Entries.{entries};
 ghost use Rattle.sw_table.specs.Sizes.{room_of, SameOrGrown, IsCapacity};
 ghost use Rattle.sw_table.specs.LaidOut.{hash_by};
 ghost use Rattle.sw_table.specs.Insertion.{HasSpace, InPlace, RefusesGrowth};
-ghost use Rattle.sw_table.specs.declared.refused.Why.TheVariants.{Limit};
+ghost use Rattle.sw_table.specs.Room.{IsMadeFor, GrowsFor, RefusesPast, RefusesRoom};
 ghost use Rattle.sw_flat.specs.Maps.{added};
 
 use crate::emplaced::{Emplaced, RefusedKey};
@@ -56,13 +56,9 @@ impl<K: Keyed, H: KeyHash<K>> FlatSet<K, H> {
     pub fn with_room(alloc: Global, hasher: H, n: usize) -> Result<FlatSet<K, H>, Why>
     where
         H: Drop,
-        ensures table { IfOk result (λ s. s ≡ fresh (slot_count s) hasher) }
-        ensures entries { IfOk result (λ s. entries K.class s ≡ empty) }
-        ensures room { IfOk result (λ s. n ≤ room_of (slot_count s)) }
-        ensures least { IfOk result (λ s. (c : ℕ) → IsCapacity c → n ≤ room_of c →
-            slot_count s ≤ c) }
+        ensures made { IfOk result (IsMadeFor K.class hasher n) }
         ensures no_memory { n ≡ 0 → IsOk result }
-        ensures limit { (result ≡ Err Limit) ↔ (room_of (2 ^ 28) < n) }
+        ensures limit { RefusesPast n result }
     {
         Ok(FlatSet {
             map: FlatMap::with_room(alloc, hasher, n)?,
@@ -117,13 +113,9 @@ impl<K: Keyed, H: KeyHash<K>> FlatSet<K, H> {
     pub fn reserve(&mut self, n: usize) -> Result<(), Why>
         ensures entries { entries K.class self.new ≡ entries K.class self.old }
         ensures room { OnOk result (n ≤ room_of (slot_count self.new)) }
-        ensures grows { slot_count self.old ≤ slot_count self.new }
-        ensures least { (c : ℕ) → IsCapacity c → n ≤ room_of c → slot_count self.old ≤ c →
-            slot_count self.new ≤ c }
-        ensures enough { n ≤ room_of (slot_count self.old) → IsOk result × (self.new ≡ self.old) }
+        ensures grows { GrowsFor n self.old self.new }
         ensures hasher { self.new.hasher ≡ self.old.hasher }
-        ensures unchanged { OnErr result (self.new ≡ self.old) }
-        ensures limit { (result ≡ Err Limit) ↔ (room_of (2 ^ 28) < n) }
+        ensures refused { RefusesRoom n result self.old self.new }
     {
         self.map.reserve(n)
     }

@@ -6,6 +6,8 @@
 #![tactic(auto)]
 
 #[cfg(test)]
+mod compared;
+#[cfg(test)]
 mod counted;
 #[cfg(test)]
 mod crowded;
@@ -21,6 +23,8 @@ mod plain;
 mod random_map;
 #[cfg(test)]
 mod random_table;
+#[cfg(test)]
+mod retained;
 #[cfg(test)]
 mod reused;
 #[cfg(test)]

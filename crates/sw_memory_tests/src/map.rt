@@ -160,6 +160,23 @@ fn a_rehash_that_is_called_makes_space(rt: HostRuntime) -> Result<(), Fail> {
 }
 
 #[test]
+fn entries_that_do_not_stay_and_maps_that_are_compared(rt: HostRuntime) -> Result<(), Fail> {
+    let alloc = rt.alloc();
+    let mut map = twelve(&rt, alloc, LowBits(3))?;
+    let other = twelve(&rt, alloc, LowBits(64))?;
+    let starved = Starved::new(alloc)?;
+    assert!(rt; starved.refuses(alloc));
+    assert!(rt; map == other);
+    map.retain(|key, _| *key >= 6);
+    assert_eq!(rt; map.len(), 6);
+    assert!(rt; map != other);
+    for key in 0..12u64 {
+        assert_eq!(rt; map.contains(&key), key >= 6, "key {key}");
+    }
+    Ok(())
+}
+
+#[test]
 fn a_map_comes_back_where_its_list_is_refused(rt: HostRuntime) -> Result<(), Fail> {
     let alloc = rt.alloc();
     let map = twelve(&rt, alloc, LowBits(3))?;

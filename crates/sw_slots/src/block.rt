@@ -11,7 +11,8 @@ use std::alloc::{AllocError, Allocator};
 use std::marker::{Model, PhantomData};
 use std::mem::{align_of, size_of};
 
-/// Places side by side, the first at `start`. It owns the bytes of each place, and the value of each filled one.
+/// Places side by side, the first at `start`. It owns the bytes of each place, and the value of
+/// each filled one.
 pub struct Block<T> {
     start: *mut T,
     ghost places: { List (Option T) },
@@ -23,7 +24,8 @@ impl<T> Model for Block<T> {
     ghost also_shares = { λ b _ κ. block_lent T.row b.start b.places κ };
 }
 
-/// The right to give the `len` places at `start` back to `alloc`. It takes no bytes, and for no places it is no right at all.
+/// The right to give the `len` places at `start` back to `alloc`. It takes no bytes, and for no
+/// places it is no right at all.
 pub struct Grant<T, A: Allocator> {
     mark: PhantomData<*const (T, A)>,
     ghost start: { Ptr },
@@ -41,13 +43,15 @@ impl<T> Block<T> {
     ghost use Rattle.sw_slots.specs.Granted.{IsGrantOf};
     ghost use Rattle.sw_slots.specs.Lends.{lends_place_of};
 
-    /// Returns a block of `len` vacant places, and the grant that gives it back. The error is the allocator's.
+    /// Returns a block of `len` vacant places, and the grant that gives it back. The error is the
+    /// allocator's.
     pub(crate) fn allocate<A: Allocator>(
         alloc: &A,
         len: usize,
     ) -> Result<(Block<T>, Grant<T, A>), AllocError>
         requires { (0 < len) × FitsInBlock T.row len }
-        ensures { IfOk result (λ made. (made.0.places ≡ replicate len None) × IsGrantOf made.1 made.0 alloc.now len) }
+        ensures { IfOk result (λ made. (made.0.places ≡ replicate len None) ×
+            IsGrantOf made.1 made.0 alloc.now len) }
     {
         match alloc.allocate(len * size_of::<T>(), align_of::<T>()) {
             Ok(bytes) => {
@@ -58,7 +62,8 @@ impl<T> Block<T> {
         }
     }
 
-    /// Returns a block of no places, which takes no memory. Its start points nowhere, and is never followed.
+    /// Returns a block of no places, which takes no memory. Its start points nowhere, and is never
+    /// followed.
     pub(crate) fn empty<A: Allocator>(alloc: &A) -> (Block<T>, Grant<T, A>)
         ensures { (result.0.places ≡ replicate 0 None) × IsGrantOf result.1 result.0 alloc.now 0 }
     {
@@ -67,7 +72,8 @@ impl<T> Block<T> {
         (Block { start }, Grant { mark: PhantomData })
     }
 
-    /// Gives the memory of a block back whose `len` places are all vacant. A block of no places has none.
+    /// Gives the memory of a block back whose `len` places are all vacant. A block of no places has
+    /// none.
     pub(crate) fn deallocate<A: Allocator>(self, alloc: &A, len: usize, grant: Grant<T, A>)
         requires { (self.places ≡ replicate len None) × IsGrantOf grant self alloc.now len }
     {
@@ -82,7 +88,8 @@ impl<T> Block<T> {
     #[inline]
     pub(crate) fn write(&mut self, i: usize, value: T)
         requires { (i < length self.old.places) × (place self.old.places i ≡ None) }
-        ensures { (self.new.start ≡ self.old.start) × (self.new.places ≡ slice_set self.old.places i (Some value)) }
+        ensures { (self.new.start ≡ self.old.start) ×
+            (self.new.places ≡ slice_set self.old.places i (Some value)) }
     {
         unsafe { self.start.add(i).write(value) }
     }
@@ -92,7 +99,8 @@ impl<T> Block<T> {
     pub(crate) fn read(&mut self, i: usize) -> T
         requires { IsSome (place self.old.places i) }
         ensures value { place self.old.places i ≡ Some result }
-        ensures block { (self.new.start ≡ self.old.start) × (self.new.places ≡ slice_set self.old.places i None) }
+        ensures block { (self.new.start ≡ self.old.start) ×
+            (self.new.places ≡ slice_set self.old.places i None) }
     {
         unsafe { self.start.add(i).read() }
     }

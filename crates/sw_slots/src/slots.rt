@@ -7,7 +7,8 @@ use std::alloc::{AllocError, Global};
 use std::marker::Model;
 use std_alloc::room::may_hold;
 
-/// A fixed number of places, each vacant or holding a value. A contract sees the list of what the places hold.
+/// A fixed number of places, each vacant or holding a value. A contract sees the list of what the
+/// places hold.
 ///
 /// Only `release` ends it: it has no `Drop`, and is never let go.
 pub struct Slots<T> {
@@ -35,7 +36,8 @@ impl<T> Slots<T> {
 
     /// Returns `n` vacant places. No places take no memory, and never fail.
     ///
-    /// The error is that the allocator refused the block, or that it would take more than `isize::MAX` bytes.
+    /// The error is that the allocator refused the block, or that it would take more than
+    /// `isize::MAX` bytes.
     pub fn new(alloc: Global, n: usize) -> Result<Slots<T>, AllocError>
         ensures places { IfOk result (λ s. s ≡ replicate n None) }
         ensures no_memory { n ≡ 0 → IsOk result }
@@ -105,7 +107,8 @@ impl<T> Slots<T> {
     #[inline]
     pub fn swap(&mut self, i: usize, j: usize)
         requires { IsSome (place self.old i) × IsSome (place self.old j) }
-        ensures { self.new ≡ slice_set (slice_set self.old i (place self.old j)) j (place self.old i) }
+        ensures { self.new ≡
+            slice_set (slice_set self.old i (place self.old j)) j (place self.old i) }
     {
         if i == j {
             return;

@@ -2,6 +2,7 @@ pub mod Entries
 pub mod Free
 pub mod Insertion
 pub mod LaidOut
+pub mod Room
 pub mod Settling
 pub mod Sizes
 pub mod TableLends

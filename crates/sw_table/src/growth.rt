@@ -6,7 +6,7 @@ ghost use Rattle.sw_table.specs.Entries.{entries};
 ghost use Rattle.sw_table.specs.Sizes.{SameOrGrown, grown, room_of, load_of, IsCapacity};
 ghost use Rattle.sw_table.specs.LaidOut.{used_count};
 ghost use Rattle.sw_table.specs.Insertion.{InPlace, RefusesGrowth};
-ghost use Rattle.sw_table.specs.declared.refused.Why.TheVariants.{Limit};
+ghost use Rattle.sw_table.specs.Room.{GrowsFor, RefusesRoom};
 
 use crate::blocks::new_blocks;
 use crate::moves::move_all;
@@ -26,13 +26,9 @@ impl<K: Keyed, V, H: KeyHash<K>> Table<K, V, H> {
     pub fn reserve(&mut self, n: usize) -> Result<(), Why>
         ensures entries { entries K.class self.new ≡ entries K.class self.old }
         ensures room { OnOk result (n ≤ room_of (slot_count self.new)) }
-        ensures grows { slot_count self.old ≤ slot_count self.new }
-        ensures least { (c : ℕ) → IsCapacity c → n ≤ room_of c → slot_count self.old ≤ c →
-            slot_count self.new ≤ c }
-        ensures enough { n ≤ room_of (slot_count self.old) → IsOk result × (self.new ≡ self.old) }
+        ensures grows { GrowsFor n self.old self.new }
         ensures hasher { self.new.hasher ≡ self.old.hasher }
-        ensures unchanged { OnErr result (self.new ≡ self.old) }
-        ensures limit { (result ≡ Err Limit) ↔ (room_of (2 ^ 28) < n) }
+        ensures refused { RefusesRoom n result self.old self.new }
     {
         // The proof takes the invariant from here.
         let _ = &self.ctrl;

@@ -38,8 +38,8 @@ impl<K: Keyed, V, H: KeyHash<K>> Table<K, V, H> {
         pair
     }
 
-    /// Drops every entry, and keeps the capacity. All slots are empty then. Where they are already, it
-    /// does nothing.
+    /// Drops every entry, and keeps the capacity. All slots are empty then. Where they are already,
+    /// it does nothing.
     pub fn clear(&mut self)
     where
         K: Drop,

@@ -5,7 +5,7 @@ ghost use Rattle.sw_table.specs.View.{View, slot_count, fresh, IsFull};
 ghost use Rattle.sw_table.specs.Entries.{entries};
 ghost use Rattle.sw_table.specs.Sizes.{room_of, IsCapacity};
 ghost use Rattle.sw_table.specs.LaidOut.{IsLaidOut, hash_by};
-ghost use Rattle.sw_table.specs.declared.refused.Why.TheVariants.{Limit};
+ghost use Rattle.sw_table.specs.Room.{IsMadeFor, RefusesPast};
 
 use crate::blocks::new_blocks;
 use crate::drops::empty_out;
@@ -95,13 +95,9 @@ impl<K: Keyed, V, H: KeyHash<K>> Table<K, V, H> {
     pub fn with_room(alloc: Global, hasher: H, n: usize) -> Result<Table<K, V, H>, Why>
     where
         H: Drop,
-        ensures table { IfOk result (λ t. t ≡ fresh (slot_count t) hasher) }
-        ensures entries { IfOk result (λ t. entries K.class t ≡ empty) }
-        ensures room { IfOk result (λ t. n ≤ room_of (slot_count t)) }
-        ensures least { IfOk result (λ t. (c : ℕ) → IsCapacity c → n ≤ room_of c →
-            slot_count t ≤ c) }
+        ensures made { IfOk result (IsMadeFor K.class hasher n) }
         ensures no_memory { n ≡ 0 → IsOk result }
-        ensures limit { (result ≡ Err Limit) ↔ (room_of (2 ^ 28) < n) }
+        ensures limit { RefusesPast n result }
     {
         let Some(capacity) = capacity_for(n) else {
             return Err(Why::Limit);

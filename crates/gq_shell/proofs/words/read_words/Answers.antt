@@ -1,8 +1,10 @@
 use Rattle.std.proofs.Common.{ap, sym, refl, subst, true, codes, map, string_bytes, List, ◌≡◌, ◌⊎◌, ◌∙◌}
-use Rattle.clap.specs.Words.{App, IsAmong, Text, app_of, fault_of, first_of, found_of, is_simple, is_simple_and_free, kind_of, matches_of}
-use Rattle.clap.proofs.WalkLemmas.{first_value-rows}
+use Rattle.clap.specs.Words.{App, IsAmong, Text, app_of, fault_of, first_of, found_of, is_simple, is_simple_and_free, kind_of, matches_of, one_of}
+use Rattle.clap.proofs.WalkLemmas.{first_value-rows, one_text-rows}
 use Rattle.clap.specs.declared.error.kind.ErrorKind.TheVariants as kind
-use Rattle.gq_shell.specs.CommandLine.{LINE}
+use Rattle.gq_shell.specs.CommandLine.{LINE, number_of}
+use Rattle.std.specs.Option.{option_map_or}
+use Rattle.gq_shell.proofs.GivenLemmas.{given-seed, seed-named}
 use Rattle.gq_shell.proofs.WordsLemmas.{told-bad}
 use Rattle.gq_shell.proofs.words.read_words.Goals as goal
 
@@ -17,12 +19,16 @@ returns-in-Ok-try_get_matches_from c =
     let line_is : app_of c.in-Ok.line ≡ LINE = c.in-Ok.ensures in
     let given : List Text = map string_bytes c.args.words.now in
     let found = c.in-Ok-try_get_matches_from.matches in
-    let rows = (c.in-Ok-try_get_matches_from.ensures.matches (ap is_simple line_is ∙ line_is_simple)).0 in
-    let free = c.in-Ok-try_get_matches_from.ensures.kinds (ap is_simple_and_free line_is ∙ line_is_free) in (
-      ap (λ (a : App). fault_of a given) (sym line_is) ∙ free,
-      c.get_str.ensures ∙ first_value-rows (found_of found) (codes "SCRIPT")
-          ∙ ap (first_of (codes "SCRIPT")) (rows ∙ ap (λ (a : App). matches_of a given) line_is),
-    )
+    let rows = (c.in-Ok-try_get_matches_from.ensures.matches (ap is_simple line_is ∙ line_is_simple)).0
+    ∙ ap (λ (a : App). matches_of a given) line_is in
+    let free = c.in-Ok-try_get_matches_from.ensures.kinds (ap is_simple_and_free line_is ∙ line_is_free) in
+    let seed = one_text-rows (found_of found) (codes "seed") ∙ ap (one_of (codes "seed")) rows in
+    record {
+      accepted = ap (λ (a : App). fault_of a given) (sym line_is) ∙ free;
+      script_is = sym (c.get_str.ensures ∙ first_value-rows (found_of found) (codes "SCRIPT") ∙ ap (first_of (codes "SCRIPT")) rows);
+      seed_is = ap (λ o. option_map_or number_of o 0) (sym seed)
+          ∙ seed-named _ c.seed_in.result c.seed_in.ensures (given-seed c.in-Ok.line found line_is c.in-Ok-try_get_matches_from.ensures.parsed);
+    }
 
 pub returns-in-Err : goal.returns-in-Err
 returns-in-Err c =

@@ -19,7 +19,7 @@ returns-clause-limit g c =
         | then-not-has_room_for+else-more-eq0+in_ok-reserve w ↦
             let own = w.len.ensures ∙ ap (λ v. len (entries class v)) c.self.view_is in
             let count = w.count_lacked-more.ensures.count in
-            absurd (ok_err _ _ (sym w.in_ok-reserve.was ∙ w.reserve.ensures.limit.1 (omega (arith, both.1, own, count))))
+            absurd (ok_err _ _ (sym w.in_ok-reserve.was ∙ w.reserve.ensures.refused.limit.1 (omega (arith, both.1, own, count))))
         | else-not-has_room_for w ↦
             let fits = c.has_room_for.ensures.fits w.if-not-has_room_for.false in
             let most = c.has_room_for.ensures.most in

@@ -1,0 +1,34 @@
+-- A load does what the upserts of its rows do.
+use Rattle.std.specs.Prelude.{◌≡◌, ℕ, List, length, map, Some, Ok}
+use Rattle.gq_row.specs.declared.value.Value.{Value}
+use Rattle.gq_row.specs.declared.limits.Bounds.{Bounds}
+use Rattle.gq_row.specs.Tables.{PlainTable}
+use Rattle.gq_load.specs.Payloads.{load}
+use Rattle.gq_command.specs.declared.command.Command.TheVariants.{Load, Upsert}
+use Rattle.gq_command.specs.declared.command.Payload.TheVariants as payload
+use Rattle.gq_command.specs.declared.reader.Item.{Item}
+use Rattle.gq_command.specs.declared.reader.Item.TheVariants as item
+use Rattle.gq_command.specs.Commands.{Bytes}
+use Rattle.gq_reply.specs.declared.reply.Reply.TheVariants as reply
+use Rattle.gq_engine.specs.Databases.{Database, table_at}
+use Rattle.gq_engine.specs.Orders.{after_all, replies_to}
+use Rattle.gq_engine.specs.Steps.{step}
+
+-- the upserts of rows into a table
+abbrev pub upserts : Bytes → List (List Value) → List Item
+upserts name rows = map (λ row. item.Command (Upsert name row)) rows
+
+-- the rows of a payload, as many as were told, and what their upserts leave and answer
+pub record UpsertsOf (limits : Bounds) (db : Database) (name bytes : Bytes) (count : ℕ) (new : Database) : Type 0 where
+  pub table : PlainTable
+  pub found : table_at db name ≡ Some table
+  pub rows : List (List Value)
+  pub given : load table.heading limits bytes ≡ Ok rows
+  pub counted : length rows ≡ count
+  pub same : after_all limits db (upserts name rows) ≡ new
+  pub accepted : replies_to limits db (upserts name rows) ≡ map (λ row. reply.Done 1) rows
+
+-- A load that is carried out leaves the tables that the upserts of its rows leave, one after the other, each of which is carried out, and tells their number.
+abbrev pub LoadIsUpserts : Type 0
+LoadIsUpserts = (limits : Bounds) (db new : Database) (name bytes : Bytes) (count : ℕ)
+    → step limits db (item.Command (Load name (payload.Bytes bytes))) ≡ (new, reply.Done count) → UpsertsOf limits db name bytes count new
