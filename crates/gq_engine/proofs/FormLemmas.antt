@@ -1,15 +1,13 @@
--- The steps of drop, load, delete and show, one after the other.
-use Rattle.std.proofs.Common.{◌≡◌, ◌⊎◌, inl, inr, ℕ, true, false, not, IsTrue, List, length, ap, ◌∙◌, refl, Some, None}
-use Rattle.std.specs.Prelude.{Result, Ok, Err, remove, if◌then◌else◌}
-use Rattle.std.specs.List.{list_any}
+-- The steps of drop, load and show, one after the other.
+use Rattle.std.proofs.Common.{◌≡◌, ◌⊎◌, inl, inr, ℕ, false, not, IsTrue, List, length, ap, ◌∙◌, Some, None}
+use Rattle.std.specs.Prelude.{Result, Ok, Err, remove}
 use Rattle.gq_row.specs.declared.value.Value.{Value}
 use Rattle.gq_row.specs.declared.limits.Bounds.{Bounds}
-use Rattle.gq_row.specs.Fitting.{is_null}
-use Rattle.gq_row.specs.Tables.{PlainTable, delete, has_row}
-use Rattle.gq_command.specs.Commands.{Bytes, column_names, some}
+use Rattle.gq_row.specs.Tables.{PlainTable}
+use Rattle.gq_command.specs.Commands.{Bytes, column_names}
 use Rattle.gq_command.specs.declared.command.Payload.{Payload}
 use Rattle.gq_command.specs.declared.command.Payload.TheVariants as payload
-use Rattle.gq_reply.specs.declared.refusal.Refusal.TheVariants.{NoTable, NoKey, TypeMismatch, NullKey, Limit, Memory, LoadOpen}
+use Rattle.gq_reply.specs.declared.refusal.Refusal.TheVariants.{NoTable, Memory}
 use Rattle.gq_reply.specs.declared.refusal.Refused.{Refused}
 use Rattle.gq_reply.specs.declared.reply.Reply.TheVariants as reply
 use Rattle.gq_reply.specs.Refusals.{unnumbered}
@@ -17,10 +15,10 @@ use Rattle.gq_engine.specs.Answers.{rows_shown}
 use Rattle.gq_engine.specs.Databases.{Database, StandsAt, table_at, with_table, without_table, names_differ}
 use Rattle.gq_engine.specs.Loading.{bytes_told, is_lost, rows_told}
 use Rattle.gq_engine.specs.Outcomes.{◌>>=◌}
-use Rattle.gq_engine.specs.Refusing.{put_all_within, fits_key}
-use Rattle.gq_engine.specs.Steps.{drop_table, with_rows, load_table, delete_row, show_table}
+use Rattle.gq_engine.specs.Refusing.{put_all_within}
+use Rattle.gq_engine.specs.Steps.{drop_table, with_rows, load_table, show_table}
 use Rattle.gq_engine.proofs.MapLemmas.{without_at}
-use Rattle.gq_engine.proofs.StepLemmas.{passes, fails, finds, misses}
+use Rattle.gq_engine.proofs.StepLemmas.{passes, finds, misses}
 
 pub gives : {A B : Type 0} (m : Result A Refused) (x : A) (f : A → Result B Refused) → m ≡ Ok x → (m >>= f) ≡ f x
 gives m x f e = ap (λ m. m >>= f) e
@@ -29,9 +27,6 @@ pub stops : {A B : Type 0} (m : Result A Refused) (why : Refused) (f : A → Res
 stops m why f e = ap (λ m. m >>= f) e
 
 module _ (db : Database) (name : List ℕ) where
-  pub drop_none : table_at db name ≡ None → drop_table db name ≡ Err (unnumbered NoTable)
-  drop_none h = misses NoTable (table_at db name) _ h
-
   pub drop_takes : (table : PlainTable) → table_at db name ≡ Some table → drop_table db name ≡ Ok (without_table db name, reply.Done 0)
   drop_takes table h = finds NoTable (table_at db name) table _ h
 
@@ -41,35 +36,7 @@ module _ (db : Database) (name : List ℕ) where
   pub show_gives : (table : PlainTable) → table_at db name ≡ Some table → show_table db name ≡ Ok (db, reply.Rows (column_names table.heading.columns) (rows_shown table))
   show_gives table h = finds NoTable (table_at db name) table _ h
 
-module _ (db : Database) (name : List ℕ) (key : List Value) where
-  pub delete_none : table_at db name ≡ None → delete_row db name key ≡ Err (unnumbered NoTable)
-  delete_none h = misses NoTable (table_at db name) _ h
-
-  module _ (table : PlainTable) (found : table_at db name ≡ Some table) where
-    pub delete_keyless : some table.heading.key ≡ false → delete_row db name key ≡ Err (unnumbered NoKey)
-    delete_keyless h = finds NoTable (table_at db name) table _ found ∙ fails NoKey (some table.heading.key) _ h
-
-    pub delete_misfits : some table.heading.key ≡ true → fits_key table.heading.columns table.heading.key key ≡ false → delete_row db name key ≡ Err (unnumbered TypeMismatch)
-    delete_misfits h k =
-        finds NoTable (table_at db name) table _ found ∙ passes NoKey (some table.heading.key) _ h
-        ∙ fails TypeMismatch (fits_key table.heading.columns table.heading.key key) _ k
-
-    pub delete_null : some table.heading.key ≡ true → fits_key table.heading.columns table.heading.key key ≡ true → list_any is_null key ≡ true → delete_row db name key ≡ Err (unnumbered NullKey)
-    delete_null h k n =
-        finds NoTable (table_at db name) table _ found ∙ passes NoKey (some table.heading.key) _ h
-        ∙ passes TypeMismatch (fits_key table.heading.columns table.heading.key key) _ k ∙ fails NullKey (not (list_any is_null key)) _ (ap not n)
-
-    pub delete_takes : some table.heading.key ≡ true → fits_key table.heading.columns table.heading.key key ≡ true → list_any is_null key ≡ false
-        → delete_row db name key
-        ≡ Ok (with_table db name (record table { rows = delete table.heading.key table.rows key }), reply.Done (if has_row table.heading.key table.rows key then 1 else 0))
-    delete_takes h k n =
-        finds NoTable (table_at db name) table _ found ∙ passes NoKey (some table.heading.key) _ h
-        ∙ passes TypeMismatch (fits_key table.heading.columns table.heading.key key) _ k ∙ passes NullKey (not (list_any is_null key)) _ (ap not n)
-
 module _ (limits : Bounds) (db : Database) (name : List ℕ) where
-  pub rows_none : (rows : List (List Value)) → table_at db name ≡ None → with_rows limits db name rows ≡ Err (unnumbered NoTable)
-  rows_none rows h = misses NoTable (table_at db name) _ h
-
   pub rows_refused : (new : List (List Value)) (table : PlainTable) (why : Refused) → table_at db name ≡ Some table → put_all_within limits table new ≡ Err why → with_rows limits db name new ≡ Err why
   rows_refused new table why h k = finds NoTable (table_at db name) table _ h ∙ stops (put_all_within limits table new) why _ k
 
@@ -77,19 +44,10 @@ module _ (limits : Bounds) (db : Database) (name : List ℕ) where
       → with_rows limits db name new ≡ Ok (with_table db name (record table { rows = rows }))
   rows_put new rows table h k = finds NoTable (table_at db name) table _ h ∙ gives (put_all_within limits table new) rows _ k
 
-  pub load_lost : load_table limits db name payload.NoMemory ≡ Err (unnumbered Memory)
-  load_lost = refl
-
   pub load_none : (carried : Payload) → is_lost carried ≡ false → table_at db name ≡ None → load_table limits db name carried ≡ Err (unnumbered NoTable)
   load_none carried lost h = passes Memory (not (is_lost carried)) _ (ap not lost) ∙ misses NoTable (table_at db name) _ h
 
   module _ (table : PlainTable) (found : table_at db name ≡ Some table) where
-    pub load_open : load_table limits db name payload.Open ≡ Err (unnumbered LoadOpen)
-    load_open = finds NoTable (table_at db name) table _ found
-
-    pub load_too_long : load_table limits db name payload.TooLong ≡ Err (unnumbered Limit)
-    load_too_long = finds NoTable (table_at db name) table _ found
-
     pub load_untold : (carried : Payload) (why : Refused) → is_lost carried ≡ false → bytes_told carried ≡ Err why → load_table limits db name carried ≡ Err why
     load_untold carried why lost h =
         passes Memory (not (is_lost carried)) _ (ap not lost) ∙ finds NoTable (table_at db name) table _ found ∙ stops (bytes_told carried) why _ h

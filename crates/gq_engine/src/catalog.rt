@@ -70,7 +70,8 @@ impl<H: KeyHash<Key> + Copy> Catalog<H> {
 
     /// Puts a row into the table of a name.
     pub fn upsert(&mut self, name: &str, row: Row, limits: &Limits) -> Result<(), Refused>
-        ensures { Changes (with_row limits.now.bounds self.old name.now row) result self.old self.new }
+        ensures { Changes (with_row limits.now.bounds self.old name.now row)
+            result self.old self.new }
     {
         match find_table(self.tables.as_slice(), name) {
             Some(i) => put_row(&mut self.tables[i].1, row, limits),
@@ -80,8 +81,10 @@ impl<H: KeyHash<Key> + Copy> Catalog<H> {
 
     /// Puts rows that fit it into the table of a name, one after the other: all or none.
     pub fn load(&mut self, name: &str, rows: Sequence<Row>, limits: &Limits) -> Result<(), Refused>
-        requires { IfSome (table_at self.old name.now) (λ table. IsTrue (list_all (fits_columns table.heading.columns) rows)) }
-        ensures { Changes (with_rows limits.now.bounds self.old name.now rows) result self.old self.new }
+        requires { IfSome (table_at self.old name.now)
+            (λ table. IsTrue (list_all (fits_columns table.heading.columns) rows)) }
+        ensures { Changes (with_rows limits.now.bounds self.old name.now rows)
+            result self.old self.new }
     {
         match find_table(self.tables.as_slice(), name) {
             Some(i) => put_rows(&mut self.tables[i].1, rows, limits),
@@ -116,7 +119,8 @@ impl<H: KeyHash<Key> + Copy> Catalog<H> {
     /// Adds an empty table under a name that has none.
     pub fn add(&mut self, name: Text, schema: Schema) -> Result<(), AllocError>
         requires { table_at self.old name ≡ None }
-        ensures ok { OnOk result (self.new ≡ self.old ++ (name, record { heading = schema; rows = [] }) ∷ []) }
+        ensures ok { OnOk result
+            (self.new ≡ self.old ++ (name, record { heading = schema; rows = [] }) ∷ []) }
         ensures err { OnErr result (self.new ≡ self.old) }
     {
         let table = Table::new(self.alloc, schema, self.hasher);
@@ -126,7 +130,8 @@ impl<H: KeyHash<Key> + Copy> Catalog<H> {
 }
 
 fn find_table<H: KeyHash<Key>>(tables: &[(Text, Table<H>)], name: &str) -> Option<usize>
-    ensures { MatchOption result (table_at tables.now name.now ≡ None) (λ i. StandsAt tables.now name.now i) }
+    ensures { MatchOption result (table_at tables.now name.now ≡ None)
+        (λ i. StandsAt tables.now name.now i) }
 {
     for (i, entry) in tables.iter().enumerate() {
         if entry.0.as_str() == name {
@@ -160,7 +165,8 @@ fn put_rows<H: KeyHash<Key> + Copy>(
     limits: &Limits,
 ) -> Result<(), Refused>
     requires { IsTrue (list_all (fits_columns table.old.heading.columns) rows) }
-    ensures takes { Takes (put_all_within limits.now.bounds table.old rows) result table.old table.new }
+    ensures takes { Takes (put_all_within limits.now.bounds table.old rows)
+        result table.old table.new }
     ensures standing { IsStanding table.new }
 {
     let taken = table.load(rows, limits);

@@ -62,11 +62,14 @@ impl<H: KeyHash<Key> + Copy> Engine<H> {
     pub fn execute(&mut self, command: Command) -> Reply
         requires { is_command (as_said command) ≡ true }
         // As plain lists answer it; only memory and the run store may refuse what they accept.
-        ensures legal { AnsweredAlike (setting_of self.old) (database self.old) (Item.Command command) result (database self.new) }
+        ensures legal { AnsweredAlike (setting_of self.old) (database self.old)
+            (Item.Command command) result (database self.new) }
         // A drop and a delete take no memory, and are answered as plain lists answer them.
-        ensures sure { takes_no_memory command ≡ true → AnsweredAsLists (setting_of self.old).limits (database self.old) (Item.Command command) result (database self.new) }
+        ensures sure { takes_no_memory command ≡ true → AnsweredAsLists (setting_of self.old).limits
+            (database self.old) (Item.Command command) result (database self.new) }
         // A failure of the run store is told only where it failed.
-        ensures faults { FaultsHappened (result ∷ []) (failures_of self.old) (failures_of self.new) }
+        ensures faults { FaultsHappened (result ∷ []) (failures_of self.old)
+            (failures_of self.new) }
         // Only a command that was carried out changes a table.
         ensures kept { KeptUnlessDone result (database self.old) (database self.new) }
         ensures setting { setting_of self.new ≡ setting_of self.old }
@@ -80,8 +83,11 @@ impl<H: KeyHash<Key> + Copy> Engine<H> {
     // One command, step by step.
     fn carry_out(&mut self, command: Command) -> Result<Reply, Refused>
         requires { is_command (as_said command) ≡ true }
-        ensures comes { Comes (outcome (setting_of self.old).limits (database self.old) command) result (database self.old) (database self.new) }
-        ensures sure { takes_no_memory command ≡ true → ComesSurely (outcome (setting_of self.old).limits (database self.old) command) result (database self.old) (database self.new) }
+        ensures comes { Comes (outcome (setting_of self.old).limits (database self.old) command)
+            result (database self.old) (database self.new) }
+        ensures sure { takes_no_memory command ≡ true → ComesSurely
+            (outcome (setting_of self.old).limits (database self.old) command)
+            result (database self.old) (database self.new) }
         ensures setting { setting_of self.new ≡ setting_of self.old }
     {
         match command {
@@ -115,7 +121,9 @@ impl<H: KeyHash<Key> + Copy> Engine<H> {
         key: Sequence<Text>,
     ) -> Result<Reply, Refused>
         requires { is_command (Command.Create name columns key) ≡ true }
-        ensures comes { Comes (created (setting_of self.old).limits (database self.old) name columns key) result (database self.old) (database self.new) }
+        ensures comes { Comes
+            (created (setting_of self.old).limits (database self.old) name columns key)
+            result (database self.old) (database self.new) }
         ensures setting { setting_of self.new ≡ setting_of self.old }
     {
         if self.catalog.get(name.as_str()).is_some() {
@@ -135,7 +143,8 @@ impl<H: KeyHash<Key> + Copy> Engine<H> {
     }
 
     fn upsert(&mut self, name: Text, row: Row) -> Result<Reply, Refused>
-        ensures comes { Comes (upserted (setting_of self.old).limits (database self.old) name row) result (database self.old) (database self.new) }
+        ensures comes { Comes (upserted (setting_of self.old).limits (database self.old) name row)
+            result (database self.old) (database self.new) }
         ensures setting { setting_of self.new ≡ setting_of self.old }
     {
         self.catalog.upsert(name.as_str(), row, &self.limits)?;
@@ -143,7 +152,8 @@ impl<H: KeyHash<Key> + Copy> Engine<H> {
     }
 
     fn drop_table(&mut self, name: Text) -> Result<Reply, Refused>
-        ensures surely { ComesSurely (dropped (database self.old) name) result (database self.old) (database self.new) }
+        ensures surely { ComesSurely (dropped (database self.old) name)
+            result (database self.old) (database self.new) }
         ensures setting { setting_of self.new ≡ setting_of self.old }
     {
         self.catalog.remove(name.as_str())?;
@@ -151,7 +161,8 @@ impl<H: KeyHash<Key> + Copy> Engine<H> {
     }
 
     fn load(&mut self, name: Text, payload: Payload) -> Result<Reply, Refused>
-        ensures comes { Comes (loaded (setting_of self.old).limits (database self.old) name payload) result (database self.old) (database self.new) }
+        ensures comes { Comes (loaded (setting_of self.old).limits (database self.old) name payload)
+            result (database self.old) (database self.new) }
         ensures setting { setting_of self.new ≡ setting_of self.old }
     {
         if is_lost(&payload) {
@@ -166,7 +177,8 @@ impl<H: KeyHash<Key> + Copy> Engine<H> {
     }
 
     fn delete(&mut self, name: Text, key: Row) -> Result<Reply, Refused>
-        ensures surely { ComesSurely (removed (database self.old) name key) result (database self.old) (database self.new) }
+        ensures surely { ComesSurely (removed (database self.old) name key)
+            result (database self.old) (database self.new) }
         ensures setting { setting_of self.new ≡ setting_of self.old }
     {
         let found = self.catalog.delete(name.as_str(), key.cells())?;
@@ -174,7 +186,8 @@ impl<H: KeyHash<Key> + Copy> Engine<H> {
     }
 
     fn show(&self, name: Text) -> Result<Reply, Refused>
-        ensures { Comes (shown (database self.now) name) result (database self.now) (database self.now) }
+        ensures { Comes (shown (database self.now) name)
+            result (database self.now) (database self.now) }
     {
         let table = self.catalog.get(name.as_str()).ok_or(Refusal::NoTable)?;
         let header = names_of(self.alloc, table.schema().columns())?;
@@ -183,7 +196,8 @@ impl<H: KeyHash<Key> + Copy> Engine<H> {
     }
 
     fn group(&self, name: Text, by: Sequence<Text>) -> Result<Reply, Refused>
-        ensures { Comes (grouped (database self.now) name by) result (database self.now) (database self.now) }
+        ensures { Comes (grouped (database self.now) name by)
+            result (database self.now) (database self.now) }
     {
         let table = self.catalog.get(name.as_str()).ok_or(Refusal::NoTable)?;
         let columns = table.schema().columns();

@@ -7,7 +7,8 @@ ghost use Rattle.gq_row.specs.Tables.{keys, of_key};
 ghost use Rattle.gq_engine.specs.Answers.{count_row, counted_groups};
 
 use crate::cells::has_key;
-use gq_row::{Key, Row, Sequence, Value, compare_keys};
+use crate::ordering::sort_rows;
+use gq_row::{Key, Row, Sequence, Value};
 use gq_table::Table;
 use std::alloc::{AllocError, Global};
 use sw_probe::KeyHash;
@@ -23,12 +24,13 @@ pub fn count_groups<H: KeyHash<Key> + Copy>(
     ensures { IfOk result (λ groups. groups ≡ counted_groups by.now table.now.rows) }
 {
     let _standing = table.rows();
-    let mut keys = different_keys(alloc, table, by)?;
-    keys.sort_by(|a, b| compare_keys(a, b))?;
+    let keys = different_keys(alloc, table, by)?;
     let mut groups = Vec::with_capacity(alloc, keys.len())?;
-    for key in &keys {
-        groups.push(count_row(alloc, key, count_of(table, by, key.cells()))?)?;
+    for key in keys {
+        let rows = count_of(table, by, key.as_slice());
+        groups.push(count_row(key, rows)?)?;
     }
+    sort_rows(&mut groups, &[])?;
     Ok(Sequence::new(groups))
 }
 
@@ -36,24 +38,36 @@ fn different_keys<H: KeyHash<Key> + Copy>(
     alloc: Global,
     table: &Table<H>,
     by: &[usize],
-) -> Result<Vec<Key>, AllocError>
+) -> Result<Vec<Sequence<Value>>, AllocError>
     requires { All (λ column. column < length table.now.heading.columns) by.now }
     ensures { IfOk result (λ ks. ks.items ≡ keys by.now table.now.rows) }
 {
     let mut keys = Vec::new(alloc);
     for row in table.rows() {
         if !is_known(keys.as_slice(), by, row.cells()) {
-            keys.push(Key::of(alloc, row, by)?)?;
+            keys.push(key_of(alloc, row, by)?)?;
         }
     }
     Ok(keys)
 }
 
 // Whether a row's key is one of these.
-fn is_known(keys: &[Key], by: &[usize], row: &[Value]) -> bool
+fn is_known(keys: &[Sequence<Value>], by: &[usize], row: &[Value]) -> bool
     ensures { result ≡ list_any (λ key. same_key (key_of by.now row.now) key) keys.now }
 {
-    keys.iter().any(|key| has_key(by, row, key.cells()))
+    keys.iter().any(|key| has_key(by, row, key.as_slice()))
+}
+
+// A row's values in some columns, with room for one more.
+fn key_of(alloc: Global, row: &Row, by: &[usize]) -> Result<Sequence<Value>, AllocError>
+    requires { All (λ column. column < length row.now) by.now }
+    ensures { IfOk result (λ key. key ≡ key_of by.now row.now) }
+{
+    let mut cells = Vec::with_capacity(alloc, by.len().saturating_add(1))?;
+    for column in by {
+        cells.push(row.cell(*column).copy(alloc)?)?;
+    }
+    Ok(Sequence::new(cells))
 }
 
 fn count_of<H: KeyHash<Key> + Copy>(table: &Table<H>, by: &[usize], key: &[Value]) -> usize
@@ -69,14 +83,11 @@ fn count_of<H: KeyHash<Key> + Copy>(table: &Table<H>, by: &[usize], key: &[Value
 }
 
 // A key's values, and then the number of its rows.
-fn count_row(alloc: Global, key: &Key, rows: usize) -> Result<Row, AllocError>
+fn count_row(key: Sequence<Value>, rows: usize) -> Result<Row, AllocError>
     requires { rows < 2 ^ 63 }
-    ensures { IfOk result (λ row. row ≡ count_row key.now rows) }
+    ensures { IfOk result (λ row. row ≡ count_row key rows) }
 {
-    let mut cells = Vec::with_capacity(alloc, key.len().saturating_add(1))?;
-    for cell in key.cells() {
-        cells.push(cell.copy(alloc)?)?;
-    }
+    let mut cells = key.into_vec();
     cells.push(Value::Int(rows as i64))?;
     Ok(Row::new(cells))
 }

@@ -13,7 +13,8 @@
 //!   the text of a reply.
 //! - A table has a schema and rows, which stand in a flat map under their keys, or in a list where
 //!   the table has no key (`gq_table`); a row that is put replaces the row of the same key, or is
-//!   added. Tables are found by linear search, and so are groups: their keys are sorted at the end.
+//!   added. Tables are found by linear search, and so are groups. One function sorts the rows of
+//!   every query at the end.
 //! - A command is refused by the first reason that applies, and a refused command changes nothing.
 //!   Want of memory may stand in place of any reply.
 //!

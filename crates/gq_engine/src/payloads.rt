@@ -38,9 +38,11 @@ pub fn rows_of(
     schema: &Schema,
     limits: &Limits,
 ) -> Result<Sequence<Row>, Refused>
-    ensures told { IfOk result (λ rows. rows_told limits.now.bounds schema.now bytes.now ≡ Ok rows) }
+    ensures told { IfOk result
+        (λ rows. rows_told limits.now.bounds schema.now bytes.now ≡ Ok rows) }
     ensures fit { IfOk result (λ rows. IsTrue (list_all (fits_columns schema.now.columns) rows)) }
-    ensures refused { IfErr result (λ why. (why ≡ unnumbered Memory) ⊎ (rows_told limits.now.bounds schema.now bytes.now ≡ Err why)) }
+    ensures refused { IfErr result (λ why. (why ≡ unnumbered Memory)
+        ⊎ (rows_told limits.now.bounds schema.now bytes.now ≡ Err why)) }
 {
     match load_rows(alloc, bytes, schema, limits) {
         Ok(rows) => Ok(rows),

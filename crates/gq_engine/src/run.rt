@@ -28,7 +28,8 @@ impl Summary {
         requires commands { self.old.commands + 1 < 2 ^ 64 }
         requires refused { self.old.refused ≤ self.old.commands }
         ensures commands { self.new.commands ≡ self.old.commands + 1 }
-        ensures refused { self.new.refused ≡ (if is_refusal reply.now then self.old.refused + 1 else self.old.refused) }
+        ensures refused { self.new.refused ≡
+            (if is_refusal reply.now then self.old.refused + 1 else self.old.refused) }
     {
         self.commands += 1;
         if reply.is_refusal() {
@@ -66,7 +67,8 @@ impl<H: KeyHash<Key> + Copy> Engine<H> {
         writer: &mut W,
     ) -> Result<Summary, Fault>
         // What is written is, command by command, the replies of plain lists of rows.
-        ensures ran { Ran (setting_of self.old) (state_of self.old) (R.remaining reader) (state_of self.new) (W.contents writer.old) (W.contents writer.new) result }
+        ensures ran { Ran (setting_of self.old) (state_of self.old) (R.remaining reader)
+            (state_of self.new) (W.contents writer.old) (W.contents writer.new) result }
         ensures setting { setting_of self.new ≡ setting_of self.old }
     {
         let _tables = self.tables();
@@ -92,7 +94,8 @@ impl<H: KeyHash<Key> + Copy> Engine<H> {
     // Answers one item and writes the reply.
     fn serve<W: Write>(&mut self, item: Item, writer: &mut W) -> Result<Reply, WriteFault>
         requires { IsReady (setting_of self.old).limits item }
-        ensures served { Served (setting_of self.old) (state_of self.old) item (state_of self.new) (W.contents writer.old) (W.contents writer.new) result }
+        ensures served { Served (setting_of self.old) (state_of self.old) item (state_of self.new)
+            (W.contents writer.old) (W.contents writer.new) result }
         ensures setting { setting_of self.new ≡ setting_of self.old }
     {
         let (reply, text) = self.answer(item);
@@ -106,8 +109,10 @@ impl<H: KeyHash<Key> + Copy> Engine<H> {
     // The reply to an item.
     fn reply_to(&mut self, item: Item) -> Reply
         requires { IsReady (setting_of self.old).limits item }
-        ensures legal { AnsweredAlike (setting_of self.old) (database self.old) item result (database self.new) }
-        ensures faults { FaultsHappened (result ∷ []) (failures_of self.old) (failures_of self.new) }
+        ensures legal { AnsweredAlike (setting_of self.old) (database self.old) item result
+            (database self.new) }
+        ensures faults { FaultsHappened (result ∷ []) (failures_of self.old)
+            (failures_of self.new) }
         ensures kept { KeptUnlessDone result (database self.old) (database self.new) }
         ensures setting { setting_of self.new ≡ setting_of self.old }
     {
@@ -120,8 +125,10 @@ impl<H: KeyHash<Key> + Copy> Engine<H> {
     // The reply to an item, and its text where that needs memory.
     fn answer(&mut self, item: Item) -> (Reply, Option<Vec<u8>>)
         requires { IsReady (setting_of self.old).limits item }
-        ensures legal { AnsweredAlike (setting_of self.old) (database self.old) item result.0 (database self.new) }
-        ensures faults { FaultsHappened (result.0 ∷ []) (failures_of self.old) (failures_of self.new) }
+        ensures legal { AnsweredAlike (setting_of self.old) (database self.old) item result.0
+            (database self.new) }
+        ensures faults { FaultsHappened (result.0 ∷ []) (failures_of self.old)
+            (failures_of self.new) }
         ensures setting { setting_of self.new ≡ setting_of self.old }
         ensures text { IfSome result.1 (λ bytes. bytes.items ≡ text result.0) }
         ensures line { IfNone result.1 (IsLine result.0) }

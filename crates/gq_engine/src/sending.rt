@@ -15,7 +15,8 @@ pub struct WriteFault;
 /// of the bytes was written.
 pub fn send<W: Write>(writer: &mut W, bytes: &[u8]) -> Result<(), WriteFault>
     ensures ok { OnOk result (Appends (W.contents writer.old) (W.contents writer.new) bytes.now) }
-    ensures err { IfErr result (λ _. AppendsFront (W.contents writer.old) (W.contents writer.new) bytes.now) }
+    ensures err { IfErr result (λ _. AppendsFront (W.contents writer.old) (W.contents writer.new)
+        bytes.now) }
 {
     let mut at = 0;
     while at < bytes.len() {

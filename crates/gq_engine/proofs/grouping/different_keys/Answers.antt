@@ -19,8 +19,8 @@ loop-row-init g c =
       long = subst (All Long) (sym walked) (rows_long_enough c.args.table.now c.args.by.now c.rows-row-items.ensures.standing c.requires);
     }
 
-pub of-requires : goal.of-requires
-of-requires g c =
+pub key_of-requires : goal.key_of-requires
+key_of-requires g c =
     let Long : List Value → Type 0 = λ row. All (λ position. position < length row) c.args.by.now in
     All-head Long c.in-Some.row.now c.next.new.self (subst (All Long) c.in-Some.ensures.steps c.loop-row.invariant.long)
 
@@ -30,7 +30,7 @@ loop-row-preserved-in_ok-push g c =
     record {
       can_next = tt;
       is_finite = tt;
-      keys = rw (c.in_ok-push.ensures.items, c.in_ok-of.ensures) (keys_with-new c.args.by.now c.loop-row.keys.items c.loop-row.row-iterator c.in-Some.row.now c.next.new.self c.in-Some.ensures.steps
+      keys = rw (c.in_ok-push.ensures.items, c.in_ok-key_of.ensures) (keys_with-new c.args.by.now c.loop-row.keys.items c.loop-row.row-iterator c.in-Some.row.now c.next.new.self c.in-Some.ensures.steps
           (sym (rw (c.cells.ensures, c.as_slice.ensures.value) at c.is_known.ensures) ∙ c.if-not-is_known.true) ∙ c.loop-row.invariant.keys);
       long = All-tail Long c.in-Some.row.now c.next.new.self (subst (All Long) c.in-Some.ensures.steps c.loop-row.invariant.long);
     }
