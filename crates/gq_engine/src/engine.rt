@@ -135,9 +135,7 @@ impl<H: KeyHash<Key> + Copy> Engine<H> {
         if self.limits.bounds.tables <= self.catalog.len() {
             return Err(Refused::from(Refusal::Limit));
         }
-        let Some(schema) = Schema::new(columns.into_vec(), positions.into_vec()) else {
-            unreachable!()
-        };
+        let schema = Schema::of(columns.into_vec(), positions.into_vec());
         self.catalog.add(name, schema)?;
         Ok(Reply::Done(0))
     }

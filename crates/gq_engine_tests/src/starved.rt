@@ -4,6 +4,7 @@ use gq_engine::Engine;
 use gq_row::{Key, Limits};
 use starved_tests::{POOL, POOLS, Starved};
 use std::alloc::{AllocError, Global};
+use std::process::Abort;
 use std::test::Fail;
 use sw_probe::{Constant, Fnv1a, KeyHash};
 
@@ -30,8 +31,10 @@ const SHOWS: &[u8] = b"show s\nshow l\n";
 // More bytes than all replies have.
 const REPLIES: usize = 1_000;
 
+const REFUSED: &[u8] = b"err 15 Memory";
+
 fn is_refused(line: &[u8]) -> bool {
-    line == b"err 15 Memory"
+    line == REFUSED
 }
 
 /// The commands that were not answered Memory, as a script.
@@ -76,8 +79,11 @@ fn are_right<H: KeyHash<Key> + Copy>(
 
 /// Runs the commands with a little memory, then with more and more, until all are carried out; how
 /// many runs there were before that.
-fn starve<H: KeyHash<Key> + Copy>(rt: &HostRuntime, hasher: H) -> Result<usize, Fail> {
-    let alloc = rt.alloc();
+fn starve<H: KeyHash<Key> + Copy>(
+    rt: &impl Abort,
+    alloc: Global,
+    hasher: H,
+) -> Result<usize, Fail> {
     let mut script = Vec::new(alloc);
     for command in COMMANDS {
         script.extend_from_slice(command)?;
@@ -111,14 +117,14 @@ fn starve<H: KeyHash<Key> + Copy>(rt: &HostRuntime, hasher: H) -> Result<usize, 
 
 #[test]
 fn under_fnv_1a(rt: HostRuntime) -> Result<(), Fail> {
-    let steps = starve(&rt, Fnv1a { seed: 0 })?;
+    let steps = starve(&rt, rt.alloc(), Fnv1a { seed: 0 })?;
     assert!(rt; 10 < steps, "{steps} steps");
     Ok(())
 }
 
 #[test]
 fn under_one_hash_for_all(rt: HostRuntime) -> Result<(), Fail> {
-    let steps = starve(&rt, Constant(0))?;
+    let steps = starve(&rt, rt.alloc(), Constant(0))?;
     assert!(rt; 10 < steps, "{steps} steps");
     Ok(())
 }

@@ -14,13 +14,12 @@ use Rattle.gq_engine.proofs.ColumnLemmas.{is_heading_of, no_false}
 use Rattle.gq_table.proofs.StandingLemmas.{two}
 use Rattle.gq_engine.proofs.engine.Engine.create.Goals as goal
 
-pub unreachable-requires : goal.unreachable-requires
-unreachable-requires g c =
+pub of-schema-requires : goal.of-schema-requires
+of-schema-requires g c =
     let rules = two (no_repeats bytes_eq (column_names c.args.columns)) (no_repeats bytes_eq c.args.key) (two (some c.args.columns) _ c.requires).1 in
     let found = sym (rw (c.as_slice.ensures, c.as_slice-2.ensures) at c.in_ok-find_positions.ensures) ∙ c.in_ok-positions.ensures.ok_part in
     let heading = is_heading_of c.args.columns c.args.key c.in_ok-positions.positions rules.0 rules.1 found in
-    let told = rw (c.into_vec.ensures, c.into_vec-2.ensures) at (c.in_default.ensures.when.1) in
-    no_false (told heading)
+    rw (c.into_vec.ensures, c.into_vec-2.ensures) heading
 
 -- what was found of the name and of the key columns
 pub returns-then-is_some-clause-comes : goal.returns-then-is_some-clause-comes
