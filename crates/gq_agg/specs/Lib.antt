@@ -1,0 +1,3 @@
+pub mod Aggregates
+pub mod Running
+pub mod Values
