@@ -18,13 +18,16 @@
 //! # The contract above this crate
 //!
 //! After adds of a list, [`Agg::adds`] is its length, and [`Agg::finish`] is `aggregate` of the list
-//! (`specs/Aggregates.antt`), or `SumRange` exactly where that has no value.
+//! (`specs/Aggregates.antt`), or `SumRange` exactly where that has no value. The laws in [`laws`] say
+//! that the order of the list makes no difference, that nulls make none but to `CountAll`, and what
+//! the least and the greatest are.
 //!
 //! No command uses this crate yet.
 #![tactic(auto)]
 
 mod agg;
 mod kind;
+pub mod laws;
 mod state;
 
 pub use agg::{Agg, SumRange};
