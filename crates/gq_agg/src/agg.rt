@@ -70,6 +70,20 @@ impl Agg {
         self.adds
     }
 
+    /// What is asked of the values.
+    #[inline]
+    pub fn kind(&self) -> AggKind
+        ensures { result ≡ kind_of self.now.state }
+    {
+        match &self.state {
+            State::Rows => AggKind::CountAll,
+            State::Values(_) => AggKind::Count,
+            State::Total(_) => AggKind::Sum,
+            State::Least(_) => AggKind::Min,
+            State::Greatest(_) => AggKind::Max,
+        }
+    }
+
     /// Adds a value. It takes memory only where a text becomes the least or the greatest. Refused,
     /// the aggregate is as it was.
     #[inline]
@@ -90,7 +104,8 @@ impl Agg {
     /// of 64 bits.
     pub fn finish(self) -> Result<Value, SumRange>
         ensures { (kind : _) (values : List Cell) → self ≡ tally kind values →
-            MatchResult result (λ v. aggregate kind values ≡ Some v) (λ _. aggregate kind values ≡ None) }
+            MatchResult result (λ v. aggregate kind values ≡ Some v)
+            (λ _. aggregate kind values ≡ None) }
     {
         match self.state {
             State::Rows => Ok(Value::Int(self.adds as i64)),

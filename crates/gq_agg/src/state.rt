@@ -110,7 +110,8 @@ pub(crate) fn keep_greater(
 ) -> Result<(), AllocError>
     ensures ok { OnOk result (greatest.new ≡ greater greatest.old value.now) }
     ensures err { OnErr result (greatest.new ≡ greatest.old) }
-    ensures memory { (is_text value.now && is_greater greatest.old value.now) ≡ false → IsOk result }
+    ensures memory { (is_text value.now && is_greater greatest.old value.now) ≡ false →
+        IsOk result }
 {
     if compare(greatest, value) == Ordering::Less {
         return keep(alloc, greatest, value);

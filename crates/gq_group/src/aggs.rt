@@ -45,17 +45,22 @@ impl Aggs {
 
     // Those of one row more. They are no group's any more where memory is wanting.
     pub(crate) fn add(&mut self, asked: &[(AggKind, usize)], row: &Row) -> Result<(), AllocError>
-        requires tallied { (rows : List (List Cell)) × (length rows < 2 ^ 32) × (self.old ≡ tallies asked.now rows) }
+        requires tallied { (rows : List (List Cell)) × (length rows < 2 ^ 32) × (self.old ≡
+            tallies asked.now rows) }
         requires fits { IsTrue (list_all (fits_cell row.now) asked.now) }
-        ensures { OnOk result ((rows : List (List Cell)) → self.old ≡ tallies asked.now rows → self.new ≡ tallies asked.now (rows ++ row.now ∷ [])) }
+        ensures { OnOk result ((rows : List (List Cell)) → self.old ≡ tallies asked.now rows →
+            self.new ≡ tallies asked.now (rows ++ row.now ∷ [])) }
     {
         add_cells(self.running.as_mut_slice(), asked, row)
     }
 
     // Their values.
     pub(crate) fn finish(self, alloc: Global) -> Result<Vec<Value>, Refusal>
-        ensures ok { IfOk result (λ values. (asked : List (Kind × ℕ)) (rows : List (List Cell)) → self ≡ tallies asked rows → answers asked rows ≡ map Some values.items) }
-        ensures overflow { IsErrOf result Refusal.SumRange → (asked : List (Kind × ℕ)) (rows : List (List Cell)) → self ≡ tallies asked rows → list_any is_none (answers asked rows) ≡ true }
+        ensures ok { IfOk result (λ values. (asked : List (Kind × ℕ)) (rows : List (List Cell))
+            → self ≡ tallies asked rows → answers asked rows ≡ map Some values.items) }
+        ensures overflow { IsErrOf result Refusal.SumRange →
+            (asked : List (Kind × ℕ)) (rows : List (List Cell)) → self ≡ tallies asked rows →
+            list_any is_none (answers asked rows) ≡ true }
         ensures cause { IfErr result (λ e. (e ≡ Refusal.SumRange) ⊎ (e ≡ Refusal.Memory)) }
     {
         let mut left = self.running;
@@ -77,9 +82,11 @@ impl Aggs {
 
 // Adds a row's cells, each to its aggregate.
 fn add_cells(aggs: &mut [Agg], asked: &[(AggKind, usize)], row: &Row) -> Result<(), AllocError>
-    requires tallied { (rows : List (List Cell)) × (length rows < 2 ^ 32) × (aggs.old ≡ tallies asked.now rows) }
+    requires tallied { (rows : List (List Cell)) × (length rows < 2 ^ 32) × (aggs.old ≡ tallies
+        asked.now rows) }
     requires fits { IsTrue (list_all (fits_cell row.now) asked.now) }
-    ensures { OnOk result ((rows : List (List Cell)) → aggs.old ≡ tallies asked.now rows → aggs.new ≡ tallies asked.now (rows ++ row.now ∷ [])) }
+    ensures { OnOk result ((rows : List (List Cell)) → aggs.old ≡ tallies asked.now rows →
+        aggs.new ≡ tallies asked.now (rows ++ row.now ∷ [])) }
 {
     'aggs: for i in 0..asked.len() {
         add_cell(&mut aggs[i], asked[i].1, row)?;
@@ -91,7 +98,8 @@ fn add_cells(aggs: &mut [Agg], asked: &[(AggKind, usize)], row: &Row) -> Result<
 fn add_cell(agg: &mut Agg, column: usize, row: &Row) -> Result<(), AllocError>
     requires few { agg.old.adds < 2 ^ 32 }
     requires fits { IsTrue (fits_cell row.now (kind_of agg.old.state, column)) }
-    ensures { OnOk result ((kind : Kind) (values : List Cell) → agg.old ≡ tally kind values → agg.new ≡ tally kind (values ++ cell row.now column ∷ [])) }
+    ensures { OnOk result ((kind : Kind) (values : List Cell) → agg.old ≡ tally kind values →
+        agg.new ≡ tally kind (values ++ cell row.now column ∷ [])) }
 {
     if column < row.len() {
         agg.add(row.cell(column))

@@ -26,17 +26,24 @@ pub trait GroupSink<S: RunStore> {
     /// it.
     fn push(&mut self, store: &mut S, key: Key, values: Vec<Value>) -> Result<(), Refusal>
         requires { is_ready self.old (S.runs store.old) }
-        ensures groups { IsTrue (S.runs store.old).honest → OnOk result ((groups : List Group) → holds self.old (S.runs store.old) groups → holds self.new (S.runs store.new) (groups ++ (key, values.items) ∷ [])) }
+        ensures groups { IsTrue (S.runs store.old).honest →
+            OnOk result ((groups : List Group) → holds self.old (S.runs store.old) groups →
+            holds self.new (S.runs store.new) (groups ++ (key, values.items) ∷ [])) }
         ensures ready { OnOk result (is_ready self.new (S.runs store.new)) }
         ensures cause { IfErr result (λ e. HasCause e (S.runs store.old) (S.runs store.new)) }
-        ensures others { LeavesOthers (owns self.old) (owns self.new) (S.runs store.old) (S.runs store.new) }
+        ensures others { LeavesOthers (owns self.old) (owns self.new) (S.runs store.old)
+            (S.runs store.new) }
         ensures made { makes_runs ≡ false → (S.runs store.new).made ≡ (S.runs store.old).made };
 
     /// Its runs are live.
-    ghost own_live: { (s : Self) (runs : Runs) → is_ready s runs → (run : ℕ) → IsTrue (owns s run) → IsTrue (runs.live run) };
+    ghost own_live: { (s : Self) (runs : Runs) → is_ready s runs → (run : ℕ) →
+        IsTrue (owns s run) → IsTrue (runs.live run) };
 
     /// What others do with other runs doesn't matter to it.
-    ghost stays_ready: { (s : Self) (old new : Runs) → KeepsOwn (owns s) old new → is_ready s old → is_ready s new };
+    ghost stays_ready: { (s : Self) (old new : Runs) → KeepsOwn (owns s) old new →
+        is_ready s old → is_ready s new };
 
-    ghost keeps_groups: { (s : Self) (old new : Runs) → KeepsOwn (owns s) old new → is_ready s old → IsTrue old.honest → (groups : List Group) → holds s old groups → holds s new groups };
+    ghost keeps_groups: { (s : Self) (old new : Runs) → KeepsOwn (owns s) old new →
+        is_ready s old → IsTrue old.honest → (groups : List Group) → holds s old groups →
+        holds s new groups };
 }

@@ -42,11 +42,14 @@ fn take_rows<H: KeyHash<Key> + Copy, S: RunStore, R: RowSource<S>>(
 ) -> Result<u64, Refusal>
     requires source { R.is_ready source.old (S.runs store.old) }
     requires few { R.bound source.old ≤ 2 ^ 31 }
-    requires rows { IsTrue (S.runs store.old).honest → (rows : List (List Cell)) → R.gives source.old (S.runs store.old) rows → IsTrue (all_fit spec.now rows) }
+    requires rows { IsTrue (S.runs store.old).honest → (rows : List (List Cell)) →
+        R.gives source.old (S.runs store.old) rows → IsTrue (all_fit spec.now rows) }
     requires start { Grouped spec.now [] map.old }
-    ensures took { IfOk result (λ count. TookAll spec.now (S.runs store.old).honest (R.gives source.old (S.runs store.old)) count map.new) }
+    ensures took { IfOk result (λ count. TookAll spec.now (S.runs store.old).honest (R.gives
+        source.old (S.runs store.old)) count map.new) }
     ensures source { OnOk result (R.is_ready source.new (S.runs store.new)) }
-    ensures others { LeavesOthers (R.owns source.old) (R.owns source.new) (S.runs store.old) (S.runs store.new) }
+    ensures others { LeavesOthers (R.owns source.old) (R.owns source.new) (S.runs store.old)
+        (S.runs store.new) }
     ensures made { R.makes_runs ≡ false → (S.runs store.new).made ≡ (S.runs store.old).made }
     ensures cause { IfErr result (λ e. HasCause e (S.runs store.old) (S.runs store.new)) }
 {
@@ -74,13 +77,20 @@ fn push_all<H: KeyHash<Key> + Copy, S: RunStore, K: GroupSink<S>>(
     store: &mut S,
 ) -> Result<u64, Refusal>
     requires sink { K.is_ready sink.old (S.runs store.old) }
-    ensures groups { IsTrue (S.runs store.old).honest → OnOk result ((spec : Spec) (rows : List (List Cell)) → Grouped spec rows map → (before : List Group) → K.holds sink.old (S.runs store.old) before
+    ensures groups { IsTrue (S.runs store.old).honest →
+        OnOk result ((spec : Spec) (rows : List (List Cell)) → Grouped spec rows map →
+        (before : List Group) → K.holds sink.old (S.runs store.old) before
         → Pushes spec rows (λ out. K.holds sink.new (S.runs store.new) (before ++ out))) }
-    ensures count { IfOk result (λ n. (spec : Spec) (rows : List (List Cell)) → Grouped spec rows map → n ≡ length (keys_of spec.by rows)) }
-    ensures no_overflow { OnOk result ((spec : Spec) (rows : List (List Cell)) → Grouped spec rows map → out_of_range spec rows ≡ false) }
-    ensures overflow { IsErrOf result Refusal.SumRange → (spec : Spec) (rows : List (List Cell)) → Grouped spec rows map → out_of_range spec rows ≡ true }
+    ensures count { IfOk result (λ n. (spec : Spec) (rows : List (List Cell)) →
+        Grouped spec rows map → n ≡ length (keys_of spec.by rows)) }
+    ensures no_overflow { OnOk result ((spec : Spec) (rows : List (List Cell)) →
+        Grouped spec rows map → out_of_range spec rows ≡ false) }
+    ensures overflow { IsErrOf result Refusal.SumRange →
+        (spec : Spec) (rows : List (List Cell)) → Grouped spec rows map →
+        out_of_range spec rows ≡ true }
     ensures sink { OnOk result (K.is_ready sink.new (S.runs store.new)) }
-    ensures others { LeavesOthers (K.owns sink.old) (K.owns sink.new) (S.runs store.old) (S.runs store.new) }
+    ensures others { LeavesOthers (K.owns sink.old) (K.owns sink.new) (S.runs store.old)
+        (S.runs store.new) }
     ensures made { K.makes_runs ≡ false → (S.runs store.new).made ≡ (S.runs store.old).made }
     ensures cause { IfErr result (λ e. GroupCause e (S.runs store.old) (S.runs store.new)) }
 {
@@ -112,16 +122,26 @@ pub fn group<H: KeyHash<Key> + Copy, S: RunStore, R: RowSource<S>, K: GroupSink<
     requires sink { K.is_ready sink.old (S.runs store.old) }
     requires apart { Apart (R.owns source.old) (K.owns sink.old) }
     requires few { R.bound source.old ≤ 2 ^ 31 }
-    requires rows { IsTrue (S.runs store.old).honest → (rows : List (List Cell)) → R.gives source.old (S.runs store.old) rows → IsTrue (all_fit spec.now rows) }
-    ensures groups { IsTrue (S.runs store.old).honest → OnOk result ((rows : List (List Cell)) → R.gives source.old (S.runs store.old) rows
+    requires rows { IsTrue (S.runs store.old).honest → (rows : List (List Cell)) →
+        R.gives source.old (S.runs store.old) rows → IsTrue (all_fit spec.now rows) }
+    ensures groups { IsTrue (S.runs store.old).honest →
+        OnOk result ((rows : List (List Cell)) → R.gives source.old (S.runs store.old) rows
         → (before : List Group) → K.holds sink.old (S.runs store.old) before
         → Pushes spec.now rows (λ out. K.holds sink.new (S.runs store.new) (before ++ out))) }
-    ensures counts { IsTrue (S.runs store.old).honest → IfOk result (λ spent. (rows : List (List Cell)) → R.gives source.old (S.runs store.old) rows
+    ensures counts { IsTrue (S.runs store.old).honest →
+        IfOk result (λ spent. (rows : List (List Cell)) →
+        R.gives source.old (S.runs store.old) rows
         → (spent.rows_read ≡ length rows) × (spent.groups ≡ length (keys_of spec.now.by rows))) }
-    ensures no_overflow { IsTrue (S.runs store.old).honest → OnOk result ((rows : List (List Cell)) → R.gives source.old (S.runs store.old) rows → out_of_range spec.now rows ≡ false) }
-    ensures overflow { IsTrue (S.runs store.old).honest → IsErrOf result Refusal.SumRange → (rows : List (List Cell)) → R.gives source.old (S.runs store.old) rows → out_of_range spec.now rows ≡ true }
-    ensures made { R.makes_runs ≡ false → K.makes_runs ≡ false → IfOk result (λ spent. (S.runs store.new).made ≡ (S.runs store.old).made + spent.runs) }
-    ensures others { LeavesOthers (either (R.owns source.old) (K.owns sink.old)) (either (R.owns source.new) (K.owns sink.new)) (S.runs store.old) (S.runs store.new) }
+    ensures no_overflow { IsTrue (S.runs store.old).honest →
+        OnOk result ((rows : List (List Cell)) → R.gives source.old (S.runs store.old) rows →
+        out_of_range spec.now rows ≡ false) }
+    ensures overflow { IsTrue (S.runs store.old).honest → IsErrOf result Refusal.SumRange →
+        (rows : List (List Cell)) → R.gives source.old (S.runs store.old) rows →
+        out_of_range spec.now rows ≡ true }
+    ensures made { R.makes_runs ≡ false → K.makes_runs ≡ false →
+        IfOk result (λ spent. (S.runs store.new).made ≡ (S.runs store.old).made + spent.runs) }
+    ensures others { LeavesOthers (either (R.owns source.old) (K.owns sink.old)) (either
+        (R.owns source.new) (K.owns sink.new)) (S.runs store.old) (S.runs store.new) }
     ensures source { OnOk result (R.is_ready source.new (S.runs store.new)) }
     ensures sink { OnOk result (K.is_ready sink.new (S.runs store.new)) }
     ensures cause { IfErr result (λ e. GroupCause e (S.runs store.old) (S.runs store.new)) }

@@ -26,9 +26,9 @@
 //!
 //! All groups are kept in one map yet, whatever the budget, and no run is made. So nothing is said
 //! yet of the number of rows written and of runs, nor that at most the budget's number of groups is
-//! kept at once: these clauses come with the runs. Rows that can be written to a run, and are all of
-//! one length, will be asked for then. Counts of different values and a command that uses this crate
-//! are still to come.
+//! kept at once: these clauses come with the runs. Rows that can be written to a run, and are all
+//! of one length, will be asked for then. Counts of different values (`group_distinct`), and a
+//! command that uses this crate, are still to come.
 #![tactic(auto)]
 
 mod aggs;

@@ -29,22 +29,32 @@ pub trait RowSource<S: RunStore> {
     /// The next row, or None at the end. After a refusal nothing is said of it.
     fn next(&mut self, store: &mut S) -> Result<Option<Row>, Refusal>
         requires { is_ready self.old (S.runs store.old) }
-        ensures rows { IsTrue (S.runs store.old).honest → IfOk result (λ row. (rows : List (List Cell)) → gives self.old (S.runs store.old) rows → Gave row rows (gives self.new (S.runs store.new))) }
+        ensures rows { IsTrue (S.runs store.old).honest →
+            IfOk result (λ row. (rows : List (List Cell)) →
+            gives self.old (S.runs store.old) rows →
+            Gave row rows (gives self.new (S.runs store.new))) }
         ensures bound { IfOk result (λ row. taken row + bound self.new ≤ bound self.old) }
         ensures ready { OnOk result (is_ready self.new (S.runs store.new)) }
         ensures cause { IfErr result (λ e. HasCause e (S.runs store.old) (S.runs store.new)) }
-        ensures others { LeavesOthers (owns self.old) (owns self.new) (S.runs store.old) (S.runs store.new) }
+        ensures others { LeavesOthers (owns self.old) (owns self.new) (S.runs store.old)
+            (S.runs store.new) }
         ensures made { makes_runs ≡ false → (S.runs store.new).made ≡ (S.runs store.old).made }
-        ensures owned { makes_runs ≡ false → (run : ℕ) → IsTrue (owns self.new run) → IsTrue (owns self.old run) };
+        ensures owned { makes_runs ≡ false → (run : ℕ) → IsTrue (owns self.new run) →
+            IsTrue (owns self.old run) };
 
     /// Its runs are live.
-    ghost own_live: { (s : Self) (runs : Runs) → is_ready s runs → (run : ℕ) → IsTrue (owns s run) → IsTrue (runs.live run) };
+    ghost own_live: { (s : Self) (runs : Runs) → is_ready s runs → (run : ℕ) →
+        IsTrue (owns s run) → IsTrue (runs.live run) };
 
     /// Over an honest store there are rows that it gives.
-    ghost has_rows: { (s : Self) (runs : Runs) → is_ready s runs → IsTrue runs.honest → (rows : List (List Cell)) × gives s runs rows };
+    ghost has_rows: { (s : Self) (runs : Runs) → is_ready s runs → IsTrue runs.honest →
+        (rows : List (List Cell)) × gives s runs rows };
 
     /// What others do with other runs doesn't matter to it.
-    ghost stays_ready: { (s : Self) (old new : Runs) → KeepsOwn (owns s) old new → is_ready s old → is_ready s new };
+    ghost stays_ready: { (s : Self) (old new : Runs) → KeepsOwn (owns s) old new →
+        is_ready s old → is_ready s new };
 
-    ghost keeps_rows: { (s : Self) (old new : Runs) → KeepsOwn (owns s) old new → is_ready s old → IsTrue old.honest → (rows : List (List Cell)) → gives s old rows → gives s new rows };
+    ghost keeps_rows: { (s : Self) (old new : Runs) → KeepsOwn (owns s) old new →
+        is_ready s old → IsTrue old.honest → (rows : List (List Cell)) → gives s old rows →
+        gives s new rows };
 }

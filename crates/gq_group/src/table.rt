@@ -37,7 +37,10 @@ fn start_alone<H: KeyHash<Key> + Copy>(
     hasher: H,
     spec: &GroupSpec,
 ) -> Result<FlatMap<Key, Aggs, H>, AllocError>
-    ensures { IfOk result (λ map. entries class_of map ≡ insert empty (class_of []) ([], tallies spec.now.aggs [])) }
+    ensures { IfOk result (λ map. entries class_of map ≡ insert empty (class_of []) (
+      [],
+      tallies spec.now.aggs [],
+    )) }
 {
     let mut map = FlatMap::new(alloc, hasher);
     let key = Key::of(alloc, &Row::new(Vec::new(alloc)), &[])?;
@@ -56,8 +59,10 @@ pub(crate) fn add_row<H: KeyHash<Key> + Copy>(
     map: &mut FlatMap<Key, Aggs, H>,
 ) -> Result<(), AllocError>
     requires fits { IsTrue (fits_spec spec.now row.now) }
-    requires grouped { (rows : List (List Cell)) × (length rows < 2 ^ 32) × Grouped spec.now rows map.old }
-    ensures { OnOk result ((rows : List (List Cell)) → Grouped spec.now rows map.old → Grouped spec.now (rows ++ row.now ∷ []) map.new) }
+    requires grouped { (rows : List (List Cell)) × (length rows < 2 ^ 32) × Grouped spec.now
+        rows map.old }
+    ensures { OnOk result ((rows : List (List Cell)) → Grouped spec.now rows map.old →
+        Grouped spec.now (rows ++ row.now ∷ []) map.new) }
 {
     match map.entry(&KeyRef::new(row, spec.by())) {
         Entry::Occupied(slot) => map.value_mut(slot).add(spec.aggs(), row),
@@ -74,8 +79,14 @@ fn add_group<H: KeyHash<Key> + Copy>(
     map: &mut FlatMap<Key, Aggs, H>,
 ) -> Result<(), AllocError>
     requires fits { IsTrue (fits_spec spec.now row.now) }
-    requires vacant { IsVacancy class_of (hash_by H.hash_of bytes_of map.old.hasher) map.old (class_of (key_of spec.now.by row.now)) vacancy }
-    ensures { OnOk result (entries class_of map.new ≡ insert (entries class_of map.old) (class_of (key_of spec.now.by row.now)) (key_of spec.now.by row.now, tallies spec.now.aggs (row.now ∷ []))) }
+    requires vacant { IsVacancy class_of (hash_by H.hash_of bytes_of map.old.hasher) map.old
+        (class_of (key_of spec.now.by row.now)) vacancy }
+    ensures { OnOk result (entries class_of map.new ≡ insert (entries class_of map.old)
+        (class_of (key_of spec.now.by row.now)) (
+          key_of spec.now.by row.now,
+          tallies
+              spec.now.aggs (row.now ∷ []),
+        )) }
 {
     let key = Key::of(alloc, row, spec.by())?;
     let mut aggs = Aggs::start(alloc, spec.aggs())?;
