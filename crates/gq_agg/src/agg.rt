@@ -1,5 +1,5 @@
 //! Running aggregates.
-ghost use Rattle.std.specs.Prelude.{◌≡◌, ◌+◌, ◌*◌, ◌^◌, ◌<◌, ◌≤◌, ◌≤ℤ◌, ◌+ℤ◌, pos, false, IsTrue, List, [], ◌∷◌, ◌++◌, Option, Some, None, OnOk, OnErr, IsOk, MatchResult};
+ghost use Rattle.std.specs.Prelude.{◌≡◌, ◌^◌, ◌<◌, ◌≤◌, false, IsTrue, List, [], ◌∷◌, ◌++◌, Some, None, OnOk, OnErr, IsOk, MatchResult};
 ghost use Rattle.gq_row.specs.declared.value.Value.{Value as Cell};
 ghost use Rattle.gq_agg.specs.Aggregates.{aggregate, takes};
 ghost use Rattle.gq_agg.specs.Running.{tally, kind_of, is_copied};

@@ -1,6 +1,5 @@
 //! Groups of the rows of a source.
-ghost use Rattle.std.specs.Prelude.{◌≡◌, ◌+◌, ◌<◌, ◌≤◌, ◌^◌, ◌++◌, [], ℕ, true, false, List, length, IsTrue, IfOk, OnOk, IfErr, IsErrOf};
-ghost use Rattle.sw_flat.specs.Maps.{filled};
+ghost use Rattle.std.specs.Prelude.{◌≡◌, ◌+◌, ◌≤◌, ◌^◌, ◌++◌, [], true, false, List, length, IsTrue, IfOk, OnOk, IfErr, IsErrOf};
 ghost use Rattle.gq_row.specs.declared.value.Value.{Value as Cell};
 ghost use Rattle.gq_group.specs.Access.{Apart, either, LeavesOthers, HasCause, GroupCause};
 ghost use Rattle.gq_group.specs.Entries.{Grouped, TookAll};

@@ -1,6 +1,6 @@
 //! Groups in a map.
-ghost use Rattle.std.specs.Prelude.{◌≡◌, ◌<◌, ◌^◌, ◌++◌, ◌∷◌, [], ℕ, List, length, All, IsTrue, IfOk, OnOk};
-ghost use Rattle.std.specs.FinMap.{get, insert, empty};
+ghost use Rattle.std.specs.Prelude.{◌≡◌, ◌<◌, ◌^◌, ◌++◌, ◌∷◌, [], List, length, IsTrue, IfOk, OnOk};
+ghost use Rattle.std.specs.FinMap.{insert, empty};
 ghost use Rattle.sw_table.specs.Entries.{entries};
 ghost use Rattle.sw_table.specs.LaidOut.{hash_by};
 ghost use Rattle.sw_flat.specs.Vacancies.{IsVacancy};

@@ -1,6 +1,5 @@
 //! Groups of rows.
-ghost use Rattle.std.specs.Prelude.{◌≡◌, length};
-ghost use Rattle.std.specs.List.{list_all};
+ghost use Rattle.std.specs.Prelude.{◌≡◌};
 ghost use Rattle.gq_group.specs.Groups.{all_fit};
 
 use crate::list_sink::ListSink;

@@ -1,5 +1,5 @@
 //! What a run store is.
-ghost use Rattle.std.specs.Prelude.{◌≡◌, IfOk, OnErr, OnOk, IsTrue};
+ghost use Rattle.std.specs.Prelude.{IfOk, OnErr, OnOk, IsTrue};
 ghost use Rattle.gq_spill.specs.Runs.{Runs, Makes, Appends, Loses, Reads, Kept, Discards};
 ghost use Rattle.gq_spill.specs.Runs.{Counts, CountsMade};
 
