@@ -1,0 +1,31 @@
+-- What the aggregates come to, in the subject's own words.
+use Rattle.std.specs.Prelude.{◌≡◌, true, false, List, [], IsPermutation}
+use Rattle.std.specs.List.{list_any}
+use Rattle.std.specs.Ordering.{is_lt}
+use Rattle.gq_row.specs.declared.value.Value.{Value}
+use Rattle.gq_row.specs.declared.value.Value.TheVariants.{Null}
+use Rattle.gq_row.specs.Order.{compare_values, same_value}
+use Rattle.gq_agg.specs.declared.kind.AggKind.{AggKind}
+use Rattle.gq_agg.specs.declared.kind.AggKind.TheVariants.{Count, Sum, Min, Max}
+use Rattle.gq_agg.specs.Aggregates.{aggregate}
+use Rattle.gq_agg.specs.Values.{present, least, greatest}
+
+-- values in another order have the same aggregates
+abbrev pub OrderIsUnseen : Type 0
+OrderIsUnseen = (kind : AggKind) (xs ys : List Value) → IsPermutation xs ys → aggregate kind xs ≡ aggregate kind ys
+
+-- nulls make no difference, but to the count of all rows
+pub record NullsAreUnseen : Type 0 where
+  pub count : (values : List Value) → aggregate Count (present values) ≡ aggregate Count values
+  pub sum : (values : List Value) → aggregate Sum (present values) ≡ aggregate Sum values
+  pub min : (values : List Value) → aggregate Min (present values) ≡ aggregate Min values
+  pub max : (values : List Value) → aggregate Max (present values) ≡ aggregate Max values
+
+-- the least is one of the values that are not null, and none of them comes before it; the greatest in the same way; both are null where there is none
+pub record EndsAreReached : Type 0 where
+  pub least_none : (values : List Value) → present values ≡ [] → least values ≡ Null
+  pub least_is_one : (values : List Value) → (present values ≡ [] → ⊥) → list_any (same_value (least values)) (present values) ≡ true
+  pub none_before : (values : List Value) → list_any (λ v. is_lt (compare_values v (least values))) (present values) ≡ false
+  pub greatest_none : (values : List Value) → present values ≡ [] → greatest values ≡ Null
+  pub greatest_is_one : (values : List Value) → (present values ≡ [] → ⊥) → list_any (same_value (greatest values)) (present values) ≡ true
+  pub none_behind : (values : List Value) → list_any (λ v. is_lt (compare_values (greatest values) v)) (present values) ≡ false

@@ -1,0 +1,4 @@
+pub mod Aggregates
+pub mod Laws
+pub mod Running
+pub mod Values

@@ -1,0 +1,42 @@
+-- Lists of values, null among them: how many are not null, their sum, the least and the greatest.
+use Rattle.std.specs.Prelude.{ℤ, pos, ◌+ℤ◌, ◌&&◌, ◌||◌, Bool, not, List, [], ◌∷◌, filter, fold, if◌then◌else◌}
+use Rattle.std.specs.Ordering.{is_lt}
+use Rattle.gq_row.specs.declared.value.Value.{Value}
+use Rattle.gq_row.specs.declared.value.Value.TheVariants.{Null, Int, Text}
+use Rattle.gq_row.specs.Fitting.{is_null}
+use Rattle.gq_row.specs.Order.{compare_values}
+
+-- the values that are not null
+abbrev pub present : List Value → List Value
+present values = filter (λ v. not (is_null v)) values
+
+-- the number that a value adds to a sum
+abbrev pub number : Value → ℤ
+number Null = pos 0
+number (Int n) = n
+number (Text t) = pos 0
+
+-- the sum, a whole number of any size
+abbrev pub total : List Value → ℤ
+total [] = pos 0
+total (v ∷ vs) = number v +ℤ total vs
+
+-- whether a value comes before the least so far, or behind the greatest so far; null never does, and each other value does where that is null
+abbrev pub is_less : Value → Value → Bool
+is_less least v = not (is_null v) && (is_null least || is_lt (compare_values v least))
+
+abbrev pub is_greater : Value → Value → Bool
+is_greater greatest v = is_lt (compare_values greatest v)
+
+abbrev pub lesser : Value → Value → Value
+lesser a b = if is_less a b then b else a
+
+abbrev pub greater : Value → Value → Value
+greater a b = if is_greater a b then b else a
+
+-- the least and the greatest of the values that are not null, or null where each is
+abbrev pub least : List Value → Value
+least values = fold lesser Null values
+
+abbrev pub greatest : List Value → Value
+greatest values = fold greater Null values

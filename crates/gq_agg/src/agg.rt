@@ -1,0 +1,123 @@
+//! Running aggregates.
+ghost use Rattle.std.specs.Prelude.{◌≡◌, ◌^◌, ◌<◌, ◌≤◌, false, IsTrue, List, [], ◌∷◌, ◌++◌, Some, None, OnOk, OnErr, IsOk, MatchResult};
+ghost use Rattle.gq_row.specs.declared.value.Value.{Value as Cell};
+ghost use Rattle.gq_agg.specs.Aggregates.{aggregate, takes};
+ghost use Rattle.gq_agg.specs.Running.{tally, kind_of, is_copied};
+
+use crate::kind::AggKind;
+use crate::state::State;
+use gq_row::Value;
+use std::alloc::{AllocError, Global};
+use std::default::MadeWith;
+use std::marker::Model;
+use thiserror::Error;
+
+/// The whole sum is no number of 64 bits.
+#[derive(Clone, Copy, Debug, PartialEq, Eq, Error)]
+#[error("the sum is out of range")]
+pub struct SumRange;
+
+/// An aggregate of the values that were added so far.
+#[derive(Debug, Drop)]
+pub struct Agg {
+    alloc: Global,
+    adds: u64,
+    state: State,
+}
+
+impl Model for Agg {
+    ghost use Rattle.std.specs.Prelude.{◌≤◌, ◌^◌};
+    ghost use Rattle.gq_agg.specs.Running.{Running, IsBounded};
+
+    ghost Value = { Running };
+
+    ghost view = { λ a. record { adds = a.adds; state = a.state } };
+
+    ghost invariant = { λ a. (a.adds ≤ 2 ^ 32) × IsBounded a.adds a.state };
+}
+
+// What a small vector of aggregates puts into its unused places.
+impl MadeWith<Global> for Agg {
+    fn made_with(alloc: Global) -> Agg {
+        Agg::start(alloc, AggKind::CountAll)
+    }
+}
+
+impl Agg {
+    /// An aggregate of no value. It takes no memory.
+    pub fn start(alloc: Global, kind: AggKind) -> Agg
+        ensures { result ≡ tally kind [] }
+    {
+        let state = match kind {
+            AggKind::CountAll => State::Rows,
+            AggKind::Count => State::Values(0),
+            AggKind::Sum => State::Total(None),
+            AggKind::Min => State::Least(Value::Null),
+            AggKind::Max => State::Greatest(Value::Null),
+        };
+        Agg {
+            alloc,
+            adds: 0,
+            state,
+        }
+    }
+
+    /// How many values were added, nulls too.
+    #[inline]
+    pub fn adds(&self) -> u64
+        ensures { result ≡ self.now.adds }
+    {
+        self.adds
+    }
+
+    /// What is asked of the values.
+    #[inline]
+    pub fn kind(&self) -> AggKind
+        ensures { result ≡ kind_of self.now.state }
+    {
+        match &self.state {
+            State::Rows => AggKind::CountAll,
+            State::Values(_) => AggKind::Count,
+            State::Total(_) => AggKind::Sum,
+            State::Least(_) => AggKind::Min,
+            State::Greatest(_) => AggKind::Max,
+        }
+    }
+
+    /// Adds a value. It takes memory only where a text becomes the least or the greatest. Refused,
+    /// the aggregate is as it was.
+    #[inline]
+    pub fn add(&mut self, value: &Value) -> Result<(), AllocError>
+        requires few { self.old.adds < 2 ^ 32 }
+        requires fits { IsTrue (takes (kind_of self.old.state) value.now) }
+        ensures added { OnOk result ((kind : _) (values : List Cell) →
+            self.old ≡ tally kind values → self.new ≡ tally kind (values ++ value.now ∷ [])) }
+        ensures unchanged { OnErr result (self.new ≡ self.old) }
+        ensures memory { is_copied self.old.state value.now ≡ false → IsOk result }
+    {
+        self.state.take_in(self.alloc, self.adds, value)?;
+        self.adds += 1;
+        Ok(())
+    }
+
+    /// The aggregate of the values that were added: `SumRange` where it is a sum that is no number
+    /// of 64 bits.
+    pub fn finish(self) -> Result<Value, SumRange>
+        ensures { (kind : _) (values : List Cell) → self ≡ tally kind values →
+            MatchResult result (λ v. aggregate kind values ≡ Some v)
+            (λ _. aggregate kind values ≡ None) }
+    {
+        match self.state {
+            State::Rows => Ok(Value::Int(self.adds as i64)),
+            State::Values(count) => Ok(Value::Int(count as i64)),
+            State::Total(None) => Ok(Value::Null),
+            State::Total(Some(sum)) => {
+                if sum < i64::MIN as i128 || sum > i64::MAX as i128 {
+                    return Err(SumRange);
+                }
+                Ok(Value::Int(sum as i64))
+            }
+            State::Least(value) | State::Greatest(value) => Ok(value),
+        }
+    }
+}

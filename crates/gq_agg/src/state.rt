@@ -1,0 +1,134 @@
+//! What an aggregate keeps of the values so far.
+ghost use Rattle.std.specs.Prelude.{◌≡◌, ◌+◌, ◌-◌, ◌^◌, ◌<◌, ◌+ℤ◌, ◌≤ℤ◌, ◌&&◌, pos, negsuc, false, IsTrue, OnOk, OnErr, IsOk};
+ghost use Rattle.gq_agg.specs.Aggregates.{is_text};
+ghost use Rattle.gq_agg.specs.Running.{counted, plus, sum_or_zero};
+ghost use Rattle.gq_agg.specs.Values.{number, is_less, is_greater, lesser, greater};
+
+use gq_row::{Value, compare};
+use std::alloc::{AllocError, Global};
+use std::cmp::Ordering;
+
+/// What is kept of the values that were added, by the kind of aggregate.
+#[derive(Debug, Drop)]
+pub enum State {
+    /// Nothing: how many were added is known.
+    Rows,
+    /// How many of them are not null.
+    Values(u64),
+    /// Their sum, once one of them is not null.
+    Total(Option<i128>),
+    /// The least of them, or null.
+    Least(Value),
+    /// The greatest of them, or null.
+    Greatest(Value),
+}
+
+impl State {
+    ghost use Rattle.std.specs.Prelude.{◌<◌};
+    ghost use Rattle.gq_agg.specs.Aggregates.{takes};
+    ghost use Rattle.gq_agg.specs.Running.{IsBounded, kind_of, is_copied, with_value};
+
+    // Takes one value more in, where so many were added before it.
+    #[inline]
+    pub(crate) fn take_in(
+        &mut self,
+        alloc: Global,
+        adds: u64,
+        value: &Value,
+    ) -> Result<(), AllocError>
+        requires few { adds < 2 ^ 32 }
+        requires bounded { IsBounded adds self.old }
+        requires fits { IsTrue (takes (kind_of self.old) value.now) }
+        ensures ok { OnOk result (self.new ≡ with_value self.old value.now) }
+        ensures bounded { OnOk result (IsBounded (adds + 1) self.new) }
+        ensures err { OnErr result (self.new ≡ self.old) }
+        ensures memory { is_copied self.old value.now ≡ false → IsOk result }
+    {
+        let _ = adds;
+        match self {
+            State::Rows => Ok(()),
+            State::Values(count) => {
+                count_value(count, value);
+                Ok(())
+            }
+            State::Total(sum) => {
+                sum_value(sum, value);
+                Ok(())
+            }
+            State::Least(least) => keep_less(alloc, least, value),
+            State::Greatest(greatest) => keep_greater(alloc, greatest, value),
+        }
+    }
+}
+
+// Counts a value, unless it is null.
+#[inline]
+pub(crate) fn count_value(count: &mut u64, value: &Value)
+    requires { count.old < 2 ^ 32 }
+    ensures { count.new ≡ counted count.old value.now }
+{
+    if !value.is_null() {
+        *count += 1;
+    }
+}
+
+// Adds a value to a sum, unless it is null.
+#[inline]
+pub(crate) fn sum_value(sum: &mut Option<i128>, value: &Value)
+    requires low { pos 0 ≤ℤ (sum_or_zero sum.old +ℤ pos (2 ^ 96)) }
+    requires high { sum_or_zero sum.old ≤ℤ pos (2 ^ 96) }
+    requires fits { is_text value.now ≡ false }
+    ensures sum { sum.new ≡ plus sum.old value.now }
+    ensures low { negsuc (2 ^ 63 - 1) ≤ℤ number value.now }
+    ensures high { number value.now ≤ℤ pos (2 ^ 63 - 1) }
+{
+    match value {
+        Value::Int(n) => *sum = Some(sum.unwrap_or(0) + *n as i128),
+        Value::Null | Value::Text(_) => {}
+    }
+}
+
+// Keeps the lesser of two values.
+#[inline]
+pub(crate) fn keep_less(alloc: Global, least: &mut Value, value: &Value) -> Result<(), AllocError>
+    ensures ok { OnOk result (least.new ≡ lesser least.old value.now) }
+    ensures err { OnErr result (least.new ≡ least.old) }
+    ensures memory { (is_text value.now && is_less least.old value.now) ≡ false → IsOk result }
+{
+    if !value.is_null() && (least.is_null() || compare(value, least) == Ordering::Less) {
+        return keep(alloc, least, value);
+    }
+    Ok(())
+}
+
+// Keeps the greater of two values.
+#[inline]
+pub(crate) fn keep_greater(
+    alloc: Global,
+    greatest: &mut Value,
+    value: &Value,
+) -> Result<(), AllocError>
+    ensures ok { OnOk result (greatest.new ≡ greater greatest.old value.now) }
+    ensures err { OnErr result (greatest.new ≡ greatest.old) }
+    ensures memory { (is_text value.now && is_greater greatest.old value.now) ≡ false →
+        IsOk result }
+{
+    if compare(greatest, value) == Ordering::Less {
+        return keep(alloc, greatest, value);
+    }
+    Ok(())
+}
+
+// Puts a copy of a value into a place. Only a text takes memory.
+fn keep(alloc: Global, place: &mut Value, value: &Value) -> Result<(), AllocError>
+    ensures ok { OnOk result (place.new ≡ value.now) }
+    ensures err { OnErr result (place.new ≡ place.old) }
+    ensures memory { is_text value.now ≡ false → IsOk result }
+{
+    *place = match value {
+        Value::Null => Value::Null,
+        Value::Int(n) => Value::Int(*n),
+        Value::Text(text) => Value::Text(text.copy(alloc)?),
+    };
+    Ok(())
+}

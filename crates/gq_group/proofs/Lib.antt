@@ -1,0 +1,5 @@
+pub mod AccessLemmas
+pub mod AggLemmas
+pub mod MapGroups
+pub mod Sending
+pub mod Taking

@@ -1,0 +1,46 @@
+use Rattle.std.proofs.Common.{◌∙◌, refl, sym, rules}
+use Rattle.sw_flat.specs.Maps.{filled}
+use Rattle.gq_group.proofs.AccessLemmas.{leaves-trans, leaves-refl}
+use Rattle.gq_group.proofs.Sending.{sent-none, sent-step, sent-groups, sent-fine, count_groups, refused_one}
+use Rattle.gq_group.proofs.grouping.push_all.Goals as goal
+
+pub entries-init : goal.entries-init
+entries-init g c = record {
+  ready = c.requires.sink;
+  draining = c.walk-walk.ensures;
+  sent = sent-none _ _ _;
+  others = leaves-refl _ _;
+  made = λ none. refl;
+}
+
+pub returns-in_err-values-clause-overflow : goal.returns-in_err-values-clause-overflow
+returns-in_err-values-clause-overflow g c = λ e spec rows grouped.
+    refused_one _ _ _ (filled c.args.map.places) (filled c.entries.left.places) (filled c.drain_next.new.self.places) (c.in-Some.key, c.in-Some.aggs) c.args.map spec rows
+    c.entries.invariant.sent c.in-Some.ensures.entry c.keys.ensures.all grouped (c.in_err-values.ensures.overflow (search rules))
+
+pub entries-preserved : goal.entries-preserved
+entries-preserved g c = record {
+  ready = c.in_ok-push.ensures.ready;
+  draining = c.in-Some.ensures.draining;
+  sent = sent-step _ _ _ _ (filled c.args.map.places) (filled c.entries.left.places) (filled c.drain_next.new.self.places) (c.in-Some.key, c.in-Some.aggs) c.in_ok-values.values.items
+      c.entries.invariant.sent
+      c.in-Some.ensures.entry
+      c.in_ok-values.ensures.ok
+      (λ h. c.in_ok-push.ensures.groups (c.entries.invariant.others.same_honest ∙ h));
+  others = leaves-trans _ _ _ _ _ _ c.entries.invariant.others c.in_ok-push.ensures.others;
+  made = λ none. c.in_ok-push.ensures.made none ∙ c.entries.invariant.made none;
+}
+
+pub returns-clause-groups : goal.returns-clause-groups
+returns-clause-groups g c = λ h spec rows grouped before b.
+    let sent = rw c.in_default.ensures.end.0 at c.entries.invariant.sent in
+    let it = sent-groups _ _ _ (filled c.args.map.places) c.args.map spec rows sent c.keys.ensures.all grouped in
+    (it.0, it.1, it.2 h before b)
+
+pub returns-clause-count : goal.returns-clause-count
+returns-clause-count g c = λ spec rows grouped. c.len-groups.ensures ∙ sym c.keys.ensures.all.once ∙ count_groups (filled c.args.map.places) c.args.map spec rows c.keys.ensures.all grouped
+
+pub returns-clause-no_overflow : goal.returns-clause-no_overflow
+returns-clause-no_overflow g c = λ spec rows grouped.
+    let sent = rw c.in_default.ensures.end.0 at c.entries.invariant.sent in
+    sent-fine _ _ _ (filled c.args.map.places) c.args.map spec rows sent c.keys.ensures.all grouped

@@ -1,0 +1,4 @@
+pub mod Access
+pub mod Entries
+pub mod Groups
+pub mod Handing

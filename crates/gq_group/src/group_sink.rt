@@ -1,0 +1,49 @@
+//! Where groups go.
+ghost use Rattle.std.specs.Prelude.{◌≡◌, ◌++◌, ◌∷◌, [], ℕ, Bool, false, IsTrue, List, OnOk, IfErr};
+ghost use Rattle.gq_spill.specs.Runs.{Runs};
+ghost use Rattle.gq_group.specs.Access.{RunSet, LeavesOthers, KeepsOwn, HasCause};
+ghost use Rattle.gq_group.specs.Groups.{Group};
+
+use crate::refusal::Refusal;
+use gq_row::{Key, Value};
+use gq_spill::RunStore;
+
+/// Takes groups, one by one.
+pub trait GroupSink<S: RunStore> {
+    /// Its runs. Others leave them alone.
+    ghost owns: { Self → RunSet };
+
+    /// Nothing was refused so far, and its runs are as it left them.
+    ghost is_ready: { Self → Runs → Type 0 };
+
+    /// Over an honest store these groups were pushed.
+    ghost holds: { Self → Runs → List Group → Type 0 };
+
+    /// Whether it may make runs.
+    ghost makes_runs: { Bool };
+
+    /// Takes a group: its key and the values of its aggregates. After a refusal nothing is said of
+    /// it.
+    fn push(&mut self, store: &mut S, key: Key, values: Vec<Value>) -> Result<(), Refusal>
+        requires { is_ready self.old (S.runs store.old) }
+        ensures groups { IsTrue (S.runs store.old).honest →
+            OnOk result ((groups : List Group) → holds self.old (S.runs store.old) groups →
+            holds self.new (S.runs store.new) (groups ++ (key, values.items) ∷ [])) }
+        ensures ready { OnOk result (is_ready self.new (S.runs store.new)) }
+        ensures cause { IfErr result (λ e. HasCause e (S.runs store.old) (S.runs store.new)) }
+        ensures others { LeavesOthers (owns self.old) (owns self.new) (S.runs store.old)
+            (S.runs store.new) }
+        ensures made { makes_runs ≡ false → (S.runs store.new).made ≡ (S.runs store.old).made };
+
+    /// Its runs are live.
+    ghost own_live: { (s : Self) (runs : Runs) → is_ready s runs → (run : ℕ) →
+        IsTrue (owns s run) → IsTrue (runs.live run) };
+
+    /// What others do with other runs doesn't matter to it.
+    ghost stays_ready: { (s : Self) (old new : Runs) → KeepsOwn (owns s) old new →
+        is_ready s old → is_ready s new };
+
+    ghost keeps_groups: { (s : Self) (old new : Runs) → KeepsOwn (owns s) old new →
+        is_ready s old → IsTrue old.honest → (groups : List Group) → holds s old groups →
+        holds s new groups };
+}

@@ -1,0 +1,76 @@
+//! What is asked of the groups of rows.
+ghost use Rattle.std.specs.Prelude.{◌≡◌};
+ghost use Rattle.std.specs.List.{list_all};
+ghost use Rattle.gq_group.specs.Groups.{fits_cell as cell_fits, has_columns as columns_there};
+
+use gq_agg::AggKind;
+use gq_row::Row;
+use std::marker::Model;
+
+/// By which columns rows are grouped, and which aggregates are asked of each group, each of a
+/// column. The column of `CountAll` is ignored.
+#[derive(Debug, Drop)]
+pub struct GroupSpec {
+    by: Vec<usize>,
+    aggs: Vec<(AggKind, usize)>,
+}
+
+impl Model for GroupSpec {
+    ghost use Rattle.gq_group.specs.Groups.{Spec};
+
+    ghost Value = { Spec };
+
+    ghost view = { λ s. record { by = s.by.items; aggs = s.aggs.items } };
+}
+
+impl GroupSpec {
+    ghost use Rattle.gq_group.specs.Groups.{fits_spec};
+
+    pub fn new(by: Vec<usize>, aggs: Vec<(AggKind, usize)>) -> GroupSpec
+        ensures by { result.by ≡ by.items }
+        ensures aggs { result.aggs ≡ aggs.items }
+    {
+        GroupSpec { by, aggs }
+    }
+
+    /// The columns to group by.
+    #[inline]
+    pub fn by(&self) -> &[usize]
+        ensures { result.now ≡ self.now.by }
+    {
+        self.by.as_slice()
+    }
+
+    /// The aggregates and their columns.
+    #[inline]
+    pub fn aggs(&self) -> &[(AggKind, usize)]
+        ensures { result.now ≡ self.now.aggs }
+    {
+        self.aggs.as_slice()
+    }
+
+    /// Whether a row can be grouped: the columns that are named are there, with no text in a sum.
+    pub fn fits(&self, row: &Row) -> bool
+        ensures { result ≡ fits_spec self.now row.now }
+    {
+        has_columns(self.by(), row) && fit_cells(self.aggs(), row)
+    }
+}
+
+fn has_columns(columns: &[usize], row: &Row) -> bool
+    ensures { result ≡ columns_there columns.now row.now }
+{
+    columns.iter().all(|column| *column < row.len())
+}
+
+fn fit_cells(aggs: &[(AggKind, usize)], row: &Row) -> bool
+    ensures { result ≡ list_all (cell_fits row.now) aggs.now }
+{
+    aggs.iter().all(|agg| fits_cell(agg.0, agg.1, row))
+}
+
+fn fits_cell(kind: AggKind, column: usize, row: &Row) -> bool
+    ensures { result ≡ cell_fits row.now (kind, column) }
+{
+    matches!(kind, AggKind::CountAll) || (column < row.len() && kind.takes(row.cell(column)))
+}

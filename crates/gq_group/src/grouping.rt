@@ -1,0 +1,160 @@
+//! Groups of the rows of a source.
+ghost use Rattle.std.specs.Prelude.{◌≡◌, ◌+◌, ◌≤◌, ◌^◌, ◌++◌, [], true, false, List, length, IsTrue, IfOk, OnOk, IfErr, IsErrOf};
+ghost use Rattle.gq_row.specs.declared.value.Value.{Value as Cell};
+ghost use Rattle.gq_group.specs.Access.{Apart, either, LeavesOthers, HasCause, GroupCause};
+ghost use Rattle.gq_group.specs.Entries.{Grouped, TookAll};
+ghost use Rattle.gq_group.specs.Groups.{Spec, Group, keys_of, Pushes, all_fit, out_of_range};
+
+use crate::aggs::Aggs;
+use crate::budget::Budget;
+use crate::group_sink::GroupSink;
+use crate::group_spec::GroupSpec;
+use crate::refusal::Refusal;
+use crate::row_source::RowSource;
+use crate::table::{add_row, start_table};
+use gq_row::Key;
+use gq_spill::RunStore;
+use std::alloc::Global;
+use sw_flat::FlatMap;
+use sw_probe::KeyHash;
+
+/// What a grouping took.
+#[derive(Clone, Copy, Debug, PartialEq, Eq)]
+pub struct Spent {
+    /// How many rows came from the source.
+    pub rows_read: u64,
+    /// How many rows were written to runs.
+    pub rows_written: u64,
+    /// How many groups there are.
+    pub groups: u64,
+    /// How many runs were made.
+    pub runs: u64,
+}
+
+// Groups all rows of the source.
+fn take_rows<H: KeyHash<Key> + Copy, S: RunStore, R: RowSource<S>>(
+    alloc: Global,
+    spec: &GroupSpec,
+    source: &mut R,
+    store: &mut S,
+    map: &mut FlatMap<Key, Aggs, H>,
+) -> Result<u64, Refusal>
+    requires source { R.is_ready source.old (S.runs store.old) }
+    requires few { R.bound source.old ≤ 2 ^ 31 }
+    requires rows { IsTrue (S.runs store.old).honest → (rows : List (List Cell)) →
+        R.gives source.old (S.runs store.old) rows → IsTrue (all_fit spec.now rows) }
+    requires start { Grouped spec.now [] map.old }
+    ensures took { IfOk result (λ count. TookAll spec.now (S.runs store.old).honest (R.gives
+        source.old (S.runs store.old)) count map.new) }
+    ensures source { OnOk result (R.is_ready source.new (S.runs store.new)) }
+    ensures others { LeavesOthers (R.owns source.old) (R.owns source.new) (S.runs store.old)
+        (S.runs store.new) }
+    ensures made { R.makes_runs ≡ false → (S.runs store.new).made ≡ (S.runs store.old).made }
+    ensures cause { IfErr result (λ e. HasCause e (S.runs store.old) (S.runs store.new)) }
+{
+    let mut count: u64 = 0;
+    'rows: loop {
+        let Some(row) = source.next(store)? else {
+            break;
+        };
+        if !spec.fits(&row) {
+            return Err(Refusal::Damaged);
+        }
+        let Ok(()) = add_row(alloc, spec, &row, map) else {
+            return Err(Refusal::Memory);
+        };
+        count += 1;
+    }
+    Ok(count)
+}
+
+// Sends all groups to the sink, each as its entry leaves the map.
+fn push_all<H: KeyHash<Key> + Copy, S: RunStore, K: GroupSink<S>>(
+    alloc: Global,
+    map: FlatMap<Key, Aggs, H>,
+    sink: &mut K,
+    store: &mut S,
+) -> Result<u64, Refusal>
+    requires sink { K.is_ready sink.old (S.runs store.old) }
+    ensures groups { IsTrue (S.runs store.old).honest →
+        OnOk result ((spec : Spec) (rows : List (List Cell)) → Grouped spec rows map →
+        (before : List Group) → K.holds sink.old (S.runs store.old) before
+        → Pushes spec rows (λ out. K.holds sink.new (S.runs store.new) (before ++ out))) }
+    ensures count { IfOk result (λ n. (spec : Spec) (rows : List (List Cell)) →
+        Grouped spec rows map → n ≡ length (keys_of spec.by rows)) }
+    ensures no_overflow { OnOk result ((spec : Spec) (rows : List (List Cell)) →
+        Grouped spec rows map → out_of_range spec rows ≡ false) }
+    ensures overflow { IsErrOf result Refusal.SumRange →
+        (spec : Spec) (rows : List (List Cell)) → Grouped spec rows map →
+        out_of_range spec rows ≡ true }
+    ensures sink { OnOk result (K.is_ready sink.new (S.runs store.new)) }
+    ensures others { LeavesOthers (K.owns sink.old) (K.owns sink.new) (S.runs store.old)
+        (S.runs store.new) }
+    ensures made { K.makes_runs ≡ false → (S.runs store.new).made ≡ (S.runs store.old).made }
+    ensures cause { IfErr result (λ e. GroupCause e (S.runs store.old) (S.runs store.new)) }
+{
+    let mut left = map;
+    let groups = left.len() as u64;
+    let _ = left.keys();
+    let mut walk = left.walk();
+    'entries: while let Some((key, aggs)) = left.drain_next(&mut walk) {
+        let values = aggs.finish(alloc)?;
+        sink.push(store, key, values)?;
+    }
+    Ok(groups)
+}
+
+/// The groups of the source's rows, one for each of their keys, pushed to the sink in some order.
+///
+/// A refusal leaves the source behind some of its rows, and the sink with some of the groups. All
+/// groups are kept in one map yet, whatever the budget, so no row is written and no run is made.
+pub fn group<H: KeyHash<Key> + Copy, S: RunStore, R: RowSource<S>, K: GroupSink<S>>(
+    alloc: Global,
+    hasher: H,
+    spec: &GroupSpec,
+    source: &mut R,
+    sink: &mut K,
+    store: &mut S,
+    budget: Budget,
+) -> Result<Spent, Refusal>
+    requires source { R.is_ready source.old (S.runs store.old) }
+    requires sink { K.is_ready sink.old (S.runs store.old) }
+    requires apart { Apart (R.owns source.old) (K.owns sink.old) }
+    requires few { R.bound source.old ≤ 2 ^ 31 }
+    requires rows { IsTrue (S.runs store.old).honest → (rows : List (List Cell)) →
+        R.gives source.old (S.runs store.old) rows → IsTrue (all_fit spec.now rows) }
+    ensures groups { IsTrue (S.runs store.old).honest →
+        OnOk result ((rows : List (List Cell)) → R.gives source.old (S.runs store.old) rows
+        → (before : List Group) → K.holds sink.old (S.runs store.old) before
+        → Pushes spec.now rows (λ out. K.holds sink.new (S.runs store.new) (before ++ out))) }
+    ensures counts { IsTrue (S.runs store.old).honest →
+        IfOk result (λ spent. (rows : List (List Cell)) →
+        R.gives source.old (S.runs store.old) rows
+        → (spent.rows_read ≡ length rows) × (spent.groups ≡ length (keys_of spec.now.by rows))) }
+    ensures no_overflow { IsTrue (S.runs store.old).honest →
+        OnOk result ((rows : List (List Cell)) → R.gives source.old (S.runs store.old) rows →
+        out_of_range spec.now rows ≡ false) }
+    ensures overflow { IsTrue (S.runs store.old).honest → IsErrOf result Refusal.SumRange →
+        (rows : List (List Cell)) → R.gives source.old (S.runs store.old) rows →
+        out_of_range spec.now rows ≡ true }
+    ensures made { R.makes_runs ≡ false → K.makes_runs ≡ false →
+        IfOk result (λ spent. (S.runs store.new).made ≡ (S.runs store.old).made + spent.runs) }
+    ensures others { LeavesOthers (either (R.owns source.old) (K.owns sink.old)) (either
+        (R.owns source.new) (K.owns sink.new)) (S.runs store.old) (S.runs store.new) }
+    ensures source { OnOk result (R.is_ready source.new (S.runs store.new)) }
+    ensures sink { OnOk result (K.is_ready sink.new (S.runs store.new)) }
+    ensures cause { IfErr result (λ e. GroupCause e (S.runs store.old) (S.runs store.new)) }
+{
+    let _ = budget;
+    let Ok(mut map) = start_table(alloc, hasher, spec) else {
+        return Err(Refusal::Memory);
+    };
+    let rows_read = take_rows(alloc, spec, source, store, &mut map)?;
+    let groups = push_all(alloc, map, sink, store)?;
+    Ok(Spent {
+        rows_read,
+        rows_written: 0,
+        groups,
+        runs: 0,
+    })
+}

@@ -1,0 +1,257 @@
+//! Groups of rows.
+ghost use Rattle.std.specs.Prelude.{◌≡◌};
+ghost use Rattle.gq_group.specs.Groups.{all_fit};
+
+use crate::list_sink::ListSink;
+use crate::list_source::ListSource;
+use gq_agg::AggKind;
+use gq_group::{Budget, GroupSpec, Refusal, Spent, group};
+use gq_row::{Key, Row, Text, Value};
+use gq_spill::MemStore;
+use std::alloc::{AllocError, Global};
+use std::collections::VecDeque;
+use std::test::Fail;
+use sw_probe::{Constant, Fnv1a, KeyHash, LowBits};
+
+/// What a grouping answers.
+#[derive(Drop)]
+struct Answer {
+    spent: Spent,
+    groups: Vec<String>,
+}
+
+fn fit(spec: &GroupSpec, rows: &VecDeque<Row>) -> bool
+    ensures { result ≡ all_fit spec.now rows.now.items }
+{
+    rows.iter().all(|row| spec.fits(row))
+}
+
+/// The groups of some rows, spelled out, in the order of their spellings.
+fn grouped<H: KeyHash<Key> + Copy>(
+    alloc: Global,
+    hasher: H,
+    spec: &GroupSpec,
+    rows: VecDeque<Row>,
+) -> Result<Answer, Refusal> {
+    let Some(budget) = Budget::new(2) else {
+        return Err(Refusal::Memory);
+    };
+    if rows.len() > 1_000_000 || !fit(spec, &rows) {
+        return Err(Refusal::Damaged);
+    }
+    let mut source = ListSource { rows };
+    let mut sink = ListSink {
+        alloc,
+        groups: Vec::new(alloc),
+    };
+    let mut store = MemStore::new(alloc);
+    let spent = group(
+        alloc,
+        hasher,
+        spec,
+        &mut source,
+        &mut sink,
+        &mut store,
+        budget,
+    )?;
+    let ListSink { mut groups, .. } = sink;
+    if groups.sort().is_err() {
+        return Err(Refusal::Memory);
+    }
+    Ok(Answer { spent, groups })
+}
+
+/// What came of a grouping: how many rows and groups there were, and then each group.
+fn told(alloc: Global, found: Result<Answer, Refusal>) -> Result<String, AllocError> {
+    let mut out = String::new(alloc);
+    match found {
+        Ok(answer) => {
+            let Answer { spent, groups } = answer;
+            let (rows, count) = (spent.rows_read, spent.groups);
+            out.push_str(format!(in alloc; "{rows} rows, {count} groups")?.as_str())?;
+            for group in groups.as_slice() {
+                out.push_str("; ")?;
+                out.push_str(group.as_str())?;
+            }
+        }
+        Err(refusal) => out.push_str(format!(in alloc; "{refusal}")?.as_str())?,
+    }
+    Ok(out)
+}
+
+/// Some rows.
+#[derive(Clone, Copy)]
+enum Rows {
+    None,
+    Worked,
+    NullsAndEmptyTexts,
+    PastTheEdge,
+    AtTheEdge,
+    Remainders,
+}
+
+fn row(alloc: Global, values: &[Option<i64>]) -> Result<Row, AllocError> {
+    let mut cells = Vec::new(alloc);
+    for value in values {
+        cells.push(match value {
+            Some(n) => Value::Int(*n),
+            None => Value::Null,
+        })?;
+    }
+    Ok(Row::new(cells))
+}
+
+fn named(alloc: Global, n: i64, name: Option<&str>) -> Result<Row, AllocError> {
+    let name = match name {
+        Some(chars) => Value::Text(Text::new(String::from_str(alloc, chars)?)),
+        None => Value::Null,
+    };
+    Ok(Row::new(vec![in alloc; Value::Int(n), name]?))
+}
+
+fn rows_of(alloc: Global, rows: Rows) -> Result<VecDeque<Row>, AllocError> {
+    let mut list = VecDeque::new(alloc);
+    match rows {
+        Rows::None => {}
+        Rows::Worked => {
+            for values in [
+                [Some(1), Some(5)],
+                [Some(1), Some(5)],
+                [Some(1), None],
+                [Some(2), Some(7)],
+            ] {
+                list.push_back(row(alloc, &values)?)?;
+            }
+        }
+        Rows::NullsAndEmptyTexts => {
+            for (n, name) in [
+                (1, None),
+                (2, None),
+                (3, None),
+                (4, Some("")),
+                (5, Some("")),
+            ] {
+                list.push_back(named(alloc, n, name)?)?;
+            }
+        }
+        Rows::PastTheEdge => {
+            list.push_back(row(alloc, &[Some(1), Some(i64::MAX)])?)?;
+            list.push_back(row(alloc, &[Some(1), Some(1)])?)?;
+        }
+        Rows::AtTheEdge => {
+            list.push_back(row(alloc, &[Some(1), Some(i64::MAX)])?)?;
+            list.push_back(row(alloc, &[Some(1), Some(1)])?)?;
+            list.push_back(row(alloc, &[Some(1), Some(-1)])?)?;
+        }
+        Rows::Remainders => {
+            for n in 0..500i64 {
+                list.push_back(row(alloc, &[Some(n), Some(n % 50)])?)?;
+            }
+        }
+    }
+    Ok(list)
+}
+
+fn spec(alloc: Global, by: &[usize], aggs: &[(AggKind, usize)]) -> Result<GroupSpec, AllocError> {
+    Ok(GroupSpec::new(Vec::from_slice(alloc, by)?, Vec::from_slice(alloc, aggs)?))
+}
+
+/// What a grouping comes to under a hasher that spreads keys, one that hashes all alike, and one
+/// between, with a line for each.
+fn by_each_hasher(alloc: Global, spec: &GroupSpec, rows: Rows) -> Result<Vec<String>, AllocError> {
+    let spread = grouped(alloc, Fnv1a { seed: 0 }, spec, rows_of(alloc, rows)?);
+    let alike = grouped(alloc, Constant(0), spec, rows_of(alloc, rows)?);
+    let between = grouped(alloc, LowBits(7), spec, rows_of(alloc, rows)?);
+    let mut answers = Vec::new(alloc);
+    answers.push(told(alloc, spread)?)?;
+    answers.push(told(alloc, alike)?)?;
+    answers.push(told(alloc, between)?)?;
+    Ok(answers)
+}
+
+#[test]
+fn worked_groups(rt: HostRuntime) -> Result<(), Fail> {
+    let alloc = rt.alloc();
+    let all = [
+        (AggKind::CountAll, 99),
+        (AggKind::Count, 1),
+        (AggKind::Sum, 1),
+        (AggKind::Min, 1),
+        (AggKind::Max, 0),
+    ];
+    let count = [(AggKind::Count, 1)];
+    let counts_and_sum = [(AggKind::CountAll, 0), (AggKind::Sum, 1)];
+    for (rows, by, aggs, due) in [
+        (
+            Rows::Worked,
+            &[0usize][..],
+            &count[..],
+            "4 rows, 2 groups; 1:2; 2:1",
+        ),
+        (
+            Rows::Worked,
+            &[0],
+            &all,
+            "4 rows, 2 groups; 1:3,2,10,5,1; 2:1,1,7,7,2",
+        ),
+        (Rows::Worked, &[], &all, "4 rows, 1 groups; :4,3,17,5,2"),
+        (
+            Rows::Worked,
+            &[1, 0],
+            &[],
+            "4 rows, 3 groups; 5,1:; 7,2:; null,1:",
+        ),
+        (
+            Rows::None,
+            &[],
+            &counts_and_sum,
+            "0 rows, 1 groups; :0,null",
+        ),
+        (Rows::None, &[0], &counts_and_sum, "0 rows, 0 groups"),
+        (
+            Rows::NullsAndEmptyTexts,
+            &[1],
+            &[(AggKind::CountAll, 0)],
+            "5 rows, 2 groups; '':2; null:3",
+        ),
+        (
+            Rows::PastTheEdge,
+            &[0],
+            &counts_and_sum,
+            "a sum is out of range",
+        ),
+        (
+            Rows::AtTheEdge,
+            &[0],
+            &counts_and_sum,
+            "3 rows, 1 groups; 1:3,9223372036854775807",
+        ),
+    ] {
+        let spec = spec(alloc, by, aggs)?;
+        for found in by_each_hasher(alloc, &spec, rows)?.as_slice() {
+            assert_eq!(rt; found.as_str(), due);
+        }
+    }
+    Ok(())
+}
+
+#[test]
+fn five_hundred_rows_in_fifty_groups(rt: HostRuntime) -> Result<(), Fail> {
+    let alloc = rt.alloc();
+    let spec = spec(alloc, &[1], &[(AggKind::CountAll, 0), (AggKind::Sum, 0)])?;
+    let mut due = Vec::new(alloc);
+    for g in 0..50u8 {
+        let sum = 10 * i64::from(g) + 2250;
+        due.push(format!(in alloc; "{g}:10,{sum}")?)?;
+    }
+    due.sort()?;
+    let mut text = String::from_str(alloc, "500 rows, 50 groups")?;
+    for group in due.as_slice() {
+        text.push_str("; ")?;
+        text.push_str(group.as_str())?;
+    }
+    for found in by_each_hasher(alloc, &spec, Rows::Remainders)?.as_slice() {
+        assert_eq!(rt; found.as_str(), text.as_str());
+    }
+    Ok(())
+}
