@@ -91,7 +91,7 @@ impl<R: Read> Model for Source<R> {
 impl<R: Read> Source<R> {
     ghost use Rattle.gq_script.specs.Script.{Takes, given_with_mark, waiting};
     ghost use Rattle.std.specs.Io.KnownBytes.{IsAtEnd};
-    ghost use Rattle.std.specs.Prelude.{◌≡◌, ◌≤◌, ◌<◌, [], ◌∷◌, IfOk, IfSome, IfNone, OnOk, false, true, length, take};
+    ghost use Rattle.std.specs.Prelude.{◌≡◌, ◌+◌, ◌≤◌, ◌<◌, [], ◌∷◌, IfOk, IfSome, IfNone, OnOk, OnErr, false, true, length, take};
 
     pub fn new(reader: R) -> Source<R>
         ensures left { result.left ≡ waiting false [] (R.remaining reader) }
@@ -109,12 +109,14 @@ impl<R: Read> Source<R> {
 
     /// Reads, where no byte waits that was read ahead. Answers whether one waits then; where none
     /// does, the script is at its end. Where the mark alone is longer than `most`, that is a fault.
+    /// Where one waits nothing is read, and nothing but that limit is a fault.
     #[inline]
     pub fn fill(&mut self, most: u64) -> Result<bool, ReadFault>
         ensures same { OnOk result (Takes self.old self.new []) }
         ensures within { OnOk result (self.new.given ≤ most) }
         ensures waits { IfOk result (λ waits. waits ≡ true → 0 < length self.new.ahead) }
         ensures end { IfOk result (λ waits. waits ≡ false → IsAtEnd self.old.left) }
+        ensures fault { OnErr result (0 < length self.old.ahead → most < self.old.given) }
     {
         if self.start == self.end {
             let (start, end) = refill(&mut self.reader, &mut self.buffer, self.behind_mark)?;
@@ -140,12 +142,13 @@ impl<R: Read> Source<R> {
     }
 
     /// Takes so many of the bytes that wait. A byte past the first `most` of the script, a mark
-    /// among them, is a fault.
+    /// among them, is a fault, and nothing else is.
     #[inline]
     pub fn pass(&mut self, len: usize, most: u64) -> Result<(), ReadFault>
         requires { len ≤ length self.old.ahead }
         ensures taken { OnOk result (Takes self.old self.new (take len self.old.ahead)) }
         ensures within { OnOk result (self.old.given ≤ most → self.new.given ≤ most) }
+        ensures fault { OnErr result (most < self.old.given + len) }
     {
         if most.saturating_sub(self.given) < len as u64 {
             return Err(ReadFault);
