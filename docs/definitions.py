@@ -64,8 +64,12 @@ def read_specs(crate):
         text = path.read_text()
         known = imports(text, crate)
         head = text.splitlines()[0].lstrip("- ") if text.startswith("--") else ""
-        groups, comment, current = [], [], None
+        groups, comment, current, is_inside = [], [], None, False
         for line in text.splitlines():
+            if line and not line.startswith((" ", "--")):
+                is_inside = line.startswith("module _")
+            if is_inside:
+                line = line.removeprefix("  ")
             if line.startswith("--"):
                 comment.append(line.lstrip("- ").strip())
                 continue

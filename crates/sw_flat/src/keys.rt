@@ -1,6 +1,7 @@
 //! The keys of a map, one by one.
-ghost use Rattle.std.specs.Prelude.{◌≡◌, map};
-ghost use Rattle.std.specs.Iterator.{YieldsFirstRef, item_count};
+ghost use Rattle.std.specs.Prelude.{◌≡◌, Some, length, map, IfSome};
+ghost use Rattle.std.specs.Iterator.{YieldsFirstRef, item_count, at_most, UpTo};
+ghost use Rattle.std.specs.Iterator.SizeHint.{IsWithinCount};
 
 use std::iter::{ExactSizeIterator, FusedIterator};
 use std::marker::Model;
@@ -45,7 +46,11 @@ impl<'a, K: Keyed, V, H: KeyHash<K>> Iterator for Keys<'a, K, V, H> {
     }
 
     #[inline]
-    fn size_hint(&self) -> (usize, Option<usize>) {
+    fn size_hint(&self) -> (usize, Option<usize>)
+        ensures lower { IsWithinCount result.0 (at_most (length self.now)) }
+        ensures upper { IfSome result.1 (UpTo (at_most (length self.now))) }
+        ensures exact { result ≡ (length self.now, Some (length self.now)) }
+    {
         let left = self.entries.len();
         (left, Some(left))
     }

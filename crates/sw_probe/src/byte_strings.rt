@@ -15,10 +15,18 @@ pub fn same_bytes(a: &[u8], b: &[u8]) -> bool
         return false;
     }
     if len < 8 || 16 < len {
-        return a == b;
+        return same_of_other_length(a, b);
     }
     let last = len - 8;
     first_word(a) == first_word(b) && first_word(&a[last..]) == first_word(&b[last..])
+}
+
+// Kept out of the loop over the slots, whose registers a call in it would take.
+#[cold]
+fn same_of_other_length(a: &[u8], b: &[u8]) -> bool
+    ensures { IsTrue result ↔ (a.now ≡ b.now) }
+{
+    a == b
 }
 
 // The first eight bytes as a number.

@@ -4,8 +4,7 @@ ghost use Rattle.sw_ctrl.specs.declared.control.TheConstants.{EMPTY};
 ghost use Rattle.sw_slots.specs.Place.{place};
 ghost use Rattle.sw_table.specs.LaidOut.{full_count};
 
-use crate::walk::Walk;
-use sw_ctrl::{Ctrl, EMPTY};
+use sw_ctrl::{Ctrl, EMPTY, is_full};
 use sw_slots::Slots;
 
 /// Drops what the full slots hold, `len` values.
@@ -20,9 +19,11 @@ pub(crate) fn empty_out<T: Drop>(slots: &mut Slots<T>, ctrl: &Ctrl, len: usize)
     if len == 0 {
         return;
     }
-    let mut walk = Walk::new();
-    'slots: while let Some(i) = walk.advance(ctrl) {
-        let _value = slots.take(i);
+    // Byte by byte: where values need no drop, the compiler takes this loop away.
+    for i in 0..ctrl.len() {
+        if is_full(ctrl.get(i)) {
+            let _value = slots.take(i);
+        }
     }
 }
 
