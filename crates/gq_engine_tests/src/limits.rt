@@ -66,7 +66,7 @@ fn run(alloc: Global, limits: Limits, script: &[u8]) -> (Vec<u8>, bool) {
 }
 
 /// A field, its value, a script, and what it must write then.
-const CASES: [(&str, u64, &[u8], &[u8]); 14] = [
+const CASES: [(&str, u64, &[u8], &[u8]); 17] = [
     (
         "tables",
         2,
@@ -130,6 +130,27 @@ const CASES: [(&str, u64, &[u8], &[u8]); 14] = [
         1,
         b"create a (x int, y int, key (x))\nupsert a (1, 1)\nupsert a (1, 2)\nupsert a (2, 2)\ngroup a by y show count(*)\n",
         b"ok 0\nok 1\nok 1\nerr 14 Limit\nok 1\ny,count(*)\n2,1\n",
+    ),
+    // A load is refused by the rows that there would be, of one key one; and by its records, equal keys
+    // among them.
+    (
+        "rows",
+        3,
+        b"create s (id int, city text, key (id))\nload s\nid,city\n1,a\n2,b\n\\.\nload s\nid,city\n1,x\n2,y\n3,z\n\\.\nload s\nid,city\n4,q\n\\.\nupsert s (3, 'w')\nshow s\n",
+        b"ok 0\nok 2\nok 3\nerr 14 Limit\nok 1\nok 3\nid,city\n1,x\n2,y\n3,w\n",
+    ),
+    (
+        "rows",
+        2,
+        b"create s (id int, key (id))\nload s\nid\n1\n1\n1\n\\.\nload s\nid\n1\n1\n\\.\nshow s\n",
+        b"ok 0\nerr 14 Limit\nok 2\nok 1\nid\n1\n",
+    ),
+    // Payloads of four and of five bytes; of the longer one the header is not looked at.
+    (
+        "payload",
+        4,
+        b"create s (x int)\nload s\nx\n1\n\\.\nload s\ny\n12\n\\.\nload s\nx\n23\nshow s\n",
+        b"ok 0\nok 1\nerr 14 Limit\nerr 18 LoadOpen\n",
     ),
     ("script", 17, b"create a (x int)\n", b"ok 0\n"),
     // A byte-order mark is counted.
