@@ -57,9 +57,9 @@ class Example:
         names = [column for column, _kind in columns]
         self.tables[name] = (names, [names.index(column) for column in key], {}, [])
 
-    def upsert(self, name, *row):
+    def put(self, name, row):
+        """Keeps a row in place of the one that has its key, or behind all."""
         _names, key, places, rows = self.tables[name]
-        self.say(f"upsert {name} ({', '.join(map(literal, row))})", "ok 1")
         at = tuple(row[i] for i in key)
         if key and at in places:
             rows[places[at]] = row
@@ -67,21 +67,19 @@ class Example:
             places[at] = len(rows)
             rows.append(row)
 
+    def upsert(self, name, *row):
+        self.say(f"upsert {name} ({', '.join(map(literal, row))})", "ok 1")
+        self.put(name, row)
+
     def load(self, name, header, rows, end="\n"):
         """Loads rows whose values stand in the order of the header."""
-        names, key, places, held = self.tables[name]
+        names = self.tables[name][0]
         text = io.StringIO()
         out = csv.writer(text, lineterminator=end)
         out.writerow(header)
         for row in rows:
             out.writerow(map(cell, row))
-            row = tuple(row[header.index(column)] for column in names)
-            at = tuple(row[i] for i in key)
-            if key and at in places:
-                held[places[at]] = row
-            else:
-                places[at] = len(held)
-                held.append(row)
+            self.put(name, tuple(row[header.index(column)] for column in names))
         self.say(f"load {name}", f"ok {len(rows)}")
         self.script += text.getvalue().encode() + b"\\." + end.encode()
 
