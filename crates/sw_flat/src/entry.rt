@@ -28,6 +28,16 @@ pub struct Vacancy {
     hash: u64,
 }
 
+impl Vacancy {
+    /// The key's hash.
+    #[inline]
+    pub fn hash(self) -> u64
+        ensures { result ≡ self.hash }
+    {
+        self.hash
+    }
+}
+
 impl<K: Keyed, V, H: KeyHash<K>> FlatMap<K, V, H> {
     ghost use Rattle.std.specs.Borrow.{sem};
     ghost use Rattle.sw_flat.specs.MapLends.{lends_slot};

@@ -11,7 +11,8 @@
 //!   erased: a map made by `with_room` for `n` entries takes every insertion while fewer than `n`
 //!   live. Past it an insertion doubles the capacity, or is refused and hands its pair back.
 //! - [`FlatMap::entry`] looks a key up that is only asked for, and tells where its entry stands, or
-//!   keeps the hash, so that [`FlatMap::fill`] adds one by an owned key without hashing again.
+//!   keeps the hash, so that [`FlatMap::fill`] adds one by an owned key without hashing again. The
+//!   set has both calls too.
 //! - [`FlatMap::iter`], `keys` and `values` go over the slots in order, and read the control bytes of
 //!   a group once. [`FlatMap::drain_next`] takes the entries out one by one, each once, and leaves
 //!   the slots empty.

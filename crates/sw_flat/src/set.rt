@@ -2,7 +2,7 @@
 ghost use Rattle.std.specs.Prelude.{◌≡◌, ◌↔◌, ℕ, ◌<◌, ◌≤◌, ◌^◌, not, IsTrue, IsOk, OnOk, OnErr, IfOk, IfErr, Err, None};
 ghost use Rattle.std.specs.Bool.{OnFalse};
 ghost use Rattle.std.specs.Option.{option_map};
-ghost use Rattle.std.specs.FinMap.{empty, get, remove, len, contains_key};
+ghost use Rattle.std.specs.FinMap.{empty, get, insert, remove, len, contains_key};
 ghost use Rattle.sw_table.specs.View.{slot_count, fresh, NoneDeleted};
 ghost use Rattle.sw_table.specs.Entries.{entries};
 ghost use Rattle.sw_table.specs.Sizes.{room_of, SameOrGrown, IsCapacity};
@@ -10,13 +10,15 @@ ghost use Rattle.sw_table.specs.LaidOut.{hash_by};
 ghost use Rattle.sw_table.specs.Insertion.{HasSpace, InPlace, RefusesGrowth};
 ghost use Rattle.sw_table.specs.Room.{IsMadeFor, GrowsFor, RefusesPast, RefusesRoom};
 ghost use Rattle.sw_flat.specs.Maps.{added};
+ghost use Rattle.sw_flat.specs.Vacancies.{IsOccupied, IsVacant, IsVacancy};
 
 use crate::emplaced::{Emplaced, RefusedKey};
+use crate::entry::{Entry, Vacancy};
 use crate::map::FlatMap;
 use std::alloc::Global;
 use std::marker::Model;
 use sw_probe::{KeyHash, Keyed, Names};
-use sw_table::{Table, Why};
+use sw_table::{Refused, Table, Why};
 
 /// A set of keys, in one Swiss table.
 ///
@@ -181,6 +183,43 @@ impl<K: Keyed, H: KeyHash<K>> FlatSet<K, H> {
                 why: refused.why,
             }),
         }
+    }
+
+    /// Where the key that `q` names stands, or that it is not there; [`FlatSet::fill`] then adds it
+    /// without hashing again.
+    #[inline]
+    pub fn entry<Q: Names<K>>(&self, q: &Q) -> Entry
+        ensures occupied { IsOccupied K.class self.now (Q.named q.now) result }
+        ensures vacant { IsVacant K.class (hash_by H.hash_of K.bytes self.now.hasher) self.now
+            (Q.named q.now) result }
+    {
+        self.map.entry(q)
+    }
+
+    /// Adds a key that [`FlatSet::entry`] found absent, by the hash that it has told.
+    ///
+    /// The capacity stays where the table has space, as for [`FlatSet::insert`], and then no key is
+    /// refused. Else the capacity doubles, or the call refuses: with `Limit` where the capacity is
+    /// 2^28, else with `Memory`. The key is then handed back, and the set is as it was.
+    #[inline]
+    pub fn fill(&mut self, vacancy: Vacancy, key: K) -> Result<(), RefusedKey<K>>
+        requires { IsVacancy K.class (hash_by H.hash_of K.bytes self.old.hasher) self.old
+            (K.class key) vacancy }
+        ensures entries { OnOk result (entries K.class self.new ≡
+            insert (entries K.class self.old) (K.class key) (key, tt)) }
+        ensures in_place { HasSpace K.class self.old
+            (hash_by H.hash_of K.bytes self.old.hasher (K.class key)) →
+            InPlace result self.old self.new }
+        ensures slots { SameOrGrown (slot_count self.old) (slot_count self.new) }
+        ensures hasher { self.new.hasher ≡ self.old.hasher }
+        ensures handed_back { IfErr result (λ r. r.key ≡ key) }
+        ensures refused { IfErr result (λ r. RefusesGrowth self.old self.new r.why) }
+    {
+        let Err(refused) = self.map.fill(vacancy, key, ()) else {
+            return Ok(());
+        };
+        let Refused { key, why, .. } = refused;
+        Err(RefusedKey { key, why })
     }
 
     /// Drops the key that `q` names. `false` where it is not there.

@@ -45,6 +45,8 @@ impl<K: Keyed, V, H: KeyHash<K>> Table<K, V, H> {
     }
 
     // Makes space for one more entry: in place where the room suffices, else by growth.
+    #[cold]
+    #[inline(never)]
     pub(crate) fn make_space(&mut self) -> Result<(), Why>
         ensures entries { OnOk result (entries K.class self.new ≡ entries K.class self.old) }
         ensures slots { OnOk result (SameOrGrown (slot_count self.old) (slot_count self.new)) }

@@ -3,16 +3,16 @@ ghost use Rattle.std.specs.Prelude.{◌≡◌, Some, None, IfSome, IfNone, IfOk,
 ghost use Rattle.std.specs.FinMap.{insert, get, len};
 ghost use Rattle.sw_table.specs.View.{View, slot_count, entry_at, IsFull};
 ghost use Rattle.sw_table.specs.Entries.{entries};
-ghost use Rattle.sw_table.specs.Sizes.{SameOrGrown, room_of};
-ghost use Rattle.sw_table.specs.LaidOut.{hash_by};
+ghost use Rattle.sw_table.specs.Sizes.{SameOrGrown, room_of, load_of};
+ghost use Rattle.sw_table.specs.LaidOut.{hash_by, used_count};
 ghost use Rattle.sw_table.specs.Free.{IsFree, KeepsLoad, IsAtLoad};
 ghost use Rattle.sw_table.specs.Insertion.{HasSpace, InPlace, RefusesGrowth};
 
 use crate::free::first_free;
 use crate::refused::Refused;
-use crate::sizes::load_of;
+use crate::sizes::GROUP_LOAD;
 use crate::table::{SlotNo, Table};
-use sw_ctrl::EMPTY;
+use sw_ctrl::{EMPTY, WIDTH};
 use sw_probe::{KeyHash, Keyed, h2};
 
 impl<K: Keyed, V, H: KeyHash<K>> Table<K, V, H> {
@@ -43,7 +43,7 @@ impl<K: Keyed, V, H: KeyHash<K>> Table<K, V, H> {
     }
 
     /// Adds the entry of a key that is not there, and whose hash is known already, as `place` does.
-    #[inline]
+    #[inline(always)]
     pub fn place_hashed(&mut self, key: K, value: V, hash: u64) -> Result<SlotNo, Refused<K, V>>
         requires absent { get (entries K.class self.old) (K.class key) ≡ None }
         requires hash { hash ≡ hash_by H.hash_of K.bytes self.old.hasher (K.class key) }
@@ -57,41 +57,30 @@ impl<K: Keyed, V, H: KeyHash<K>> Table<K, V, H> {
         ensures handed_back { IfErr result (λ r. (r.key ≡ key) × (r.value ≡ value)) }
         ensures refused { IfErr result (λ r. RefusesGrowth self.old self.new r.why) }
     {
-        match self.free_slot(hash) {
-            Some(index) => {
-                self.fill(index, hash, key, value);
-                Ok(SlotNo { index })
+        let index = match self.free_slot(hash) {
+            Some(index) => index,
+            None => {
+                if let Err(why) = self.make_space() {
+                    return Err(Refused { key, value, why });
+                }
+                self.slot_within_load(hash)
             }
-            None => self.place_past_load(key, value, hash),
-        }
+        };
+        self.fill(index, hash, key, value);
+        Ok(SlotNo { index })
     }
 
-    // Adds the entry of a new key once there is space for it: deleted bytes are swept, or the table
-    // grows. It stands apart from `place_hashed`, which is inlined into its callers.
+    // The first free slot on the way of the hash, where the load has space for one more. It stands
+    // apart from `place_hashed`, which is inlined into its callers.
     #[cold]
     #[inline(never)]
-    fn place_past_load(&mut self, key: K, value: V, hash: u64) -> Result<SlotNo, Refused<K, V>>
-        requires absent { get (entries K.class self.old) (K.class key) ≡ None }
-        requires hash { hash ≡ hash_by H.hash_of K.bytes self.old.hasher (K.class key) }
-        ensures full { IfOk result (λ s. IsFull self.new s.index) }
-        ensures entry { IfOk result (λ s. entry_at self.new s.index ≡ Some (key, value)) }
-        ensures entries { OnOk result (entries K.class self.new ≡
-            insert (entries K.class self.old) (K.class key) (key, value)) }
-        ensures slots { SameOrGrown (slot_count self.old) (slot_count self.new) }
-        ensures in_place { len (entries K.class self.old) < room_of (slot_count self.old) →
-            InPlace result self.old self.new }
-        ensures hasher { self.new.hasher ≡ self.old.hasher }
-        ensures handed_back { IfErr result (λ r. (r.key ≡ key) × (r.value ≡ value)) }
-        ensures refused { IfErr result (λ r. RefusesGrowth self.old self.new r.why) }
+    fn slot_within_load(&self, hash: u64) -> usize
+        requires { used_count self.now.bytes < load_of (slot_count self.now) }
+        ensures free { IsFree self.now.bytes hash result }
+        ensures load { KeepsLoad self.now.bytes result }
     {
-        if let Err(why) = self.make_space() {
-            return Err(Refused { key, value, why });
-        }
         match self.free_slot(hash) {
-            Some(index) => {
-                self.fill(index, hash, key, value);
-                Ok(SlotNo { index })
-            }
+            Some(index) => index,
             None => unreachable!(),
         }
     }
@@ -103,12 +92,13 @@ impl<K: Keyed, V, H: KeyHash<K>> Table<K, V, H> {
             (λ i. IsFree self.now.bytes hash i × KeepsLoad self.now.bytes i) }
         ensures none { IfNone result (IsAtLoad self.now.bytes hash) }
     {
-        let capacity = self.ctrl.len();
-        if capacity == 0 {
+        // The test and the number are those of a look-up, so that the compiler shares them.
+        let groups = self.ctrl.len() / WIDTH;
+        if groups == 0 {
             return None;
         }
         let index = first_free(&self.ctrl, hash);
-        if self.ctrl.get(index) == EMPTY && self.used == load_of(capacity) {
+        if self.ctrl.get(index) == EMPTY && self.used == GROUP_LOAD * groups {
             return None;
         }
         Some(index)

@@ -1,10 +1,13 @@
 //! How large a table has to be.
 ghost use Rattle.std.specs.Prelude.{◌≡◌, ℕ, ◌<◌, ◌≤◌, ◌^◌, IfSome, IfNone};
-ghost use Rattle.sw_table.specs.Sizes.{IsCapacity, room_of, load_of};
+ghost use Rattle.sw_table.specs.Sizes.{IsCapacity, room_of};
 
 use sw_ctrl::WIDTH;
 
 pub(crate) const MAX_CAPACITY: usize = 1 << 28;
+
+/// For each group of slots, how many slots of the table may be full or deleted.
+pub(crate) const GROUP_LOAD: usize = 14;
 
 /// How many entries the slots take without growth, however many were removed before.
 #[inline]
@@ -13,15 +16,6 @@ pub(crate) fn room_of(capacity: usize) -> usize
     ensures { result ≡ room_of capacity }
 {
     25 * capacity / 32
-}
-
-/// How many of the slots may be full or deleted.
-#[inline]
-pub(crate) fn load_of(capacity: usize) -> usize
-    requires { IsCapacity capacity }
-    ensures { result ≡ load_of capacity }
-{
-    14 * (capacity / WIDTH)
 }
 
 /// The least capacity whose room is at least `n`, if there is one.

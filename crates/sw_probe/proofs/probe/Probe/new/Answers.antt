@@ -1,4 +1,4 @@
-use Rattle.std.proofs.Common.{◌/◌, ◌∙◌}
+use Rattle.std.proofs.Common.{◌∙◌}
 use Rattle.sw_probe.proofs.Once.{group_number-first}
 use Rattle.sw_probe.proofs.Powers.{masked, count-pos}
 use Rattle.sw_probe.proofs.probe.Probe.new.Goals as goal
