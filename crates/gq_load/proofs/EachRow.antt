@@ -6,7 +6,7 @@ use Rattle.gq_load.specs.declared.load_refusal.LoadRefusal.{LoadRefusal}
 use Rattle.gq_load.specs.Answers.{◌>>=◌}
 use Rattle.gq_load.specs.Laws.{IsFirstFault}
 use Rattle.gq_load.specs.Payloads.{row_of, rows_from}
-use Rattle.gq_load.proofs.Fits.{bound, ok_same}
+use Rattle.gq_load.proofs.Filling.{bound, ok_same}
 
 pub many : (heading : Heading) (longest : ℕ) (places : List ℕ) (number : ℕ) (given : List (List (List ℕ))) (rows : List (List Value)) → rows_from heading longest places number given ≡ Ok rows → length rows ≡ length given
 unfolding rows_from

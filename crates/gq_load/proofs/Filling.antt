@@ -1,9 +1,9 @@
 -- Values moved to their places come to the row in the order of columns.
-use Rattle.std.proofs.Common.{◌≡◌, ◌≢◌, ◌∙◌, ◌+◌, ◌<◌, ◌≤◌, ℕ, Bool, true, false, cond, List, [], ◌∷◌, length, map, drop, get_or, set, Result, Ok, Err, eqb, All, replicate, refl, ap, arith}
+use Rattle.std.proofs.Common.{◌≡◌, ◌≢◌, ◌∙◌, ◌+◌, ◌<◌, ◌≤◌, ℕ, Bool, true, false, cond, List, [], ◌∷◌, length, map, drop, get_or, set, Result, Ok, Err, eqb, All, refl, sym, ap, suc, arith}
 use Rattle.std.specs.Prelude.{nat_eq, ◌||◌}
 use Rattle.std.specs.List.{list_any}
 use Rattle.std.proofs.lemmas.Bool.Decides.{nat_tests}
-use Rattle.std.proofs.lemmas.List.{drop_more, drop_all, get_or-map, get_or-set_same, get_or-set_other, length-set, get_or-replicate, length-replicate}
+use Rattle.std.proofs.lemmas.List.{drop_more, drop_all, get_or-map, get_or-set_same, get_or-set_other, length-set}
 use Rattle.std.proofs.lemmas.List.Elements.{recursion_from_All}
 use Rattle.std.specs.List.{AllByRecursion}
 use Rattle.std.proofs.lemmas.List.FromFn.{fill_by_all}
@@ -17,6 +17,7 @@ use Rattle.gq_load.specs.Answers.{◌>>=◌}
 use Rattle.gq_load.specs.Fields.{value_of}
 use Rattle.gq_load.specs.Payloads.{values_of, value_in, arranged, cells_of, kind_at}
 use Rattle.gq_load.specs.Headers.{EachOnce, are_all}
+use Rattle.gq_load.proofs.Covering.{all_named}
 use Rattle.gq_load.proofs.Places.{both, not_true}
 
 -- a row with values written to these places
@@ -31,10 +32,18 @@ value_or none [] values column = none
 value_or none (place ∷ places) [] column = none
 value_or none (place ∷ places) (value ∷ values) column = cond (eqb place column) value (value_or none places values column)
 
-or_null : (places : List ℕ) (values : List Value) (column : ℕ) → value_or Null places values column ≡ value_in places values column
-or_null [] values column = refl
-or_null (place ∷ places) [] column = refl
-or_null (place ∷ places) (value ∷ values) column = ap (cond (eqb place column) value) (or_null places values column)
+-- a column that is named has a value of its own
+or_named : (none : Value) (places : List ℕ) (values : List Value) (column : ℕ) → list_any (nat_eq column) places ≡ true → length values ≡ length places → value_or none places values column ≡ value_in places values column
+or_named none [] values column h size = let no_one : ⊥ = cc in absurd no_one
+or_named none (place ∷ places) [] column h size = let no_one : ⊥ = omega (arith, size) in absurd no_one
+or_named none (place ∷ places) (value ∷ values) column h size = by_first (eqb place column) refl (eqb column place) refl h (λ among. or_named none places values column among (omega (arith, size)))
+  where
+    by_first : (b : Bool) → eqb place column ≡ b → (c : Bool) → eqb column place ≡ c → c || list_any (nat_eq column) places ≡ true
+        → (list_any (nat_eq column) places ≡ true → value_or none places values column ≡ value_in places values column)
+        → cond b value (value_or none places values column) ≡ cond b value (value_in places values column)
+    by_first true e c f h again = refl
+    by_first false e true f h again = let no_one : ⊥ = grind (arith, nat_tests) in absurd no_one
+    by_first false e false f h again = again h
 
 or_else : (none : Value) (places : List ℕ) (values : List Value) (column : ℕ) → list_any (nat_eq column) places ≡ false → value_or none places values column ≡ none
 or_else none [] values column h = refl
@@ -72,13 +81,23 @@ filled_at (place ∷ places) (value ∷ values) row column apart within =
         let other : column ≢ place = grind (arith, nat_tests) in
         rw (get_or-set_other row place column value Null other) refl
 
--- nulls, written to at places that are apart, are the values in the order of columns
-pub placed : (count : ℕ) (places : List ℕ) (values : List Value) → are_all count places ≡ true → All (λ place. place < count) places → filled places values (replicate count Null) ≡ arranged count places values
-placed count places values all within =
-    let size : length (replicate count Null) ≡ count = length-replicate count Null in
-    let small : AllByRecursion (λ place. place < length (replicate count Null)) places = rw size (recursion_from_All (λ place. place < count) places within) in
-    fill_by_all (value_in places values) (filled places values (replicate count Null)) count Null (length_filled places values (replicate count Null) ∙ size)
-    (λ k h. filled_at places values (replicate count Null) k (both _ _ all).1 small ∙ rw (get_or-replicate count k Null Null h) (or_null places values k))
+-- any row, written to at the places of all columns, is the values in the order of columns
+pub placed : (count : ℕ) (places : List ℕ) (values row : List Value) → are_all count places ≡ true → All (λ place. place < count) places → length row ≡ count → length values ≡ length places → filled places values row ≡ arranged count places values
+placed count places values row all within size many =
+    let parts = both (eqb (length places) count) (no_repeats nat_eq places) all in
+    let below : AllByRecursion (λ place. place < count) places = recursion_from_All (λ place. place < count) places within in
+    let small : AllByRecursion (λ place. place < length row) places = rw size below in
+    let as_many : length places ≡ count = grind (arith, nat_tests, parts.0) in
+    fill_by_all (value_in places values) (filled places values row) count Null (length_filled places values row ∙ size)
+    (λ k h. filled_at places values row k parts.1 small ∙ or_named (get_or row k Null) places values k (all_named count places parts.1 below as_many k h) many)
+
+-- what gave a value gave it at each step
+pub bound : {A B : Type 0} (r : Result A LoadRefusal) (f : A → Result B LoadRefusal) (y : B) → (r >>= f) ≡ Ok y → (x : A) × (r ≡ Ok x) × (f x ≡ Ok y)
+bound (Ok x) f y h = (x, refl, h)
+bound (Err e) f y h = let none : ⊥ = cc in absurd none
+
+pub ok_same : {A : Type 0} (x y : A) → ◌≡◌ {A = Result A LoadRefusal} (Ok x) (Ok y) → x ≡ y
+ok_same x y h = ap (λ r. elim r [ Ok z ↦ z | Err e ↦ x ]) h
 
 -- the row, from the fields that are left and the row so far
 abbrev pub finished : ℕ → ℕ → List Column → List ℕ → List (List ℕ) → List Value → Result (List Value) LoadRefusal
@@ -106,14 +125,24 @@ pub no_more : (most number : ℕ) (columns : List Column) (places : List ℕ) (f
 unfolding values_of
 no_more most number columns places fields row i h = rw (drop_all i places h) refl
 
-pub from_nulls : (most number : ℕ) (columns : List Column) (places : List ℕ) (fields : List (List ℕ)) → are_all (length columns) places ≡ true → All (λ place. place < length columns) places
-    → finished most number columns places fields (replicate (length columns) Null) ≡ cells_of most number columns places fields
+-- as many values as places are read
+values_many : (most number : ℕ) (columns : List Column) (places : List ℕ) (fields : List (List ℕ)) (values : List Value) → length fields ≡ length places → values_of most number (map (kind_at columns) places) fields ≡ Ok values → length values ≡ length places
+unfolding values_of
+values_many most number columns [] fields values size h = ap length (sym (ok_same [] values h))
+values_many most number columns (place ∷ places) [] values size h = let no_one : ⊥ = omega (arith, size) in absurd no_one
+values_many most number columns (place ∷ places) (field ∷ fields) values size h =
+    let a = bound (value_of most number (kind_at columns place) field) _ values h in
+    let b = bound (values_of most number (map (kind_at columns) places) fields) _ values a.2 in
+    ap length (sym (ok_same (a.0 ∷ b.0) values b.2)) ∙ ap suc (values_many most number columns places fields b.0 (omega (arith, size)) b.1)
+
+pub from_any : (most number : ℕ) (columns : List Column) (places : List ℕ) (fields : List (List ℕ)) (row : List Value) → are_all (length columns) places ≡ true → All (λ place. place < length columns) places → length fields ≡ length places → length row ≡ length columns
+    → finished most number columns places fields row ≡ cells_of most number columns places fields
 unfolding cells_of
-from_nulls most number columns places fields all within = by (values_of most number (map (kind_at columns) places) fields)
+from_any most number columns places fields row all within many size = by_values (values_of most number (map (kind_at columns) places) fields) refl
   where
-    by : (r : Result (List Value) LoadRefusal) → (r >>= λ values. Ok (filled places values (replicate (length columns) Null))) ≡ (r >>= λ values. Ok (arranged (length columns) places values))
-    by (Ok values) = ap Ok (placed (length columns) places values all within)
-    by (Err f) = refl
+    by_values : (r : Result (List Value) LoadRefusal) → values_of most number (map (kind_at columns) places) fields ≡ r → (r >>= λ values. Ok (filled places values row)) ≡ (r >>= λ values. Ok (arranged (length columns) places values))
+    by_values (Ok values) e = ap Ok (placed (length columns) places values row all within size (values_many most number columns places fields values many e))
+    by_values (Err f) e = refl
 
 -- the kind of a column by the column
 pub kind_is : (columns : List Column) (place : ℕ) (other : Column) → place < length columns → kind_at columns place ≡ (get_or columns place other).kind

@@ -22,19 +22,11 @@ use Rattle.gq_row.specs.Fitting.{goes_in, fits_columns, has_null}
 use Rattle.gq_load.specs.Fitting.{AreFit}
 use Rattle.gq_load.specs.Payloads.{arranged, cells_of, keyed, kind_at, load, row_of, rows_from, rows_of, data_rows, value_in, values_of}
 use Rattle.gq_load.specs.Headers.{places_of}
-use Rattle.gq_load.proofs.Filling.{kind_is}
-
--- what gave a value gave it at each step
-pub bound : {A B : Type 0} (r : Result A LoadRefusal) (f : A → Result B LoadRefusal) (y : B) → (r >>= f) ≡ Ok y → (x : A) × (r ≡ Ok x) × (f x ≡ Ok y)
-bound (Ok x) f y h = (x, refl, h)
-bound (Err e) f y h = let none : ⊥ = cc in absurd none
+use Rattle.gq_load.proofs.Filling.{bound, kind_is, ok_same}
 
 chosen : {A : Type 0} (b : Bool) (e : LoadRefusal) (r : Result A LoadRefusal) (y : A) → cond b (Err e) r ≡ Ok y → (b ≡ false) × (r ≡ Ok y)
 chosen true e r y h = let none : ⊥ = cc in absurd none
 chosen false e r y h = (refl, h)
-
-pub ok_same : {A : Type 0} (x y : A) → ◌≡◌ {A = Result A LoadRefusal} (Ok x) (Ok y) → x ≡ y
-ok_same x y h = ap (λ r. elim r [ Ok z ↦ z | Err e ↦ x ]) h
 
 -- a field's value goes into its column
 
@@ -111,11 +103,11 @@ cells_fit most number columns places fields cells h =
     let same : 0 + j ≡ j = omega arith in
     rw same (rw (← kind_is columns j d s) (in_goes columns places a.0 j go)))
 
-record IsFit (heading : Heading) (row : List Value) : Type 0 where
-  fitting : fits_columns heading.columns row ≡ true
-  keyed : has_null heading.key row ≡ false
+pub record IsFit (heading : Heading) (row : List Value) : Type 0 where
+  pub fitting : fits_columns heading.columns row ≡ true
+  pub keyed : has_null heading.key row ≡ false
 
-row_fit : (heading : Heading) (most : ℕ) (places : List ℕ) (number : ℕ) (fields : List (List ℕ)) (row : List Value) → row_of heading most places number fields ≡ Ok row → IsFit heading row
+pub row_fit : (heading : Heading) (most : ℕ) (places : List ℕ) (number : ℕ) (fields : List (List ℕ)) (row : List Value) → row_of heading most places number fields ≡ Ok row → IsFit heading row
 unfolding row_of keyed
 row_fit heading most places number fields row h = by_count (eqb (length fields) (length places)) h
   where

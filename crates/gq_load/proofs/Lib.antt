@@ -1,6 +1,9 @@
+mod Covering
 pub mod EachRow
+pub mod Feeds
 pub mod Filling
 pub mod Fits
+pub mod Left
 pub mod Names
 pub mod Numbers
 pub mod Onward

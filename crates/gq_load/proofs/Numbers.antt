@@ -1,9 +1,10 @@
 -- Numbers, digit by digit.
-use Rattle.std.proofs.Common.{◌≡◌, ◌+◌, ◌-◌, ◌*◌, ◌^◌, ◌<◌, ◌≤◌, ℕ, Bool, true, false, cond, List, [], ◌∷◌, length, drop, get_or, Option, Some, None, refl, ap, arith}
+use Rattle.std.proofs.Common.{◌≡◌, ◌+◌, ◌-◌, ◌*◌, ◌^◌, ◌<◌, ◌≤◌, ℕ, Bool, true, false, cond, List, [], ◌∷◌, length, drop, get_or, Option, Some, None, refl, ap, add-one, arith}
 use Rattle.std.specs.Prelude.{nat_le, nat_lt, ◌&&◌}
 use Rattle.std.specs.Char.{digit_value, is_ascii_digit}
 use Rattle.std.specs.Str.{all_ascii_digits}
 use Rattle.std.specs.Str.Parse.{digits_value, digits_value_after}
+use Rattle.std.proofs.Math.Nat.{pow-le-pow_right, pow-succ'}
 use Rattle.std.proofs.lemmas.Bool.Decides.{nat_tests}
 use Rattle.std.proofs.lemmas.List.{drop_more}
 use Rattle.gq_load.specs.Numbers.{is_filled, magnitude, of_digits, signed}
@@ -76,3 +77,27 @@ grows ds i value h e =
 
 pub digit_is : (d : ℕ) → is_ascii_digit d ≡ true → digit_value d ≡ d - 48
 digit_is d e = grind (arith, nat_tests)
+
+-- a few digits, and more
+
+pub filled_by_length : (ds : List ℕ) → 19 < length ds → is_filled ds ≡ true
+filled_by_length [] h = let none : ⊥ = omega (arith, h) in absurd none
+filled_by_length (d ∷ ds) h = refl
+
+pub digit_small : (d : ℕ) → is_ascii_digit d ≡ true → d - 48 ≤ 9
+digit_small d e = grind (arith, nat_tests)
+
+pub within_64 : (v i : ℕ) → v < 10 ^ i → i ≤ 19 → v < 2 ^ 64
+within_64 v i h k =
+    let top : 10 ^ i ≤ 10 ^ 19 = pow-le-pow_right (omega arith) k in
+    omega (arith, h, top)
+
+pub fits : (v i : ℕ) → v < 10 ^ i → i < 19 → v * 10 + 9 < 2 ^ 64
+fits v i h k =
+    let top : 10 ^ i ≤ 10 ^ 18 = pow-le-pow_right {n = 10} (omega arith) {j = 18} (omega (arith, k)) in
+    omega (arith, h, top)
+
+pub one_digit_more : (v i d : ℕ) → v < 10 ^ i → d ≤ 9 → v * 10 + d < 10 ^ (i + 1)
+one_digit_more v i d h k =
+    let next : 10 ^ (i + 1) ≡ 10 * 10 ^ i = rw (add-one i) (pow-succ' 10 i) in
+    omega (arith, h, k, next)

@@ -1,4 +1,5 @@
 pub mod Answers
+pub mod Coming
 pub mod Fields
 pub mod Fitting
 pub mod Headers

@@ -1,5 +1,7 @@
 //! Fields of data records as values.
-ghost use Rattle.std.specs.Prelude.{◌≡◌};
+ghost use Rattle.std.specs.Prelude.{◌≡◌, OnOk, IfErr};
+ghost use Rattle.gq_row.specs.declared.value.Value.TheVariants as variant;
+ghost use Rattle.gq_load.specs.declared.load_refusal.LoadRefusal.TheVariants.{Memory};
 ghost use Rattle.gq_load.specs.Answers.{Gives};
 ghost use Rattle.gq_load.specs.Fields.{is_null_field, int_value, text_value, value_of};
 ghost use Rattle.gq_load.specs.Numbers.{int_of};
@@ -13,24 +15,29 @@ use std::str;
 /// What stands for null in every column.
 const NULL: &[u8] = b"\\N";
 
-/// The value of a field in a column of a kind. A text has at most `longest` bytes; `number` is that
-/// of the record.
+/// Writes the value of a field in a column of a kind over another value; a text over a text, in its
+/// memory where that is enough. A text has at most `longest` bytes; `number` is that of the record.
 #[tactic(auto, unfolding(crate::specs::Fields::value_of))]
-pub(crate) fn value_of(
+pub(crate) fn write_value(
     alloc: Global,
     longest: usize,
     number: u64,
     kind: Kind,
     field: &[u8],
-) -> Result<Value, LoadRefusal>
-    ensures { Gives (λ v. v) result (value_of longest number kind field.now) }
+    value: &mut Value,
+) -> Result<(), LoadRefusal>
+    ensures { Gives (λ _. value.new) result (value_of longest number kind field.now) }
 {
     if is_null(kind, field) {
-        return Ok(Value::Null);
+        *value = Value::Null;
+        return Ok(());
     }
     match kind {
-        Kind::Int => int_value(number, field),
-        Kind::Text => text_value(alloc, longest, number, field),
+        Kind::Int => {
+            *value = int_value(number, field)?;
+            Ok(())
+        }
+        Kind::Text => write_text(alloc, text_of(longest, number, field)?, value),
     }
 }
 
@@ -53,15 +60,10 @@ fn int_value(number: u64, field: &[u8]) -> Result<Value, LoadRefusal>
     }
 }
 
-/// The text of a field: the only value that takes memory.
+/// The text of a field.
 #[tactic(auto, unfolding(crate::specs::Fields::text_value))]
-fn text_value(
-    alloc: Global,
-    longest: usize,
-    number: u64,
-    field: &[u8],
-) -> Result<Value, LoadRefusal>
-    ensures { Gives (λ v. v) result (text_value longest number field.now) }
+fn text_of<'a>(longest: usize, number: u64, field: &'a [u8]) -> Result<&'a str, LoadRefusal>
+    ensures { Gives (λ text. variant.Text text.now) result (text_value longest number field.now) }
 {
     match str::from_utf8(field) {
         Err(_e) => Err(LoadRefusal::BadText(number)),
@@ -69,7 +71,19 @@ fn text_value(
             if field.len() > longest {
                 return Err(LoadRefusal::Limit);
             }
-            Ok(Value::Text(Text::new(String::from_str(alloc, text)?)))
+            Ok(text)
         }
     }
+}
+
+/// Writes a text over a value: the only value that takes memory.
+fn write_text(alloc: Global, text: &str, value: &mut Value) -> Result<(), LoadRefusal>
+    ensures ok { OnOk result (value.new ≡ variant.Text text.now) }
+    ensures err { IfErr result (λ why. why ≡ Memory) }
+{
+    match value {
+        Value::Text(old) => old.write(text)?,
+        _ => *value = Value::Text(Text::new(String::from_str(alloc, text)?)),
+    }
+    Ok(())
 }

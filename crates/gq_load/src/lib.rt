@@ -15,11 +15,15 @@
 mod field;
 mod header;
 pub mod laws;
+mod lines;
 mod load_refusal;
 mod number;
 mod payload;
 mod reader;
 mod row;
+mod row_reader;
 
+pub use lines::line_ends;
 pub use load_refusal::LoadRefusal;
 pub use payload::load_rows;
+pub use row_reader::RowReader;

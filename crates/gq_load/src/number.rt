@@ -1,5 +1,5 @@
 //! Fields of INT columns as numbers, read from their bytes.
-ghost use Rattle.std.specs.Prelude.{◌≡◌, ◌≤◌, not, length};
+ghost use Rattle.std.specs.Prelude.{◌≡◌, ◌<◌, ◌≤◌, not, length};
 ghost use Rattle.std.specs.List.{prefix_len, list_all};
 ghost use Rattle.std.specs.Str.Parse.{starts_with_minus, without_leading_sign};
 ghost use Rattle.gq_load.specs.Numbers.{is_space, int_of, magnitude, number_of, signed};
@@ -77,13 +77,45 @@ fn without_sign(piece: &[u8]) -> &[u8]
     }
 }
 
+// Numbers of so many digits are below 2^64.
+const FEW: usize = 19;
+
 /// The number that one or more digits spell, where it is below 2^64.
 fn magnitude(digits: &[u8]) -> Option<u64>
+    ensures { result ≡ magnitude digits.now }
+{
+    if digits.len() <= FEW {
+        few_digits(digits)
+    } else {
+        many_digits(digits)
+    }
+}
+
+/// The number that a few digits spell.
+#[tactic(auto, using(crate::proofs::Numbers::one_digit_more))]
+fn few_digits(digits: &[u8]) -> Option<u64>
+    requires { length digits.now ≤ 19 }
     ensures { result ≡ magnitude digits.now }
 {
     if digits.is_empty() {
         return None;
     }
+    let mut value = 0u64;
+    for digit in digits {
+        if !digit.is_ascii_digit() {
+            return None;
+        }
+        value = value * 10 + u64::from(*digit - b'0');
+    }
+    Some(value)
+}
+
+/// The number that more digits spell, where it is below 2^64.
+#[tactic(auto, using(crate::proofs::Numbers::filled_by_length))]
+fn many_digits(digits: &[u8]) -> Option<u64>
+    requires { 19 < length digits.now }
+    ensures { result ≡ magnitude digits.now }
+{
     let mut value = 0u64;
     for digit in digits {
         if !digit.is_ascii_digit() {

@@ -1,19 +1,19 @@
 //! Data records as rows.
-ghost use Rattle.std.specs.Prelude.{◌≡◌, ◌<◌, All, IfOk, IsTrue, length, replicate};
+ghost use Rattle.std.specs.Prelude.{◌≡◌, ◌<◌, All, IfOk, IsTrue, length};
 ghost use Rattle.csv.specs.Records.{fields_of};
-ghost use Rattle.gq_row.specs.declared.value.Value.TheVariants.{Null};
 ghost use Rattle.gq_load.specs.Answers.{Gives};
 ghost use Rattle.gq_load.specs.Headers.{are_all};
 ghost use Rattle.gq_load.specs.Payloads.{cells_of, row_of};
 
-use crate::field::value_of;
+use crate::field::write_value;
 use crate::header::{Header, field};
 use crate::load_refusal::LoadRefusal;
 use csv::ByteRecord;
 use gq_row::{Column, Row, Schema, Value};
 use std::alloc::{AllocError, Global};
 
-/// The row of a data record. A text has at most `longest` bytes; `number` is that of the record.
+/// The row of a data record. A text has at most `longest` bytes; `number` is that of the record;
+/// the row takes the memory of `spare`, where that is enough.
 #[tactic(auto, unfolding(crate::specs::Payloads::row_of, crate::specs::Payloads::keyed))]
 pub(crate) fn row_of(
     alloc: Global,
@@ -22,6 +22,7 @@ pub(crate) fn row_of(
     header: &Header,
     number: u64,
     byte_record: &ByteRecord,
+    spare: Vec<Value>,
 ) -> Result<Row, LoadRefusal>
     requires { length header.now ≡ length schema.now.columns }
     ensures { Gives (λ row. row) result
@@ -38,6 +39,7 @@ pub(crate) fn row_of(
         places,
         number,
         byte_record,
+        spare,
     )?;
     let row = Row::new(cells);
     if row.has_null(schema.key()) {
@@ -47,7 +49,8 @@ pub(crate) fn row_of(
     }
 }
 
-/// The values of a record's fields, each made once and moved to its column's place.
+/// The values of a record's fields, each made once, in its column's place. A header's places are
+/// those of all columns, so each value of `spare` is written over.
 fn cells_of(
     alloc: Global,
     columns: &[Column],
@@ -55,6 +58,7 @@ fn cells_of(
     places: &[usize],
     number: u64,
     byte_record: &ByteRecord,
+    spare: Vec<Value>,
 ) -> Result<Vec<Value>, LoadRefusal>
     requires within { All (λ place. place < length columns.now) places.now }
     requires all { IsTrue (are_all (length columns.now) places.now) }
@@ -63,26 +67,28 @@ fn cells_of(
     ensures cells { Gives (λ v. v.items) result
         (cells_of longest number columns.now places.now (fields_of byte_record.now)) }
 {
-    let mut cells = nulls(alloc, columns.len())?;
+    let mut cells = so_many(spare, columns.len())?;
     for i in 0..places.len() {
         let place = places[i];
-        cells[place] = value_of(
+        write_value(
             alloc,
             longest,
             number,
             columns[place].kind,
             field(byte_record, i),
+            &mut cells[place],
         )?;
     }
     Ok(cells)
 }
 
-/// So many nulls.
-fn nulls(alloc: Global, count: usize) -> Result<Vec<Value>, AllocError>
-    ensures { IfOk result (λ v. v.items ≡ replicate count Null) }
+/// So many values, whichever they are, in the memory of `values`, where that is enough.
+fn so_many(mut values: Vec<Value>, count: usize) -> Result<Vec<Value>, AllocError>
+    ensures { IfOk result (λ v. length v.items ≡ count) }
 {
-    let mut values = Vec::with_capacity(alloc, count)?;
-    for _ in 0..count {
+    values.truncate(count);
+    values.reserve_exact(count - values.len())?;
+    for _ in values.len()..count {
         values.push(Value::Null)?;
     }
     Ok(values)

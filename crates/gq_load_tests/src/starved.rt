@@ -44,6 +44,8 @@ fn each_request_refused_in_turn(rt: HostRuntime) -> Result<(), Fail> {
         return Ok(());
     };
     let limits = Limits::greatest();
+    // Once while there is memory, so that the stack has grown as far as a load needs it.
+    assert!(rt; load_rows(alloc, PAYLOAD, &schema, &limits).is_ok());
     let mut starved = Starved::new(alloc)?;
     assert!(rt;
         matches!(

@@ -1,6 +1,7 @@
 -- A payload, piece by piece and line by line.
-use Rattle.std.proofs.Common.{◌≡◌, ℕ, ◌+◌, ◌<◌, ◌≤◌, Bool, true, false, cond, List, [], ◌∷◌, ◌++◌, length, Option, Some, None, refl, sym, ap, subst, ◌∙◌, arith, append_assoc, length-append}
-use Rattle.std.proofs.lemmas.List.{append-nil}
+use Rattle.std.proofs.Common.{◌≡◌, ℕ, ◌+◌, ◌<◌, Bool, true, false, cond, List, [], ◌∷◌, ◌++◌, length, take, drop, get_or, eqb, Option, Some, None, refl, sym, ap, subst, ◌∙◌, arith, append_assoc, length-append}
+use Rattle.std.proofs.lemmas.List.{append-nil, get_or-drop, get_or-take}
+use Rattle.std.proofs.Math.Seq.{take-add}
 use Rattle.std.specs.Prelude.{IfSome, ◌&&◌}
 use Rattle.std.specs.List.{list_all}
 use Rattle.std.specs.Io.KnownBytes.{Consumes, IsAtEnd}
@@ -8,12 +9,12 @@ use Rattle.gq_script.specs.declared.payload.EndMark.{EndMark}
 use Rattle.gq_script.specs.declared.payload.EndMark.TheVariants as mark
 use Rattle.gq_script.specs.declared.payload.Kept.{Kept}
 use Rattle.gq_token.specs.Texts.{Bytes}
-use Rattle.gq_script.specs.Payloads.{mark_after, mark_of, is_other, is_closing, held, is_plain, Holds, IsPiece, IsPayloadOf, TookPayloadLine, TookPayload, Unclosed}
+use Rattle.gq_script.specs.Payloads.{mark_after, mark_of, is_other, is_closing, held, is_plain, prefixed, GoesOn, Holds, IsPiece, IsPayloadOf, TookLines, TookPayloadLine, TookPayload, Unclosed}
 use Rattle.gq_script.specs.Script.{Counts, Stream, Takes, raw_lines, content, is_end_mark, payload_of}
 use Rattle.gq_script.proofs.Front.{Known, Rises}
-use Rattle.gq_script.proofs.Ends.{raw_unended}
+use Rattle.gq_script.proofs.Ends.{raw_ended, raw_unended}
 use Rattle.gq_script.proofs.Gathered.{took_none, took_more, first_ended, first_unended}
-use Rattle.gq_script.proofs.Marks.{mark_of-append, is_the_other, was_not_other, held_is, closes_unended, closes_ended, ended_other, closing_is_not_other}
+use Rattle.gq_script.proofs.Marks.{mark_of-append, is_the_other, was_not_other, held_is, closes_unended, closes_ended, ended_other, closing_is_not_other, opens_other}
 
 -- the pieces of a line, as far as they came
 
@@ -148,10 +149,6 @@ unclosed most a b c old new m raw t more e none =
 some_is : {A : Type 0} (x y : A) → Some x ≡ Some y → x ≡ y
 some_is x y e = cc
 
-abbrev pub prefixed : Bytes → Option (Bytes × List Bytes) → Option (Bytes × List Bytes)
-prefixed front None = None
-prefixed front (Some x) = Some (front ++ x.0, x.1)
-
 abbrev pub PassedBy : Bytes → Known → Known → ℕ → ℕ → Type 0
 PassedBy front k m g0 g1 = IfSome k (λ xs. (ys : Bytes) × (m ≡ Some ys) × (payload_of (raw_lines xs) ≡ prefixed front (payload_of (raw_lines ys))) × (g1 + length ys ≡ g0 + length xs))
 
@@ -202,6 +199,50 @@ within_more most a b c p q ends front t w e = record {
   holds = t.line e front w.holds;
   passed = by_line front a.left b.left c.left a.given b.given c.given t.raw (λ (xs ys : Bytes). payload_of (raw_lines xs) ≡ prefixed (front ++ t.raw) (payload_of (raw_lines ys))) w.passed t.taken.bytes_are t.taken.counted t.first
       (λ xs ws h. h ∙ ap (prefixed front) (line_passed t.raw (raw_lines ws) (sym t.told ∙ e)) ∙ twice front t.raw (payload_of (raw_lines ws)));
+}
+
+-- whole lines at once
+
+pub no_lines : GoesOn []
+no_lines ys = prefixed_none (payload_of (raw_lines ys))
+
+one_line : (line plain : Bytes) → line ≡ plain ++ 10 ∷ [] → list_all is_plain plain ≡ true → eqb (get_or line 0 0) 92 ≡ false → GoesOn line
+one_line line plain is fine first ys =
+    let other : mark_of mark.Start (plain ++ 10 ∷ []) ≡ mark.Other = opens_other plain (sym (ap (λ (l : Bytes). eqb (get_or l 0 0) 92) is) ∙ first) in
+    let no_mark : is_end_mark (content line) ≡ false = ap (λ (l : Bytes). is_end_mark (content l)) is ∙ sym (closes_ended plain fine) ∙ ap is_closing other in
+    let cut : raw_lines (line ++ ys) ≡ line ∷ raw_lines ys =
+    ap (λ (l : Bytes). raw_lines (l ++ ys)) is ∙ ap raw_lines (append_assoc plain (10 ∷ []) ys) ∙ raw_ended plain ys fine ∙ ap (λ (l : Bytes). l ∷ raw_lines ys) (sym is) in
+    ap payload_of cut ∙ line_passed line (raw_lines ys) no_mark
+
+both_on : (front line : Bytes) → GoesOn front → GoesOn line → GoesOn (front ++ line)
+both_on front line f l ys =
+    ap (λ (v : Bytes). payload_of (raw_lines v)) (append_assoc front line ys) ∙ f (line ++ ys) ∙ ap (prefixed front) (l ys) ∙ twice front line (payload_of (raw_lines ys))
+
+-- one line more, which does not begin with a backslash
+pub one_line_more : (bytes : Bytes) (len n : ℕ) → GoesOn (take len bytes) → IsPiece true (take (n + 1) (drop len bytes)) → eqb (get_or bytes len 0) 92 ≡ false → GoesOn (take (len + (n + 1)) bytes)
+one_line_more bytes len n f p first =
+    let line : Bytes = take (n + 1) (drop len bytes) in
+    let at : len + 0 ≡ len = omega arith in
+    let start : get_or line 0 0 ≡ get_or bytes len 0 = get_or-take (n + 1) (drop len bytes) 0 0 (omega arith) ∙ get_or-drop len bytes 0 0 ∙ ap (λ (k : ℕ). get_or bytes k 0) at in
+    subst GoesOn (sym (take-add len (n + 1) bytes)) (both_on (take len bytes) line f (one_line line p.0 p.1 p.2 (ap (λ (v : ℕ). eqb v 92) start ∙ first)))
+
+lines_by : (front : Bytes) (k m n : Known) (g0 g1 g2 : ℕ) (raw : Bytes) → PassedBy front k m g0 g1 → Consumes m n raw → Rises m g1 g2 (length raw) → GoesOn raw → PassedBy (front ++ raw) k n g0 g2
+lines_by front None m n g0 g1 g2 raw h c g on = tt
+lines_by front (Some xs) None n g0 g1 g2 raw h c g on = let q = h.1 in absurd cc
+lines_by front (Some xs) (Some zs) None g0 g1 g2 raw h c g on = absurd c
+lines_by front (Some xs) (Some zs) (Some ws) g0 g1 g2 raw h c g on =
+    let same : zs ≡ h.0 = some_is zs h.0 h.1 in
+    let len : length zs ≡ length raw + length ws = ap length c ∙ length-append raw ws in
+    let len1 : length zs ≡ length h.0 = ap length same in
+    let len2 : g1 + length h.0 ≡ g0 + length xs = h.3 in
+    let lines : payload_of (raw_lines xs) ≡ prefixed (front ++ raw) (payload_of (raw_lines ws)) =
+    h.2 ∙ ap (λ (l : Bytes). prefixed front (payload_of (raw_lines l))) (sym same ∙ c) ∙ ap (prefixed front) (on ws) ∙ twice front raw (payload_of (raw_lines ws)) in
+    (ws, refl, lines, omega arith)
+
+pub within_lines : (most : ℕ) (a b c : Stream) (p q : Kept) (front : Bytes) (t : TookLines most b c p q) → Within most a b p front → Within most a c q (front ++ t.raw)
+within_lines most a b c p q front t w = record {
+  holds = t.lines front w.holds;
+  passed = lines_by front a.left b.left c.left a.given b.given c.given t.raw w.passed t.taken.bytes_are t.taken.counted t.on;
 }
 
 closed_by : (most : ℕ) (front : Bytes) (k n : Known) (g0 g2 : ℕ) (q : Kept) → IfSome k (λ xs. (ys : Bytes) × (n ≡ Some ys) × (payload_of (raw_lines xs) ≡ Some (front, raw_lines ys)) × (g2 + length ys ≡ g0 + length xs)) → Holds most q front

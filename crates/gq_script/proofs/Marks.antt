@@ -1,5 +1,5 @@
 -- The line that ends a payload, piece by piece.
-use Rattle.std.proofs.Common.{◌≡◌, ℕ, ◌+◌, ◌-◌, ◌<◌, ◌≤◌, Bool, true, false, cond, eqb, [], ◌∷◌, ◌++◌, length, take, get_or, refl, sym, ap, subst, ◌∙◌, arith, suc, add-one}
+use Rattle.std.proofs.Common.{◌≡◌, ℕ, ◌+◌, ◌<◌, ◌≤◌, Bool, true, false, cond, eqb, [], ◌∷◌, ◌++◌, length, take, get_or, refl, sym, ap, subst, ◌∙◌, arith, suc, add-one}
 use Rattle.std.proofs.lemmas.Bool.{eqb-true}
 use Rattle.std.proofs.lemmas.List.{take_all, get_or-take, length-take-le}
 use Rattle.std.proofs.Math.Seq.{take-suc}
@@ -238,6 +238,11 @@ closing_is_not_other mark.Dot e = refl
 closing_is_not_other mark.Return e = refl
 closing_is_not_other mark.Ended e = refl
 closing_is_not_other mark.Other e = absurd cc
+
+-- a line that doesn't begin with a backslash isn't the mark
+pub opens_other : (plain : Bytes) → eqb (get_or (plain ++ 10 ∷ []) 0 0) 92 ≡ false → mark_of mark.Start (plain ++ 10 ∷ []) ≡ mark.Other
+opens_other [] e = refl
+opens_other (b ∷ bs) e = start_next b (bs ++ 10 ∷ []) false e
 
 -- pieces of a line
 

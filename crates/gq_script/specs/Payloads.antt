@@ -1,5 +1,5 @@
 -- What a payload is known by while its bytes come.
-use Rattle.std.specs.Prelude.{◌≡◌, ℕ, ◌≤◌, ◌<◌, ◌+◌, ◌==◌, ◌⊎◌, Bool, true, false, not, List, [], ◌∷◌, ◌++◌, length, Option, Some, None, IfSome, if◌then◌else◌}
+use Rattle.std.specs.Prelude.{◌≡◌, ℕ, ◌≤◌, ◌<◌, ◌==◌, Bool, true, false, not, List, [], ◌∷◌, ◌++◌, length, Option, Some, None, IfSome, if◌then◌else◌}
 use Rattle.std.specs.List.{list_all}
 use Rattle.gq_script.specs.declared.payload.EndMark.{EndMark}
 use Rattle.gq_script.specs.declared.payload.EndMark.TheVariants as mark
@@ -79,6 +79,22 @@ pub record TookPayloadLine (most : ℕ) (old new : Stream) (before after : Kept)
   pub told : ends ≡ is_end_mark (content raw)
   pub mark : ends ≡ true → after ≡ before
   pub line : ends ≡ false → (front : Bytes) → Holds most before front → Holds most after (front ++ raw)
+
+-- a payload with these bytes before it
+abbrev pub prefixed : Bytes → Option (Bytes × List Bytes) → Option (Bytes × List Bytes)
+prefixed front None = None
+prefixed front (Some x) = Some (front ++ x.0, x.1)
+
+-- whole lines of which none ends a payload: it goes on behind them
+abbrev pub GoesOn : Bytes → Type 0
+GoesOn front = (ys : Bytes) → payload_of (raw_lines (front ++ ys)) ≡ prefixed front (payload_of (raw_lines ys))
+
+-- such lines were taken, and kept
+pub record TookLines (most : ℕ) (old new : Stream) (before after : Kept) : Type 0 where
+  pub raw : Bytes
+  pub taken : Takes old new raw
+  pub on : GoesOn raw
+  pub lines : (front : Bytes) → Holds most before front → Holds most after (front ++ raw)
 
 -- all was taken, and no line of it ends a payload
 pub record Unclosed (old new : Stream) : Type 0 where

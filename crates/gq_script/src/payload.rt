@@ -1,7 +1,7 @@
 //! Payloads while their bytes come.
 ghost use Rattle.std.specs.Prelude.{◌≡◌, ◌≤◌, ◌<◌, ℕ, ◌++◌, [], true, false, length, take, IfOk, IfSome, IfNone, OnOk, slice_index};
 ghost use Rattle.gq_token.specs.Texts.{Bytes};
-ghost use Rattle.gq_script.specs.Payloads.{mark_after, mark_of, is_other, is_closing, held, Holds, IsPiece, TookPayloadLine, TookPayload, Unclosed};
+ghost use Rattle.gq_script.specs.Payloads.{mark_after, mark_of, is_other, is_closing, held, Holds, GoesOn, IsPiece, TookLines, TookPayloadLine, TookPayload, Unclosed};
 
 use crate::source::{ReadFault, Source};
 use gq_row::Bounds;
@@ -164,6 +164,37 @@ fn take_payload_line<R: Read>(
     Err(ReadFault)
 }
 
+/// How many of these bytes are whole lines at the front of which none begins with `\`, so that none
+/// ends a payload.
+fn lines_len(bytes: &[u8]) -> usize
+    ensures within { result ≤ length bytes.now }
+    ensures lines { GoesOn (take result bytes.now) }
+{
+    let mut len = 0;
+    while len < bytes.len() && bytes[len] != b'\\' {
+        match memchr(b'\n', &bytes[len..]) {
+            None => return len,
+            Some(index) => len += index + 1,
+        }
+    }
+    len
+}
+
+/// Takes such lines of those bytes that wait.
+fn take_lines<R: Read>(
+    source: &mut Source<R>,
+    kept: &mut Kept,
+    bounds: &Bounds,
+) -> Result<(), ReadFault>
+    ensures { OnOk result (TookLines bounds.now.payload source.old source.new kept.old kept.new) }
+{
+    let waiting = source.ahead();
+    let len = lines_len(waiting);
+    kept.add(bounds.payload, &waiting[..len]);
+    source.pass(len, bounds.script)?;
+    Ok(())
+}
+
 /// Takes a payload and the line that ends it, and answers what was kept of it; or all that is left,
 /// and `None`, where no line ends it. `kept` says whether its bytes are kept.
 pub fn take_payload<R: Read>(
@@ -176,6 +207,7 @@ pub fn take_payload<R: Read>(
     ensures within { OnOk result (source.new.given ≤ bounds.now.script) }
 {
     for _ in 0..u64::MAX {
+        take_lines(source, &mut kept, bounds)?;
         match take_payload_line(source, &mut kept, bounds)? {
             None => return Ok(None),
             Some(true) => return Ok(Some(kept)),

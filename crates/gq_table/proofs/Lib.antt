@@ -1,4 +1,5 @@
 pub mod LoadLemmas
 pub mod MapRows
+pub mod StagedLemmas
 pub mod StandingLemmas
 pub mod StoredLemmas

@@ -1,10 +1,9 @@
 -- Rows that are staged in a map of their own and then laid over another: as if each were put.
-use Rattle.std.proofs.Common.{◌≡◌, ℕ, suc, ◌+◌, ◌<◌, ◌≤◌, Bool, true, false, cond, not, ◌||◌, IsTrue, List, [], ◌∷◌, ◌++◌, length, map, Option, Some, None, refl, sym, ap, subst, ◌∙◌, arith, All, count_by, IsPermutation, true≢false}
+use Rattle.std.proofs.Common.{◌≡◌, ℕ, ◌+◌, ◌<◌, ◌≤◌, Bool, true, false, cond, not, ◌||◌, IsTrue, List, [], ◌∷◌, ◌++◌, length, map, Option, Some, None, refl, sym, ap, subst, ◌∙◌, arith, count_by, IsPermutation, true≢false}
 use Rattle.std.specs.Cmp.Lexicographic.{nat_list_cmp_total}
 use Rattle.std.specs.Prelude.{is_some}
 use Rattle.std.specs.Option.{option_or}
 use Rattle.std.specs.FinMap.{empty, insert, get, len, contains_key, same_map, get-empty, get-insert, len-insert}
-use Rattle.std.proofs.lemmas.List.Elements.{All-cons, All-nil, All-head, All-tail}
 use Rattle.std.proofs.lemmas.List.Sorted.{sum_by-IsPermutation}
 use Rattle.std.proofs.lemmas.List.Sums.{sum_by-cons}
 use Rattle.sw_table.specs.Insertion.{HasSpace, within_room}
@@ -24,7 +23,7 @@ use Rattle.gq_row.proofs.OrderLemmas.{same_key_exact, same_key_equiv, same_key_i
 use Rattle.gq_row.proofs.TableLemmas.{keys_differ-put}
 use Rattle.gq_table.specs.Keyed.{Pair, KeyedRows, OwnKeys, by_key, rows_in}
 use Rattle.gq_table.specs.Staged.{keep, staged, laid_over}
-use Rattle.gq_table.proofs.MapRows.{listed, first_new, none_of, holds, class, count_rows, counted_put, has_row_in, own_inserted, rows_counted}
+use Rattle.gq_table.proofs.MapRows.{listed, first_new, none_of, own_first, own_tail, holds, class, count_rows, counted_put, has_row_in, own_inserted, rows_counted}
 use Rattle.gq_table.proofs.StandingLemmas.{length-put}
 
 -- the rows are those of the map: how often each stands among them, which keys they have, and how many they are
@@ -45,7 +44,7 @@ by_class a b = told (same_key a b) (same (class_of b) (class_of a)) refl refl
     told true false e f = sym (same_itself (class_of b) (class_of a) (ap class_of (sym (same_key_exact a b e)))) ∙ f
     told false true e f = sym (sym (same_key_itself a) ∙ ap (same_key a) (sym (class_tells b a (same_is (class_of b) (class_of a) f))) ∙ e)
 
-has_row-put : (key : List ℕ) (rows : List (List Value)) (row k : List Value) → has_row key (put_by_key key rows row) k ≡ (same_key (key_of key row) k || has_row key rows k)
+pub has_row-put : (key : List ℕ) (rows : List (List Value)) (row k : List Value) → has_row key (put_by_key key rows row) k ≡ (same_key (key_of key row) k || has_row key rows k)
 has_row-put key [] row k = refl
 has_row-put key (old ∷ rows) row k = step (same_key (key_of key old) (key_of key row)) refl (has_row-put key rows row k)
   where
@@ -138,18 +137,20 @@ holds_loaded column columns (row ∷ rows) old m n h differ is =
 
 -- ---- staged rows
 
--- all but the last, and the last
-pub All-front : {X : Type 0} (P : X → Type 0) (xs : List X) (x : X) → All P (xs ++ x ∷ []) → All P xs
-All-front P [] x h = All-nil P
-All-front P (y ∷ ys) x h = All-cons P y ys (All-head P y (ys ++ x ∷ []) h) (All-front P ys x (All-tail P y (ys ++ x ∷ []) h))
+-- entries that name no class twice are those of their rows, staged
+listed_staged : (key : List ℕ) (ps : List Pair) → length ps ≡ len (listed ps) → OwnKeys key (listed ps) → listed ps ≡ staged key empty (map (λ (p : Pair). p.1) ps)
+listed_staged key [] h own = refl
+listed_staged key (p ∷ ps) h own =
+    let parts = first_new p ps h in
+    let Q : List Value → Type 0 = λ k. listed (p ∷ ps) ≡ cond (contains_key (listed ps) (class_of k)) (listed ps) (insert (listed ps) (class_of k) (k, p.1)) in
+    subst Q (own_first key p ps own) (sym (ap (λ b. cond b (listed ps) (listed (p ∷ ps))) parts.0))
+    ∙ ap (λ (m : KeyedRows). keep key m p.1) (listed_staged key ps parts.1 (own_tail key p ps parts.0 own))
 
-pub All-last : {X : Type 0} (P : X → Type 0) (xs : List X) (x : X) → All P (xs ++ x ∷ []) → P x
-All-last P [] x h = All-head P x [] h
-All-last P (y ∷ ys) x h = All-last P ys x (All-tail P y (ys ++ x ∷ []) h)
-
-pub staged-push : (key : List ℕ) (m : KeyedRows) (rows : List (List Value)) (row : List Value) → staged key m (rows ++ row ∷ []) ≡ staged key (keep key m row) rows
-staged-push key m [] row = refl
-staged-push key m (first ∷ rows) row = ap (λ n. keep key n first) (staged-push key m rows row)
+-- a map is its own rows, staged
+pub restaged : {H : Type 0} (key : List ℕ) (m : View (List Value) (List Value) H) → OwnKeys key (by_key m) → (xs : List Pair) → xs ≡ filled m.places → ListsAll class_of xs (by_key m) → by_key m ≡ staged key empty (rows_in m)
+restaged key m own xs a all =
+    let here : ListsAll class_of (filled m.places) (by_key m) = subst (λ l. ListsAll class_of l (by_key m)) a all in
+    sym here.all ∙ listed_staged key (filled m.places) (here.once ∙ ap len (sym here.all)) (subst (OwnKeys key) (sym here.all) own)
 
 own_empty : (key : List ℕ) → OwnKeys key empty
 own_empty key c p e = absurd (none_some p (sym (get-empty _ c) ∙ e))

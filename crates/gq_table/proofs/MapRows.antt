@@ -74,7 +74,7 @@ module _ (key : List ℕ) where
       other true is = absurd (not_there (get (listed xs) (class_of x.0)) p new (ap (get (listed xs)) (sym (same_is c (class_of x.0) is)) ∙ e))
       other false is = e
 
-  own_first : (x : Pair) (xs : List Pair) → OwnKeys key (listed (x ∷ xs)) → x.0 ≡ key_of key x.1
+  pub own_first : (x : Pair) (xs : List Pair) → OwnKeys key (listed (x ∷ xs)) → x.0 ≡ key_of key x.1
   own_first x xs own =
       own (class_of x.0) x (get-insert nat_list_cmp_total (listed xs) (class_of x.0) x (class_of x.0)
       ∙ ap (λ b. cond b (Some x) (get (listed xs) (class_of x.0))) (same_itself (class_of x.0) (class_of x.0) refl))
@@ -113,7 +113,7 @@ module _ (key : List ℕ) where
   -- ---- what a put and a delete leave
 
   -- how often a row stands among those of other keys
-  count_deleted : (rows : List (List Value)) (k z : List Value) → count_by (same_key z) (delete key rows k) ≡ cond (same_key (key_of key z) k) 0 (count_by (same_key z) rows)
+  pub count_deleted : (rows : List (List Value)) (k z : List Value) → count_by (same_key z) (delete key rows k) ≡ cond (same_key (key_of key z) k) 0 (count_by (same_key z) rows)
   count_deleted [] k z = nothing (same_key (key_of key z) k)
     where
       nothing : (b : Bool) → count_by (same_key z) [] ≡ cond b 0 (count_by (same_key z) [])

@@ -13,28 +13,30 @@ ghost use Rattle.gq_table.specs.Refusing.{rows_with, WhyNotKeyed};
 use crate::refusal::TableRefusal;
 use gq_row::{Key, KeyCells, KeyRef, Row, Value};
 use std::alloc::Global;
+use std::mem;
 use sw_flat::{Entry, FlatMap, SlotNo, Vacancy};
 use sw_probe::KeyHash;
 
 // Puts a row under its own key, where no more than `most` rows then stand there. One look-up, by
-// one hash, tells where it goes. It takes no memory where the row replaces another.
+// one hash, tells where it goes. It takes no memory where the row replaces another, which is then
+// left in its place.
 pub(crate) fn put_keyed<H: KeyHash<Key>>(
     alloc: Global,
     map: &mut FlatMap<Key, Row, H>,
     positions: &[usize],
-    row: Row,
+    row: &mut Row,
     most: usize,
 ) -> Result<(), TableRefusal>
-    requires columns { All (λ position. position < length row) positions.now }
+    requires columns { All (λ position. position < length row.old) positions.now }
     requires own { OwnKeys positions.now (by_key map.old) }
     ensures own { OwnKeys positions.now (by_key map.new) }
-    ensures ok { OnOk result (IsPermutation (row ∷ delete positions.now (rows_in map.old)
-        (key_of positions.now row)) (rows_in map.new)) }
-    ensures few { OnOk result (rows_with positions.now (rows_in map.old) row ≤ most) }
+    ensures ok { OnOk result (IsPermutation (row.old ∷ delete positions.now (rows_in map.old)
+        (key_of positions.now row.old)) (rows_in map.new)) }
+    ensures few { OnOk result (rows_with positions.now (rows_in map.old) row.old ≤ most) }
     ensures err { OnErr result (map.new ≡ map.old) }
-    ensures why { IfErr result (WhyNotKeyed most positions.now (rows_in map.old) row) }
+    ensures why { IfErr result (WhyNotKeyed most positions.now (rows_in map.old) row.old) }
 {
-    match map.entry(&KeyRef::new(&row, positions)) {
+    match map.entry(&KeyRef::new(row, positions)) {
         Entry::Occupied(slot) => {
             return replace_keyed(map, positions, slot, row, most);
         }
@@ -44,31 +46,31 @@ pub(crate) fn put_keyed<H: KeyHash<Key>>(
     }
 }
 
-// Puts a row in the place of the one that has its key, in a slot.
+// Exchanges a row with the one that has its key, in a slot.
 fn replace_keyed<H: KeyHash<Key>>(
     map: &mut FlatMap<Key, Row, H>,
     positions: &[usize],
     slot: SlotNo,
-    row: Row,
+    row: &mut Row,
     most: usize,
 ) -> Result<(), TableRefusal>
     requires own { OwnKeys positions.now (by_key map.old) }
     requires full { IsFull map.old slot.index }
-    requires found { get (by_key map.old) (class_of (key_of positions.now row)) ≡
+    requires found { get (by_key map.old) (class_of (key_of positions.now row.old)) ≡
         entry_at map.old slot.index }
     ensures own { OwnKeys positions.now (by_key map.new) }
-    ensures ok { OnOk result (IsPermutation (row ∷ delete positions.now (rows_in map.old)
-        (key_of positions.now row)) (rows_in map.new)) }
-    ensures few { OnOk result (rows_with positions.now (rows_in map.old) row ≤ most) }
+    ensures ok { OnOk result (IsPermutation (row.old ∷ delete positions.now (rows_in map.old)
+        (key_of positions.now row.old)) (rows_in map.new)) }
+    ensures few { OnOk result (rows_with positions.now (rows_in map.old) row.old ≤ most) }
     ensures err { OnErr result (map.new ≡ map.old) }
-    ensures why { IfErr result (WhyNotKeyed most positions.now (rows_in map.old) row) }
+    ensures why { IfErr result (WhyNotKeyed most positions.now (rows_in map.old) row.old) }
 {
     let _ = positions;
     let _ = map.iter();
     if most < map.len() {
         return Err(TableRefusal::Limit);
     }
-    *map.value_mut(slot) = row;
+    mem::swap(map.value_mut(slot), row);
     let _ = map.iter();
     Ok(())
 }
@@ -79,32 +81,39 @@ fn add_keyed<H: KeyHash<Key>>(
     map: &mut FlatMap<Key, Row, H>,
     positions: &[usize],
     vacancy: Vacancy,
-    row: Row,
+    row: &mut Row,
     most: usize,
 ) -> Result<(), TableRefusal>
-    requires columns { All (λ position. position < length row) positions.now }
+    requires columns { All (λ position. position < length row.old) positions.now }
     requires own { OwnKeys positions.now (by_key map.old) }
     requires vacant { IsVacancy class_of (hash_by H.hash_of bytes_of map.old.hasher) map.old
-        (class_of (key_of positions.now row)) vacancy }
+        (class_of (key_of positions.now row.old)) vacancy }
     ensures own { OwnKeys positions.now (by_key map.new) }
-    ensures ok { OnOk result (IsPermutation (row ∷ delete positions.now (rows_in map.old)
-        (key_of positions.now row)) (rows_in map.new)) }
-    ensures few { OnOk result (rows_with positions.now (rows_in map.old) row ≤ most) }
+    ensures ok { OnOk result (IsPermutation (row.old ∷ delete positions.now (rows_in map.old)
+        (key_of positions.now row.old)) (rows_in map.new)) }
+    ensures few { OnOk result (rows_with positions.now (rows_in map.old) row.old ≤ most) }
     ensures err { OnErr result (map.new ≡ map.old) }
-    ensures why { IfErr result (WhyNotKeyed most positions.now (rows_in map.old) row) }
+    ensures why { IfErr result (WhyNotKeyed most positions.now (rows_in map.old) row.old) }
 {
     let _ = map.iter();
     if most <= map.len() {
         return Err(TableRefusal::Limit);
     }
-    let Ok(key) = Key::of(alloc, &row, positions) else {
+    let Ok(key) = Key::of(alloc, row, positions) else {
         return Err(TableRefusal::Memory);
     };
-    let Ok(_) = map.fill(vacancy, key, row) else {
+    let Ok(_) = map.fill(vacancy, key, row_out(alloc, row)) else {
         return Err(TableRefusal::Memory);
     };
     let _ = map.iter();
     Ok(())
+}
+
+// The row, in whose place one without values is left.
+pub(crate) fn row_out(alloc: Global, row: &mut Row) -> Row
+    ensures { result ≡ row.old }
+{
+    mem::replace(row, Row::new(Vec::new(alloc)))
 }
 
 // Takes the row of a key out of the map, and tells whether there was one. It takes no memory.

@@ -1,50 +1,45 @@
-//! Many rows put into a map, all or none.
-ghost use Rattle.std.specs.Prelude.{◌≡◌, ◌<◌, ◌≤◌, ◌⊎◌, All, OnOk, OnErr, IfOk, IfErr, IsTrue, IsPermutation, not, length, count_by};
-ghost use Rattle.std.specs.FinMap.{empty, insert, len, contains_key};
+//! The rows of one map put into another, all or none.
+ghost use Rattle.std.specs.Prelude.{◌≡◌, ◌<◌, ◌≤◌, ◌⊎◌, OnOk, OnErr, IfErr, IsTrue, IsPermutation, not, length, count_by};
+ghost use Rattle.std.specs.FinMap.{insert, len, contains_key};
 ghost use Rattle.sw_table.specs.View.{slot_count};
 ghost use Rattle.sw_table.specs.Sizes.{room_of};
 ghost use Rattle.gq_row.specs.Classes.{class_of};
 ghost use Rattle.gq_row.specs.Tables.{put_all, keys_differ};
 ghost use Rattle.gq_table.specs.Keyed.{OwnKeys, rows_in, by_key};
-ghost use Rattle.gq_table.specs.Staged.{keep, staged, laid_over};
+ghost use Rattle.gq_table.specs.Staged.{laid_over};
 ghost use Rattle.gq_table.specs.declared.refusal.TableRefusal.TheVariants.{Limit, Memory};
 
 use crate::refusal::TableRefusal;
-use gq_row::{Key, KeyRef, Row};
-use std::alloc::{AllocError, Global};
-use sw_flat::{Entry, FlatMap};
+use gq_row::{Key, Row};
+use sw_flat::FlatMap;
 use sw_probe::KeyHash;
 
-// Puts rows, one after the other, where no more than `most` then stand there: all or none. They
-// are staged in a map of their own first, so that what is wanting shows before a row moves.
+// Puts rows that stand in a map of their own, where no more than `most` then stand there: all or
+// none. What is wanting shows before a row moves.
 pub(crate) fn load_keyed<H: KeyHash<Key> + Copy>(
-    alloc: Global,
-    hasher: H,
     map: &mut FlatMap<Key, Row, H>,
     positions: &[usize],
-    rows: Vec<Row>,
+    staged: FlatMap<Key, Row, H>,
     most: usize,
 ) -> Result<(), TableRefusal>
-    requires columns { All (λ row. All (λ position. position < length row) positions.now)
-        rows.items }
     requires keyed { 0 < length positions.now }
     requires own { OwnKeys positions.now (by_key map.old) }
+    requires mine { OwnKeys positions.now (by_key staged) }
     requires differ { IsTrue (keys_differ positions.now (rows_in map.old)) }
     requires few { most ≤ 16777216 }
     ensures own { OwnKeys positions.now (by_key map.new) }
-    ensures ok { OnOk result (IsPermutation (put_all positions.now (rows_in map.old) rows.items)
-        (rows_in map.new)) }
+    ensures ok { OnOk result (IsPermutation
+        (put_all positions.now (rows_in map.old) (rows_in staged)) (rows_in map.new)) }
     ensures few { OnOk result
-        (length (put_all positions.now (rows_in map.old) rows.items) ≤ most) }
+        (length (put_all positions.now (rows_in map.old) (rows_in staged)) ≤ most) }
     ensures err { OnErr result (map.new ≡ map.old) }
     ensures why { IfErr result (λ why. ((why ≡ Limit)
-        × (most < length (put_all positions.now (rows_in map.old) rows.items)))
+        × (most < length (put_all positions.now (rows_in map.old) (rows_in staged))))
         ⊎ (why ≡ Memory)) }
 {
-    let Ok(staged) = stage(alloc, hasher, positions, rows) else {
-        return Err(TableRefusal::Memory);
-    };
+    let _ = positions;
     let _ = map.iter();
+    let _ = staged.iter();
     if map.is_empty() {
         if most < staged.len() {
             return Err(TableRefusal::Limit);
@@ -68,48 +63,6 @@ pub(crate) fn load_keyed<H: KeyHash<Key> + Copy>(
     commit(map, entries);
     let _ = map.iter();
     Ok(())
-}
-
-// The rows in a map of their own; of one key the last.
-fn stage<H: KeyHash<Key> + Copy>(
-    alloc: Global,
-    hasher: H,
-    positions: &[usize],
-    mut rows: Vec<Row>,
-) -> Result<FlatMap<Key, Row, H>, AllocError>
-    requires { All (λ row. All (λ position. position < length row) positions.now) rows.items }
-    ensures { IfOk result (λ map. by_key map ≡ staged positions.now empty rows.items) }
-{
-    let Ok(mut map) = FlatMap::with_room(alloc, hasher, rows.len()) else {
-        return Err(AllocError);
-    };
-    while let Some(row) = rows.pop() {
-        stage_row(alloc, &mut map, positions, row)?;
-    }
-    Ok(map)
-}
-
-// Puts a row under its own key, unless a later row stands there: its key is looked up by a borrowed
-// form, hashed once, and copied only where it is new.
-fn stage_row<H: KeyHash<Key>>(
-    alloc: Global,
-    map: &mut FlatMap<Key, Row, H>,
-    positions: &[usize],
-    row: Row,
-) -> Result<(), AllocError>
-    requires { All (λ position. position < length row) positions.now }
-    ensures { OnOk result (by_key map.new ≡ keep positions.now (by_key map.old) row) }
-{
-    match map.entry(&KeyRef::new(&row, positions)) {
-        Entry::Occupied(_) => return Ok(()),
-        Entry::Vacant(vacancy) => {
-            let key = Key::of(alloc, &row, positions)?;
-            match map.fill(vacancy, key, row) {
-                Ok(_) => return Ok(()),
-                Err(_) => return Err(AllocError),
-            }
-        }
-    }
 }
 
 // How many of these entries have keys that the map lacks.

@@ -1,20 +1,20 @@
 //! One table: its schema, and its rows.
-ghost use Rattle.std.specs.Prelude.{◌≡◌, ◌+◌, ◌<◌, ◌≤◌, ◌⊎◌, ◌++◌, ◌∷◌, [], IsTrue, IfErr, OnOk, OnErr, None, length};
-ghost use Rattle.std.specs.List.{list_all};
-ghost use Rattle.gq_row.specs.Fitting.{fits_columns};
+ghost use Rattle.std.specs.Prelude.{◌≡◌, ◌+◌, ◌<◌, ◌≤◌, ◌⊎◌, ◌++◌, ◌∷◌, [], IsTrue, IfOk, IfErr, OnOk, OnErr, None, false, length};
+ghost use Rattle.gq_row.specs.Fitting.{fits_columns, has_null};
 ghost use Rattle.gq_row.specs.Tables.{has_row};
 ghost use Rattle.gq_table.specs.Changes.{IsPut, IsLoaded, IsDeleted};
 ghost use Rattle.gq_table.specs.Keyed.{rows_in};
 ghost use Rattle.gq_table.specs.Refusing.{row_refusal, load_refusal, WhyNotPut, WhyNotLoaded};
 ghost use Rattle.gq_table.specs.Standing.{IsStanding};
+ghost use Rattle.gq_table.specs.Stored.{IsStored, rows_of};
 ghost use Rattle.gq_table.specs.declared.refusal.TableRefusal.TheVariants.{Limit, Memory};
 
-use crate::keyed::{delete_keyed, put_keyed};
+use crate::keyed::{delete_keyed, put_keyed, row_out};
 use crate::load::load_keyed;
 use crate::refusal::TableRefusal;
 use crate::rows::{RowIter, Rows};
-use gq_row::{Key, Limits, Row, Schema, Sequence, Value};
-use std::alloc::Global;
+use gq_row::{Key, Limits, Row, Schema, Value};
+use std::alloc::{AllocError, Global};
 use std::marker::Model;
 use sw_flat::FlatMap;
 use sw_probe::KeyHash;
@@ -64,6 +64,32 @@ impl<H: KeyHash<Key> + Copy> Table<H> {
         }
     }
 
+    /// A table of the same columns and key without rows, with room for so many.
+    pub fn new_like(&self, room: usize) -> Result<Table<H>, AllocError>
+        ensures { IfOk result
+            (λ table. table ≡ record { heading = self.now.heading; rows = [] }) }
+    {
+        let schema = self.schema.copy(self.alloc)?;
+        if schema.key().is_empty() {
+            return Ok(Table {
+                alloc: self.alloc,
+                schema,
+                hasher: self.hasher,
+                rows: Rows::Listed(Vec::with_capacity(self.alloc, room)?),
+            });
+        }
+        let Ok(map) = FlatMap::with_room(self.alloc, self.hasher, room) else {
+            return Err(AllocError);
+        };
+        let _ = map.iter();
+        Ok(Table {
+            alloc: self.alloc,
+            schema,
+            hasher: self.hasher,
+            rows: Rows::Keyed(map),
+        })
+    }
+
     #[inline]
     pub fn schema(&self) -> &Schema
         ensures { result.now ≡ self.now.heading }
@@ -109,36 +135,67 @@ impl<H: KeyHash<Key> + Copy> Table<H> {
         if row.has_null(self.schema.key()) {
             return Err(TableRefusal::NullKey);
         }
+        let mut row = row;
+        self.put(&mut row, limits)
+    }
+
+    /// Puts a row that fits the columns and has no null in its key, in the place of the row that
+    /// has the same key if there is one: the same as [`Table::upsert`] of it. `row` may then hold
+    /// any values, and its memory be used for another row: it is exchanged with the row that it
+    /// replaces.
+    pub fn put(&mut self, row: &mut Row, limits: &Limits) -> Result<(), TableRefusal>
+        requires fits { IsTrue (fits_columns self.old.heading.columns row.old) }
+        requires keyed { has_null self.old.heading.key row.old ≡ false }
+        ensures ok { OnOk result (IsPut self.old row.old self.new) }
+        ensures taken { OnOk result (row_refusal limits.now.bounds self.old row.old ≡ None) }
+        ensures refused { IfErr result (WhyNotPut limits.now.bounds self.old row.old) }
+        ensures unchanged { OnErr result (self.new ≡ self.old) }
+    {
         let most = limits.bounds.rows;
         match &mut self.rows {
             Rows::Keyed(map) => {
                 return put_keyed(self.alloc, map, self.schema.key(), row, most);
             }
             Rows::Listed(rows) => {
-                return put_listed(rows, row, most);
+                return put_listed(self.alloc, rows, row, most);
             }
         }
     }
 
-    /// Puts rows that fit the columns, one after the other, all or none: `Limit` where there would
-    /// be too many, and else `Memory` for want of it.
-    pub fn load(&mut self, rows: Sequence<Row>, limits: &Limits) -> Result<(), TableRefusal>
-        requires { IsTrue (list_all (fits_columns self.old.heading.columns) rows) }
-        ensures ok { OnOk result (IsLoaded self.old rows self.new) }
-        ensures taken { OnOk result (load_refusal limits.now.bounds self.old rows ≡ None) }
-        ensures refused { IfErr result (WhyNotLoaded limits.now.bounds self.old rows) }
+    /// Puts the rows of another table with the same columns and key, one after the other, all or
+    /// none: `Limit` where there would be too many, and else `Memory` for want of it. Into a table
+    /// without rows they move as a whole.
+    pub fn load(&mut self, staged: Table<H>, limits: &Limits) -> Result<(), TableRefusal>
+        requires { staged.heading ≡ self.old.heading }
+        ensures ok { OnOk result (IsLoaded self.old staged.rows self.new) }
+        ensures taken { OnOk result (load_refusal limits.now.bounds self.old staged.rows ≡ None) }
+        ensures refused { IfErr result (WhyNotLoaded limits.now.bounds self.old staged.rows) }
         ensures unchanged { OnErr result (self.new ≡ self.old) }
     {
-        let rows = rows.into_vec();
+        let rows = staged.into_rows();
         let most = limits.bounds.rows;
         match &mut self.rows {
             Rows::Keyed(map) => {
-                return load_keyed(self.alloc, self.hasher, map, self.schema.key(), rows, most);
+                let Rows::Keyed(staged) = rows else {
+                    unreachable!()
+                };
+                return load_keyed(map, self.schema.key(), staged, most);
             }
             Rows::Listed(list) => {
-                return load_listed(list, rows, most);
+                let Rows::Listed(staged) = rows else {
+                    unreachable!()
+                };
+                return load_listed(list, staged, most);
             }
         }
+    }
+
+    // Its rows, as they are stored.
+    fn into_rows(self) -> Rows<H>
+        ensures rows { rows_of result ≡ self.rows }
+        ensures stored { IsStored self.heading result }
+    {
+        self.rows
     }
 
     /// Takes the row of a key away, if there is one, and tells whether there was. It takes no
@@ -163,8 +220,13 @@ fn count_keyed<H: KeyHash<Key>>(map: &FlatMap<Key, Row, H>) -> usize
 }
 
 // Puts a row at the end of a list, where no more than `most` rows then stand there.
-fn put_listed(rows: &mut Vec<Row>, row: Row, most: usize) -> Result<(), TableRefusal>
-    ensures ok { OnOk result (rows.new.items ≡ rows.old.items ++ row ∷ []) }
+fn put_listed(
+    alloc: Global,
+    rows: &mut Vec<Row>,
+    row: &mut Row,
+    most: usize,
+) -> Result<(), TableRefusal>
+    ensures ok { OnOk result (rows.new.items ≡ rows.old.items ++ row.old ∷ []) }
     ensures few { OnOk result (length rows.old.items < most) }
     ensures err { OnErr result (rows.new.items ≡ rows.old.items) }
     ensures why { IfErr result (λ why. ((why ≡ Limit) × (most ≤ length rows.old.items))
@@ -173,7 +235,7 @@ fn put_listed(rows: &mut Vec<Row>, row: Row, most: usize) -> Result<(), TableRef
     if most <= rows.len() {
         return Err(TableRefusal::Limit);
     }
-    match rows.push(row) {
+    match rows.push(row_out(alloc, row)) {
         Ok(()) => Ok(()),
         Err(_) => Err(TableRefusal::Memory),
     }
@@ -190,6 +252,10 @@ fn load_listed(list: &mut Vec<Row>, mut rows: Vec<Row>, most: usize) -> Result<(
 {
     if most < list.len().saturating_add(rows.len()) {
         return Err(TableRefusal::Limit);
+    }
+    if list.is_empty() {
+        *list = rows;
+        return Ok(());
     }
     match list.append(&mut rows) {
         Ok(()) => Ok(()),

@@ -1,5 +1,5 @@
 use Rattle.std.proofs.Common.{◌≡◌, ◌∙◌, sym, ap, subst, [], take, Bool, List, ℕ}
-use Rattle.gq_script.specs.Payloads.{is_other, is_closing, IsPiece}
+use Rattle.gq_script.specs.Payloads.{is_other, IsPiece}
 use Rattle.gq_script.specs.Script.{Takes}
 use Rattle.gq_script.proofs.Collected.{Added, fed, ended, marked_at_end, unclosed}
 use Rattle.gq_script.proofs.Gathered.{took_more}

@@ -1,103 +1,102 @@
-use Rattle.std.proofs.Common.{◌≡◌, ◌<◌, All, IsTrue, length, sym, ap, subst, ◌∙◌, None}
+use Rattle.std.proofs.Common.{◌≡◌, ◌<◌, IsTrue, length, sym, ap, subst, ◌∙◌, None}
 use Rattle.std.specs.Prelude.{OnOk, OnErr, IfErr}
-use Rattle.std.specs.List.{list_all}
-use Rattle.gq_row.specs.Fitting.{fits_columns}
-use Rattle.gq_row.specs.Tables.{keys_differ}
+use Rattle.gq_row.specs.Headings.{Heading}
+use Rattle.gq_row.specs.Tables.{PlainTable, keys_differ}
 use Rattle.gq_table.specs.Changes.{IsLoaded}
 use Rattle.gq_table.specs.Keyed.{OwnKeys, by_key, rows_in}
 use Rattle.gq_table.specs.Refusing.{load_refusal, WhyNotLoaded}
 use Rattle.gq_table.specs.Stored.{IsStored, rows_of}
 use Rattle.gq_table.specs.declared.rows.Rows.TheVariants.{Listed}
-use Rattle.gq_table.proofs.StandingLemmas.{table, keys_in_range, rows_limit}
-use Rattle.gq_table.proofs.StoredLemmas.{loaded_keyed, loaded_listed, keyed_own, keyed_some, IsListed, LoadKeyed, LoadListed}
+use Rattle.gq_table.proofs.StandingLemmas.{table, rows_limit}
+use Rattle.gq_table.proofs.StoredLemmas.{loaded_keyed, loaded_listed, keyed_own, keyed_some, staged_fit, IsListed, LoadKeyed, LoadListed}
 use Rattle.gq_table.proofs.table.Table.load.Goals as goal
 
 pub load_keyed-requires : goal.load_keyed-requires
 load_keyed-requires g c =
     let stored = (subst (IsStored c.self.inside.schema) c.in-Keyed.is c.self.invariant) in
     record {
-      columns = subst (λ k. All (λ row. All (λ position. position < length row) k) c.into_vec-rows.result.items) (sym c.key.ensures.positions)
-          (subst (All (λ row. All (λ position. position < length row) c.self.inside.schema.key)) (sym c.into_vec-rows.ensures) (keys_in_range c.self.inside.schema c.args.rows c.key.ensures.heading (subst (λ t. IsTrue (list_all (fits_columns t.heading.columns) c.args.rows)) (sym c.self.view_is) c.requires)));
       keyed = subst (λ k. 0 < length k) (sym c.key.ensures.positions) (keyed_some c.self.inside.schema.key c.in-Keyed.map stored.placed);
       own = subst (λ k. OwnKeys k (by_key c.in-Keyed.map)) (sym c.key.ensures.positions) (keyed_own c.self.inside.schema.key c.in-Keyed.map stored.placed);
+      mine = subst (λ k. OwnKeys k (by_key c.in-Keyed-rows.staged)) (ap (λ (h : Heading). h.key) (c.requires ∙ sym (ap (λ (t : PlainTable). t.heading) c.self.view_is)) ∙ sym c.key.ensures.positions)
+          (keyed_own c.args.staged.heading.key c.in-Keyed-rows.staged (subst (IsStored c.args.staged.heading) c.in-Keyed-rows.is c.into_rows-rows.ensures.stored).placed);
       differ = subst (λ k. IsTrue (keys_differ k (rows_in c.in-Keyed.map))) (sym c.key.ensures.positions) stored.standing.keyed;
       few = rows_limit c.args.limits.now.bounds c.args.limits.now.in_range;
     }
 
 pub invariant_of-self : goal.invariant_of-self
 invariant_of-self g c =
-    (loaded_keyed c.args.limits.now.bounds c.args.limits.now.in_range c.self.inside.schema c.args.rows (subst (λ t. IsTrue (list_all (fits_columns t.heading.columns) c.args.rows)) (sym c.self.view_is) c.requires)
+    (loaded_keyed c.args.limits.now.bounds c.args.limits.now.in_range c.self.inside.schema c.args.staged.rows (staged_fit c.self.inside.schema c.args.staged.heading c.into_rows-rows.result c.args.staged.rows (c.requires ∙ sym (ap (λ (t : PlainTable). t.heading) c.self.view_is)) c.into_rows-rows.ensures.stored c.into_rows-rows.ensures.rows)
     c.in-Keyed.map c.load_keyed.new.map c.load_keyed.result c.key.result.now c.key.ensures.positions (subst (IsStored c.self.inside.schema) c.in-Keyed.is c.self.invariant)
-    (subst (λ l. LoadKeyed c.args.limits.now.bounds.rows l c.in-Keyed.map c.load_keyed.new.map c.load_keyed.result c.key.result.now) c.into_vec-rows.ensures (record { own = c.load_keyed.ensures.own; ok = c.load_keyed.ensures.ok; few = c.load_keyed.ensures.few; err = c.load_keyed.ensures.err; why = c.load_keyed.ensures.why }))).stored
+    (subst (λ l. LoadKeyed c.args.limits.now.bounds.rows l c.in-Keyed.map c.load_keyed.new.map c.load_keyed.result c.key.result.now) (ap rows_of (sym c.in-Keyed-rows.is) ∙ c.into_rows-rows.ensures.rows) (record { own = c.load_keyed.ensures.own; ok = c.load_keyed.ensures.ok; few = c.load_keyed.ensures.few; err = c.load_keyed.ensures.err; why = c.load_keyed.ensures.why }))).stored
 
 pub invariant_of-self-in-Listed : goal.invariant_of-self-in-Listed
 invariant_of-self-in-Listed g c =
-    (loaded_listed c.args.limits.now.bounds c.args.limits.now.in_range c.self.inside.schema c.args.rows (subst (λ t. IsTrue (list_all (fits_columns t.heading.columns) c.args.rows)) (sym c.self.view_is) c.requires)
+    (loaded_listed c.args.limits.now.bounds c.args.limits.now.in_range c.self.inside.schema c.args.staged.rows (staged_fit c.self.inside.schema c.args.staged.heading c.into_rows-rows.result c.args.staged.rows (c.requires ∙ sym (ap (λ (t : PlainTable). t.heading) c.self.view_is)) c.into_rows-rows.ensures.stored c.into_rows-rows.ensures.rows)
     c.self.inside.rows (Listed c.load_listed.new.list) c.load_listed.result (subst IsListed (sym c.in-Listed.is) tt) tt c.self.invariant
-    (subst (λ r. LoadListed c.args.limits.now.bounds.rows c.args.rows (rows_of r) c.load_listed.new.list.items c.load_listed.result) (sym c.in-Listed.is)
-    (subst (λ l. LoadListed c.args.limits.now.bounds.rows l c.in-Listed.list.items c.load_listed.new.list.items c.load_listed.result) c.into_vec-rows.ensures
+    (subst (λ r. LoadListed c.args.limits.now.bounds.rows c.args.staged.rows (rows_of r) c.load_listed.new.list.items c.load_listed.result) (sym c.in-Listed.is)
+    (subst (λ l. LoadListed c.args.limits.now.bounds.rows l c.in-Listed.list.items c.load_listed.new.list.items c.load_listed.result) (ap rows_of (sym c.in-Listed-rows.is) ∙ c.into_rows-rows.ensures.rows)
     (record { ok = c.load_listed.ensures.ok; few = c.load_listed.ensures.few; err = c.load_listed.ensures.err; why = c.load_listed.ensures.why })))).stored
 
 pub returns-in-Keyed-clause-ok : goal.returns-in-Keyed-clause-ok
 returns-in-Keyed-clause-ok g c =
-    subst (λ t. OnOk c.load_keyed.result (IsLoaded t c.args.rows (table c.self.inside.schema (rows_in c.load_keyed.new.map)))) (ap (λ r. table c.self.inside.schema (rows_of r)) (sym c.in-Keyed.is) ∙ c.self.view_is)
-    (loaded_keyed c.args.limits.now.bounds c.args.limits.now.in_range c.self.inside.schema c.args.rows (subst (λ t. IsTrue (list_all (fits_columns t.heading.columns) c.args.rows)) (sym c.self.view_is) c.requires)
+    subst (λ t. OnOk c.load_keyed.result (IsLoaded t c.args.staged.rows (table c.self.inside.schema (rows_in c.load_keyed.new.map)))) (ap (λ r. table c.self.inside.schema (rows_of r)) (sym c.in-Keyed.is) ∙ c.self.view_is)
+    (loaded_keyed c.args.limits.now.bounds c.args.limits.now.in_range c.self.inside.schema c.args.staged.rows (staged_fit c.self.inside.schema c.args.staged.heading c.into_rows-rows.result c.args.staged.rows (c.requires ∙ sym (ap (λ (t : PlainTable). t.heading) c.self.view_is)) c.into_rows-rows.ensures.stored c.into_rows-rows.ensures.rows)
     c.in-Keyed.map c.load_keyed.new.map c.load_keyed.result c.key.result.now c.key.ensures.positions (subst (IsStored c.self.inside.schema) c.in-Keyed.is c.self.invariant)
-    (subst (λ l. LoadKeyed c.args.limits.now.bounds.rows l c.in-Keyed.map c.load_keyed.new.map c.load_keyed.result c.key.result.now) c.into_vec-rows.ensures (record { own = c.load_keyed.ensures.own; ok = c.load_keyed.ensures.ok; few = c.load_keyed.ensures.few; err = c.load_keyed.ensures.err; why = c.load_keyed.ensures.why }))).ok
+    (subst (λ l. LoadKeyed c.args.limits.now.bounds.rows l c.in-Keyed.map c.load_keyed.new.map c.load_keyed.result c.key.result.now) (ap rows_of (sym c.in-Keyed-rows.is) ∙ c.into_rows-rows.ensures.rows) (record { own = c.load_keyed.ensures.own; ok = c.load_keyed.ensures.ok; few = c.load_keyed.ensures.few; err = c.load_keyed.ensures.err; why = c.load_keyed.ensures.why }))).ok
 
 pub returns-in-Keyed-clause-taken : goal.returns-in-Keyed-clause-taken
 returns-in-Keyed-clause-taken g c =
-    subst (λ t. OnOk c.load_keyed.result (load_refusal c.args.limits.now.bounds t c.args.rows ≡ None)) (ap (λ r. table c.self.inside.schema (rows_of r)) (sym c.in-Keyed.is) ∙ c.self.view_is)
-    (loaded_keyed c.args.limits.now.bounds c.args.limits.now.in_range c.self.inside.schema c.args.rows (subst (λ t. IsTrue (list_all (fits_columns t.heading.columns) c.args.rows)) (sym c.self.view_is) c.requires)
+    subst (λ t. OnOk c.load_keyed.result (load_refusal c.args.limits.now.bounds t c.args.staged.rows ≡ None)) (ap (λ r. table c.self.inside.schema (rows_of r)) (sym c.in-Keyed.is) ∙ c.self.view_is)
+    (loaded_keyed c.args.limits.now.bounds c.args.limits.now.in_range c.self.inside.schema c.args.staged.rows (staged_fit c.self.inside.schema c.args.staged.heading c.into_rows-rows.result c.args.staged.rows (c.requires ∙ sym (ap (λ (t : PlainTable). t.heading) c.self.view_is)) c.into_rows-rows.ensures.stored c.into_rows-rows.ensures.rows)
     c.in-Keyed.map c.load_keyed.new.map c.load_keyed.result c.key.result.now c.key.ensures.positions (subst (IsStored c.self.inside.schema) c.in-Keyed.is c.self.invariant)
-    (subst (λ l. LoadKeyed c.args.limits.now.bounds.rows l c.in-Keyed.map c.load_keyed.new.map c.load_keyed.result c.key.result.now) c.into_vec-rows.ensures (record { own = c.load_keyed.ensures.own; ok = c.load_keyed.ensures.ok; few = c.load_keyed.ensures.few; err = c.load_keyed.ensures.err; why = c.load_keyed.ensures.why }))).taken
+    (subst (λ l. LoadKeyed c.args.limits.now.bounds.rows l c.in-Keyed.map c.load_keyed.new.map c.load_keyed.result c.key.result.now) (ap rows_of (sym c.in-Keyed-rows.is) ∙ c.into_rows-rows.ensures.rows) (record { own = c.load_keyed.ensures.own; ok = c.load_keyed.ensures.ok; few = c.load_keyed.ensures.few; err = c.load_keyed.ensures.err; why = c.load_keyed.ensures.why }))).taken
 
 pub returns-in-Keyed-clause-refused : goal.returns-in-Keyed-clause-refused
 returns-in-Keyed-clause-refused g c =
-    subst (λ t. IfErr c.load_keyed.result (WhyNotLoaded c.args.limits.now.bounds t c.args.rows)) (ap (λ r. table c.self.inside.schema (rows_of r)) (sym c.in-Keyed.is) ∙ c.self.view_is)
-    (loaded_keyed c.args.limits.now.bounds c.args.limits.now.in_range c.self.inside.schema c.args.rows (subst (λ t. IsTrue (list_all (fits_columns t.heading.columns) c.args.rows)) (sym c.self.view_is) c.requires)
+    subst (λ t. IfErr c.load_keyed.result (WhyNotLoaded c.args.limits.now.bounds t c.args.staged.rows)) (ap (λ r. table c.self.inside.schema (rows_of r)) (sym c.in-Keyed.is) ∙ c.self.view_is)
+    (loaded_keyed c.args.limits.now.bounds c.args.limits.now.in_range c.self.inside.schema c.args.staged.rows (staged_fit c.self.inside.schema c.args.staged.heading c.into_rows-rows.result c.args.staged.rows (c.requires ∙ sym (ap (λ (t : PlainTable). t.heading) c.self.view_is)) c.into_rows-rows.ensures.stored c.into_rows-rows.ensures.rows)
     c.in-Keyed.map c.load_keyed.new.map c.load_keyed.result c.key.result.now c.key.ensures.positions (subst (IsStored c.self.inside.schema) c.in-Keyed.is c.self.invariant)
-    (subst (λ l. LoadKeyed c.args.limits.now.bounds.rows l c.in-Keyed.map c.load_keyed.new.map c.load_keyed.result c.key.result.now) c.into_vec-rows.ensures (record { own = c.load_keyed.ensures.own; ok = c.load_keyed.ensures.ok; few = c.load_keyed.ensures.few; err = c.load_keyed.ensures.err; why = c.load_keyed.ensures.why }))).refused
+    (subst (λ l. LoadKeyed c.args.limits.now.bounds.rows l c.in-Keyed.map c.load_keyed.new.map c.load_keyed.result c.key.result.now) (ap rows_of (sym c.in-Keyed-rows.is) ∙ c.into_rows-rows.ensures.rows) (record { own = c.load_keyed.ensures.own; ok = c.load_keyed.ensures.ok; few = c.load_keyed.ensures.few; err = c.load_keyed.ensures.err; why = c.load_keyed.ensures.why }))).refused
 
 pub returns-in-Keyed-clause-unchanged : goal.returns-in-Keyed-clause-unchanged
 returns-in-Keyed-clause-unchanged g c =
     subst (λ t. OnErr c.load_keyed.result ((table c.self.inside.schema (rows_in c.load_keyed.new.map)) ≡ t)) (ap (λ r. table c.self.inside.schema (rows_of r)) (sym c.in-Keyed.is) ∙ c.self.view_is)
-    (loaded_keyed c.args.limits.now.bounds c.args.limits.now.in_range c.self.inside.schema c.args.rows (subst (λ t. IsTrue (list_all (fits_columns t.heading.columns) c.args.rows)) (sym c.self.view_is) c.requires)
+    (loaded_keyed c.args.limits.now.bounds c.args.limits.now.in_range c.self.inside.schema c.args.staged.rows (staged_fit c.self.inside.schema c.args.staged.heading c.into_rows-rows.result c.args.staged.rows (c.requires ∙ sym (ap (λ (t : PlainTable). t.heading) c.self.view_is)) c.into_rows-rows.ensures.stored c.into_rows-rows.ensures.rows)
     c.in-Keyed.map c.load_keyed.new.map c.load_keyed.result c.key.result.now c.key.ensures.positions (subst (IsStored c.self.inside.schema) c.in-Keyed.is c.self.invariant)
-    (subst (λ l. LoadKeyed c.args.limits.now.bounds.rows l c.in-Keyed.map c.load_keyed.new.map c.load_keyed.result c.key.result.now) c.into_vec-rows.ensures (record { own = c.load_keyed.ensures.own; ok = c.load_keyed.ensures.ok; few = c.load_keyed.ensures.few; err = c.load_keyed.ensures.err; why = c.load_keyed.ensures.why }))).unchanged
+    (subst (λ l. LoadKeyed c.args.limits.now.bounds.rows l c.in-Keyed.map c.load_keyed.new.map c.load_keyed.result c.key.result.now) (ap rows_of (sym c.in-Keyed-rows.is) ∙ c.into_rows-rows.ensures.rows) (record { own = c.load_keyed.ensures.own; ok = c.load_keyed.ensures.ok; few = c.load_keyed.ensures.few; err = c.load_keyed.ensures.err; why = c.load_keyed.ensures.why }))).unchanged
 
 pub returns-in-Listed-clause-ok : goal.returns-in-Listed-clause-ok
 returns-in-Listed-clause-ok g c =
-    subst (λ t. OnOk c.load_listed.result (IsLoaded t c.args.rows (table c.self.inside.schema c.load_listed.new.list.items))) c.self.view_is
-    (loaded_listed c.args.limits.now.bounds c.args.limits.now.in_range c.self.inside.schema c.args.rows (subst (λ t. IsTrue (list_all (fits_columns t.heading.columns) c.args.rows)) (sym c.self.view_is) c.requires)
+    subst (λ t. OnOk c.load_listed.result (IsLoaded t c.args.staged.rows (table c.self.inside.schema c.load_listed.new.list.items))) c.self.view_is
+    (loaded_listed c.args.limits.now.bounds c.args.limits.now.in_range c.self.inside.schema c.args.staged.rows (staged_fit c.self.inside.schema c.args.staged.heading c.into_rows-rows.result c.args.staged.rows (c.requires ∙ sym (ap (λ (t : PlainTable). t.heading) c.self.view_is)) c.into_rows-rows.ensures.stored c.into_rows-rows.ensures.rows)
     c.self.inside.rows (Listed c.load_listed.new.list) c.load_listed.result (subst IsListed (sym c.in-Listed.is) tt) tt c.self.invariant
-    (subst (λ r. LoadListed c.args.limits.now.bounds.rows c.args.rows (rows_of r) c.load_listed.new.list.items c.load_listed.result) (sym c.in-Listed.is)
-    (subst (λ l. LoadListed c.args.limits.now.bounds.rows l c.in-Listed.list.items c.load_listed.new.list.items c.load_listed.result) c.into_vec-rows.ensures
+    (subst (λ r. LoadListed c.args.limits.now.bounds.rows c.args.staged.rows (rows_of r) c.load_listed.new.list.items c.load_listed.result) (sym c.in-Listed.is)
+    (subst (λ l. LoadListed c.args.limits.now.bounds.rows l c.in-Listed.list.items c.load_listed.new.list.items c.load_listed.result) (ap rows_of (sym c.in-Listed-rows.is) ∙ c.into_rows-rows.ensures.rows)
     (record { ok = c.load_listed.ensures.ok; few = c.load_listed.ensures.few; err = c.load_listed.ensures.err; why = c.load_listed.ensures.why })))).ok
 
 pub returns-in-Listed-clause-taken : goal.returns-in-Listed-clause-taken
 returns-in-Listed-clause-taken g c =
-    subst (λ t. OnOk c.load_listed.result (load_refusal c.args.limits.now.bounds t c.args.rows ≡ None)) c.self.view_is
-    (loaded_listed c.args.limits.now.bounds c.args.limits.now.in_range c.self.inside.schema c.args.rows (subst (λ t. IsTrue (list_all (fits_columns t.heading.columns) c.args.rows)) (sym c.self.view_is) c.requires)
+    subst (λ t. OnOk c.load_listed.result (load_refusal c.args.limits.now.bounds t c.args.staged.rows ≡ None)) c.self.view_is
+    (loaded_listed c.args.limits.now.bounds c.args.limits.now.in_range c.self.inside.schema c.args.staged.rows (staged_fit c.self.inside.schema c.args.staged.heading c.into_rows-rows.result c.args.staged.rows (c.requires ∙ sym (ap (λ (t : PlainTable). t.heading) c.self.view_is)) c.into_rows-rows.ensures.stored c.into_rows-rows.ensures.rows)
     c.self.inside.rows (Listed c.load_listed.new.list) c.load_listed.result (subst IsListed (sym c.in-Listed.is) tt) tt c.self.invariant
-    (subst (λ r. LoadListed c.args.limits.now.bounds.rows c.args.rows (rows_of r) c.load_listed.new.list.items c.load_listed.result) (sym c.in-Listed.is)
-    (subst (λ l. LoadListed c.args.limits.now.bounds.rows l c.in-Listed.list.items c.load_listed.new.list.items c.load_listed.result) c.into_vec-rows.ensures
+    (subst (λ r. LoadListed c.args.limits.now.bounds.rows c.args.staged.rows (rows_of r) c.load_listed.new.list.items c.load_listed.result) (sym c.in-Listed.is)
+    (subst (λ l. LoadListed c.args.limits.now.bounds.rows l c.in-Listed.list.items c.load_listed.new.list.items c.load_listed.result) (ap rows_of (sym c.in-Listed-rows.is) ∙ c.into_rows-rows.ensures.rows)
     (record { ok = c.load_listed.ensures.ok; few = c.load_listed.ensures.few; err = c.load_listed.ensures.err; why = c.load_listed.ensures.why })))).taken
 
 pub returns-in-Listed-clause-refused : goal.returns-in-Listed-clause-refused
 returns-in-Listed-clause-refused g c =
-    subst (λ t. IfErr c.load_listed.result (WhyNotLoaded c.args.limits.now.bounds t c.args.rows)) c.self.view_is
-    (loaded_listed c.args.limits.now.bounds c.args.limits.now.in_range c.self.inside.schema c.args.rows (subst (λ t. IsTrue (list_all (fits_columns t.heading.columns) c.args.rows)) (sym c.self.view_is) c.requires)
+    subst (λ t. IfErr c.load_listed.result (WhyNotLoaded c.args.limits.now.bounds t c.args.staged.rows)) c.self.view_is
+    (loaded_listed c.args.limits.now.bounds c.args.limits.now.in_range c.self.inside.schema c.args.staged.rows (staged_fit c.self.inside.schema c.args.staged.heading c.into_rows-rows.result c.args.staged.rows (c.requires ∙ sym (ap (λ (t : PlainTable). t.heading) c.self.view_is)) c.into_rows-rows.ensures.stored c.into_rows-rows.ensures.rows)
     c.self.inside.rows (Listed c.load_listed.new.list) c.load_listed.result (subst IsListed (sym c.in-Listed.is) tt) tt c.self.invariant
-    (subst (λ r. LoadListed c.args.limits.now.bounds.rows c.args.rows (rows_of r) c.load_listed.new.list.items c.load_listed.result) (sym c.in-Listed.is)
-    (subst (λ l. LoadListed c.args.limits.now.bounds.rows l c.in-Listed.list.items c.load_listed.new.list.items c.load_listed.result) c.into_vec-rows.ensures
+    (subst (λ r. LoadListed c.args.limits.now.bounds.rows c.args.staged.rows (rows_of r) c.load_listed.new.list.items c.load_listed.result) (sym c.in-Listed.is)
+    (subst (λ l. LoadListed c.args.limits.now.bounds.rows l c.in-Listed.list.items c.load_listed.new.list.items c.load_listed.result) (ap rows_of (sym c.in-Listed-rows.is) ∙ c.into_rows-rows.ensures.rows)
     (record { ok = c.load_listed.ensures.ok; few = c.load_listed.ensures.few; err = c.load_listed.ensures.err; why = c.load_listed.ensures.why })))).refused
 
 pub returns-in-Listed-clause-unchanged : goal.returns-in-Listed-clause-unchanged
 returns-in-Listed-clause-unchanged g c =
     subst (λ t. OnErr c.load_listed.result ((table c.self.inside.schema c.load_listed.new.list.items) ≡ t)) c.self.view_is
-    (loaded_listed c.args.limits.now.bounds c.args.limits.now.in_range c.self.inside.schema c.args.rows (subst (λ t. IsTrue (list_all (fits_columns t.heading.columns) c.args.rows)) (sym c.self.view_is) c.requires)
+    (loaded_listed c.args.limits.now.bounds c.args.limits.now.in_range c.self.inside.schema c.args.staged.rows (staged_fit c.self.inside.schema c.args.staged.heading c.into_rows-rows.result c.args.staged.rows (c.requires ∙ sym (ap (λ (t : PlainTable). t.heading) c.self.view_is)) c.into_rows-rows.ensures.stored c.into_rows-rows.ensures.rows)
     c.self.inside.rows (Listed c.load_listed.new.list) c.load_listed.result (subst IsListed (sym c.in-Listed.is) tt) tt c.self.invariant
-    (subst (λ r. LoadListed c.args.limits.now.bounds.rows c.args.rows (rows_of r) c.load_listed.new.list.items c.load_listed.result) (sym c.in-Listed.is)
-    (subst (λ l. LoadListed c.args.limits.now.bounds.rows l c.in-Listed.list.items c.load_listed.new.list.items c.load_listed.result) c.into_vec-rows.ensures
+    (subst (λ r. LoadListed c.args.limits.now.bounds.rows c.args.staged.rows (rows_of r) c.load_listed.new.list.items c.load_listed.result) (sym c.in-Listed.is)
+    (subst (λ l. LoadListed c.args.limits.now.bounds.rows l c.in-Listed.list.items c.load_listed.new.list.items c.load_listed.result) (ap rows_of (sym c.in-Listed-rows.is) ∙ c.into_rows-rows.ensures.rows)
     (record { ok = c.load_listed.ensures.ok; few = c.load_listed.ensures.few; err = c.load_listed.ensures.err; why = c.load_listed.ensures.why })))).unchanged

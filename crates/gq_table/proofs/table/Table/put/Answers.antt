@@ -1,0 +1,60 @@
+use Rattle.std.proofs.Common.{◌≡◌, ◌<◌, All, length, true, false, sym, ap, subst, ◌∙◌, None}
+use Rattle.std.specs.Prelude.{OnOk, OnErr, IfErr}
+use Rattle.gq_row.specs.Fitting.{fits_columns, has_null}
+use Rattle.gq_table.specs.Changes.{IsPut}
+use Rattle.gq_table.specs.Keyed.{OwnKeys, by_key, rows_in}
+use Rattle.gq_table.specs.Refusing.{row_refusal, WhyNotPut}
+use Rattle.gq_table.specs.Stored.{IsStored, rows_of}
+use Rattle.gq_table.specs.declared.rows.Rows.TheVariants.{Listed}
+use Rattle.gq_table.proofs.StandingLemmas.{table, key_in_range}
+use Rattle.gq_table.proofs.StoredLemmas.{upserted_keyed, upserted_listed, keyed_own, IsListed, PutListed}
+use Rattle.gq_table.proofs.table.Table.put.Goals as goal
+
+pub put_keyed-requires : goal.put_keyed-requires
+put_keyed-requires g c =
+    let stored = (subst (IsStored c.self.inside.schema) c.in-Keyed.is c.self.invariant) in
+    record {
+      columns = subst (All (λ position. position < length c.args.row.now)) (sym c.key.ensures.positions) (key_in_range c.self.inside.schema c.args.row.now c.key.ensures.heading (subst (λ t. fits_columns t.heading.columns c.args.row.now ≡ true) (sym c.self.view_is) c.requires.fits));
+      own = subst (λ k. OwnKeys k (by_key c.in-Keyed.map)) (sym c.key.ensures.positions) (keyed_own c.self.inside.schema.key c.in-Keyed.map stored.placed);
+    }
+
+pub invariant_of-self : goal.invariant_of-self
+invariant_of-self g c =
+    (upserted_keyed c.args.limits.now.bounds c.args.limits.now.in_range c.self.inside.schema c.args.row.now (subst (λ t. fits_columns t.heading.columns c.args.row.now ≡ true) (sym c.self.view_is) c.requires.fits) (subst (λ t. has_null t.heading.key c.args.row.now ≡ false) (sym c.self.view_is) c.requires.keyed)
+    c.in-Keyed.map c.put_keyed.new.map c.put_keyed.result c.key.result.now c.key.ensures.positions (subst (IsStored c.self.inside.schema) c.in-Keyed.is c.self.invariant)
+    (record { own = c.put_keyed.ensures.own; ok = c.put_keyed.ensures.ok; few = c.put_keyed.ensures.few; err = c.put_keyed.ensures.err; why = c.put_keyed.ensures.why })).stored
+
+pub invariant_of-self-in-Listed : goal.invariant_of-self-in-Listed
+invariant_of-self-in-Listed g c =
+    (upserted_listed c.args.limits.now.bounds c.args.limits.now.in_range c.self.inside.schema c.args.row.now (subst (λ t. fits_columns t.heading.columns c.args.row.now ≡ true) (sym c.self.view_is) c.requires.fits) (subst (λ t. has_null t.heading.key c.args.row.now ≡ false) (sym c.self.view_is) c.requires.keyed)
+    c.self.inside.rows (Listed c.put_listed.new.rows) c.put_listed.result (subst IsListed (sym c.in-Listed.is) tt) tt c.self.invariant
+    (subst (λ r. PutListed c.args.limits.now.bounds.rows c.args.row.now (rows_of r) c.put_listed.new.rows.items c.put_listed.result) (sym c.in-Listed.is)
+    (record { ok = c.put_listed.ensures.ok; few = c.put_listed.ensures.few; err = c.put_listed.ensures.err; why = c.put_listed.ensures.why }))).stored
+
+pub returns-in-Keyed-clause-ok : goal.returns-in-Keyed-clause-ok
+returns-in-Keyed-clause-ok g c =
+    subst (λ t. OnOk c.put_keyed.result (IsPut t c.args.row.now (table c.self.inside.schema (rows_in c.put_keyed.new.map)))) (ap (λ r. table c.self.inside.schema (rows_of r)) (sym c.in-Keyed.is) ∙ c.self.view_is)
+    (upserted_keyed c.args.limits.now.bounds c.args.limits.now.in_range c.self.inside.schema c.args.row.now (subst (λ t. fits_columns t.heading.columns c.args.row.now ≡ true) (sym c.self.view_is) c.requires.fits) (subst (λ t. has_null t.heading.key c.args.row.now ≡ false) (sym c.self.view_is) c.requires.keyed)
+    c.in-Keyed.map c.put_keyed.new.map c.put_keyed.result c.key.result.now c.key.ensures.positions (subst (IsStored c.self.inside.schema) c.in-Keyed.is c.self.invariant)
+    (record { own = c.put_keyed.ensures.own; ok = c.put_keyed.ensures.ok; few = c.put_keyed.ensures.few; err = c.put_keyed.ensures.err; why = c.put_keyed.ensures.why })).ok
+
+pub returns-in-Keyed-clause-taken : goal.returns-in-Keyed-clause-taken
+returns-in-Keyed-clause-taken g c =
+    subst (λ t. OnOk c.put_keyed.result (row_refusal c.args.limits.now.bounds t c.args.row.now ≡ None)) (ap (λ r. table c.self.inside.schema (rows_of r)) (sym c.in-Keyed.is) ∙ c.self.view_is)
+    (upserted_keyed c.args.limits.now.bounds c.args.limits.now.in_range c.self.inside.schema c.args.row.now (subst (λ t. fits_columns t.heading.columns c.args.row.now ≡ true) (sym c.self.view_is) c.requires.fits) (subst (λ t. has_null t.heading.key c.args.row.now ≡ false) (sym c.self.view_is) c.requires.keyed)
+    c.in-Keyed.map c.put_keyed.new.map c.put_keyed.result c.key.result.now c.key.ensures.positions (subst (IsStored c.self.inside.schema) c.in-Keyed.is c.self.invariant)
+    (record { own = c.put_keyed.ensures.own; ok = c.put_keyed.ensures.ok; few = c.put_keyed.ensures.few; err = c.put_keyed.ensures.err; why = c.put_keyed.ensures.why })).taken
+
+pub returns-in-Keyed-clause-refused : goal.returns-in-Keyed-clause-refused
+returns-in-Keyed-clause-refused g c =
+    subst (λ t. IfErr c.put_keyed.result (WhyNotPut c.args.limits.now.bounds t c.args.row.now)) (ap (λ r. table c.self.inside.schema (rows_of r)) (sym c.in-Keyed.is) ∙ c.self.view_is)
+    (upserted_keyed c.args.limits.now.bounds c.args.limits.now.in_range c.self.inside.schema c.args.row.now (subst (λ t. fits_columns t.heading.columns c.args.row.now ≡ true) (sym c.self.view_is) c.requires.fits) (subst (λ t. has_null t.heading.key c.args.row.now ≡ false) (sym c.self.view_is) c.requires.keyed)
+    c.in-Keyed.map c.put_keyed.new.map c.put_keyed.result c.key.result.now c.key.ensures.positions (subst (IsStored c.self.inside.schema) c.in-Keyed.is c.self.invariant)
+    (record { own = c.put_keyed.ensures.own; ok = c.put_keyed.ensures.ok; few = c.put_keyed.ensures.few; err = c.put_keyed.ensures.err; why = c.put_keyed.ensures.why })).refused
+
+pub returns-in-Keyed-clause-unchanged : goal.returns-in-Keyed-clause-unchanged
+returns-in-Keyed-clause-unchanged g c =
+    subst (λ t. OnErr c.put_keyed.result ((table c.self.inside.schema (rows_in c.put_keyed.new.map)) ≡ t)) (ap (λ r. table c.self.inside.schema (rows_of r)) (sym c.in-Keyed.is) ∙ c.self.view_is)
+    (upserted_keyed c.args.limits.now.bounds c.args.limits.now.in_range c.self.inside.schema c.args.row.now (subst (λ t. fits_columns t.heading.columns c.args.row.now ≡ true) (sym c.self.view_is) c.requires.fits) (subst (λ t. has_null t.heading.key c.args.row.now ≡ false) (sym c.self.view_is) c.requires.keyed)
+    c.in-Keyed.map c.put_keyed.new.map c.put_keyed.result c.key.result.now c.key.ensures.positions (subst (IsStored c.self.inside.schema) c.in-Keyed.is c.self.invariant)
+    (record { own = c.put_keyed.ensures.own; ok = c.put_keyed.ensures.ok; few = c.put_keyed.ensures.few; err = c.put_keyed.ensures.err; why = c.put_keyed.ensures.why })).unchanged
