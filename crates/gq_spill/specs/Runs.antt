@@ -46,10 +46,9 @@ pub record Loses (run : ℕ) (old new : Runs) : Type 0 where
   pub others : Others run old new
   pub live : IsTrue (new.live run)
 
--- no more bytes than the buffer takes, and the rest of the buffer is as it was; of an honest store the content from a place on, as much as fits
+-- no more bytes than the buffer takes; of an honest store the content from a place on, as much as fits. Behind these bytes the buffer may have changed.
 pub record Reads (run at : ℕ) (count : ℕ) (old_buffer new_buffer : List ℕ) (runs : Runs) : Type 0 where
   pub within : count ≤ length old_buffer
-  pub rest : drop count new_buffer ≡ drop count old_buffer
   pub bytes : IsTrue runs.honest → (c : List ℕ) → runs.content run ≡ Some c → take count new_buffer ≡ take (length old_buffer) (drop at c)
 
 -- the run is gone, and nothing else
@@ -58,6 +57,19 @@ pub record Discards (run : ℕ) (old new : Runs) : Type 0 where
   pub gone : IsTrue (new.live run) → ⊥
   pub made : new.made ≡ old.made
   pub failures : new.failures ≡ old.failures
+
+-- only this run was written to: it stays live, every other run is as it was, and none was made. The count of failures never falls.
+pub record OnlyWrites (run : ℕ) (old new : Runs) : Type 0 where
+  pub others : Others run old new
+  pub live : IsTrue (new.live run)
+  pub made : new.made ≡ old.made
+  pub failures : old.failures ≤ new.failures
+
+-- nothing was written or made. The count of failures never falls.
+pub record OnlyReads (old new : Runs) : Type 0 where
+  pub kept : Kept old new
+  pub made : new.made ≡ old.made
+  pub failures : old.failures ≤ new.failures
 
 -- whether the store failed, not for want of memory
 abbrev pub is_fault : {T : Type 0} → Result T StoreError → Bool

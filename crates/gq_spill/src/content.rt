@@ -46,7 +46,6 @@ impl Content {
 // Copies the bytes from a place on into the front of the buffer, as many as fit.
 pub(crate) fn copy_from(content: &[u8], at: usize, buffer: &mut [u8]) -> usize
     ensures within { result ≤ length buffer.old }
-    ensures rest { drop result buffer.new ≡ drop result buffer.old }
     ensures bytes { take result buffer.new ≡ take (length buffer.old) (drop at content.now) }
 {
     let (_, rest) = content.split_at(at.min(content.len()));

@@ -1,5 +1,6 @@
 //! Laws: what the definitions come to. Each is the contract of a function that does nothing.
 ghost use Rattle.std.specs.Prelude.{◌≡◌, IsTrue, length};
+ghost use Rattle.gq_spill.specs.Laws.{ReadsBack};
 ghost use Rattle.gq_spill.specs.Memory.{mem_runs};
 
 use crate::mem_store::MemStore;
@@ -13,3 +14,9 @@ pub fn memory_is_honest(store: &MemStore)
 {
     let _ = store;
 }
+
+/// What a writer wrote is what a reader that is opened on its run has left, and both stay so while
+/// other runs change.
+pub fn reads_back()
+    ensures { ReadsBack }
+{}

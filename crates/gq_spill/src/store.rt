@@ -30,7 +30,7 @@ pub trait RunStore {
         ensures counts { Counts result (runs self.old) (runs self.new) };
 
     /// Reads the bytes of a live run from a place on into the front of the buffer, as many as fit,
-    /// and returns how many.
+    /// and returns how many. What stands behind them in the buffer may change.
     fn read(&mut self, id: RunId, at: u64, buffer: &mut [u8]) -> Result<usize, StoreError>
         requires { IsTrue ((runs self.old).live id.number) }
         ensures ok { IfOk result (λ count.

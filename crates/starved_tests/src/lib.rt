@@ -4,6 +4,9 @@
 //!
 //! The memory is taken by blocks that are held and never written to. A test that takes it has a
 //! process of its own, so no other notices.
+//!
+//! Where all addresses are taken a stack can't grow, and a process whose stack has to is ended by a
+//! signal. So a test does once with memory to spare what it is going to do without.
 #![tactic(auto)]
 
 use std::alloc::{AllocError, Global};

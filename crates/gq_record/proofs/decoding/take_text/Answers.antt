@@ -1,0 +1,9 @@
+use Rattle.std.proofs.Common.{subst, sym, ◌∙◌}
+use Rattle.std.specs.Prelude.{IsUtf8}
+use Rattle.gq_record.proofs.RecordLemmas.{block_once}
+use Rattle.gq_record.proofs.decoding.take_text.Goals as goal
+
+pub returns-in-Err-clause-none : goal.returns-in-Err-clause-none
+returns-in-Err-clause-none c = λ text rest fits e.
+    let same = block_once text c.in-Some.block.now rest c.in-Some.rest.now fits.short c.in-Some.ensures.found.1 (sym e ∙ c.in-Some.ensures.found.0) in
+    c.in-Err.ensures.cases.0 (subst IsUtf8 same.0 fits.utf8)

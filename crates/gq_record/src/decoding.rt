@@ -1,0 +1,146 @@
+//! Rows from records.
+ghost use Rattle.std.specs.Prelude.{◌≡◌, ◌≤◌, ◌<◌, ℕ, ◌^◌, All, List, ◌++◌, length, take, IfOk, IfSome, IfNone, FitsSigned};
+ghost use Rattle.std.specs.Int.{to_be_bytes, w32, w64};
+ghost use Rattle.gq_row.specs.declared.value.Value.{Value as Cell};
+ghost use Rattle.gq_record.specs.Records.{IsStorable, IsCell, IsText, record_of, body_of, value_bytes, with_length, number_bytes};
+
+use crate::kinds::{INT, NULL, TEXT};
+use byteorder::{BigEndian, ByteOrder};
+use gq_row::{Row, Text, Value};
+use std::alloc::{AllocError, Global};
+
+/// The length at the front, and what follows it; `None` where there are fewer than four bytes.
+pub fn take_length(bytes: &[u8]) -> Option<(u32, &[u8])>
+    ensures found { IfSome result (λ x. bytes.now ≡ to_be_bytes w32 x.0 ++ x.1.now) }
+    ensures small { IfSome result (λ x. x.0 < 2 ^ 32) }
+    ensures none { IfNone result (length bytes.now < 4) }
+{
+    if bytes.len() < 4 {
+        return None;
+    }
+    let (front, rest) = bytes.split_at(4);
+    Some((BigEndian::read_u32(front), rest))
+}
+
+// The number at the front, and what follows it.
+fn take_number(bytes: &[u8]) -> Option<(i64, &[u8])>
+    ensures found { IfSome result (λ x. (bytes.now ≡ number_bytes x.0 ++ x.1.now) ×
+        FitsSigned w64 x.0) }
+    ensures none { IfNone result (length bytes.now < 8) }
+{
+    if bytes.len() < 8 {
+        return None;
+    }
+    let (front, rest) = bytes.split_at(8);
+    Some((BigEndian::read_i64(front), rest))
+}
+
+// The bytes that stand behind their length at the front, and what follows them.
+fn take_block(bytes: &[u8]) -> Option<(&[u8], &[u8])>
+    ensures found { IfSome result (λ x. (bytes.now ≡ with_length x.0.now ++ x.1.now) ×
+        (length x.0.now < 2 ^ 32)) }
+    ensures none { IfNone result ((block rest : List ℕ) → length block < 2 ^ 32 →
+        bytes.now ≡ with_length block ++ rest → ⊥) }
+{
+    let (len, rest) = take_length(bytes)?;
+    let len = len as usize;
+    if rest.len() < len {
+        return None;
+    }
+    Some(rest.split_at(len))
+}
+
+// The text at the front, and what follows it.
+fn take_text(alloc: Global, bytes: &[u8]) -> Result<Option<(Text, &[u8])>, AllocError>
+    ensures found { IfOk result (λ o. IfSome o (λ x. (bytes.now ≡ with_length x.0 ++ x.1.now) ×
+        IsText x.0)) }
+    ensures none { IfOk result (λ o. IfNone o ((text rest : List ℕ) → IsText text →
+        bytes.now ≡ with_length text ++ rest → ⊥)) }
+{
+    let Some((block, rest)) = take_block(bytes) else {
+        return Ok(None);
+    };
+    match str::from_utf8(block) {
+        Ok(chars) => Ok(Some((Text::new(String::from_str(alloc, chars)?), rest))),
+        Err(_) => Ok(None),
+    }
+}
+
+// The value at the front, and what follows it.
+#[tactic(auto, unfolding(crate::specs::Records::value_bytes))]
+fn take_value(alloc: Global, bytes: &[u8]) -> Result<Option<(Value, &[u8])>, AllocError>
+    ensures found { IfOk result (λ o. IfSome o (λ x. (bytes.now ≡ value_bytes x.0 ++ x.1.now) ×
+        IsCell x.0)) }
+    ensures none { IfOk result (λ o. IfNone o ((value : Cell) (rest : List ℕ) → IsCell value →
+        bytes.now ≡ value_bytes value ++ rest → ⊥)) }
+{
+    let Some((tag, rest)) = bytes.split_first() else {
+        return Ok(None);
+    };
+    match *tag {
+        NULL => Ok(Some((Value::Null, rest))),
+        INT => match take_number(rest) {
+            Some((n, rest)) => Ok(Some((Value::Int(n), rest))),
+            None => Ok(None),
+        },
+        TEXT => match take_text(alloc, rest)? {
+            Some((text, rest)) => Ok(Some((Value::Text(text), rest))),
+            None => Ok(None),
+        },
+        _ => Ok(None),
+    }
+}
+
+// The row of this body. Room for so many values is made at once.
+fn take_body(alloc: Global, bytes: &[u8], room: usize) -> Result<Option<Row>, AllocError>
+    ensures found { IfOk result (λ o. IfSome o (λ row. (bytes.now ≡ body_of row) ×
+        All IsCell row)) }
+    ensures none { IfOk result (λ o. IfNone o ((row : List Cell) → All IsCell row →
+        bytes.now ≡ body_of row → ⊥)) }
+{
+    let mut cells = Vec::with_capacity(alloc, room)?;
+    let mut rest = bytes;
+    while !rest.is_empty() {
+        let Some((value, behind)) = take_value(alloc, rest)? else {
+            return Ok(None);
+        };
+        cells.push(value)?;
+        rest = behind;
+    }
+    Ok(Some(Row::new(cells)))
+}
+
+/// As [`decode_row`], for rows that mostly have so many columns: a row of them is one block of
+/// memory, beside its texts.
+pub fn decode_row_with(
+    alloc: Global,
+    bytes: &[u8],
+    columns: usize,
+) -> Result<Option<(Row, usize)>, AllocError>
+    ensures within { IfOk result (λ o. IfSome o (λ found. found.1 ≤ length bytes.now)) }
+    ensures found { IfOk result (λ o. IfSome o (λ found. (take found.1 bytes.now ≡ record_of
+        found.0) × IsStorable found.0)) }
+    ensures none { IfOk result (λ o. IfNone o ((row : List Cell) (n : ℕ) → IsStorable row →
+        take n bytes.now ≡ record_of row → ⊥)) }
+{
+    let Some((body, _)) = take_block(bytes) else {
+        return Ok(None);
+    };
+    // Each value takes a byte at least.
+    match take_body(alloc, body, columns.min(body.len()))? {
+        Some(row) => Ok(Some((row, 4 + body.len()))),
+        None => Ok(None),
+    }
+}
+
+/// The row whose record is at the front, and how many bytes the record takes; `None` where the bytes
+/// begin with no row's record.
+pub fn decode_row(alloc: Global, bytes: &[u8]) -> Result<Option<(Row, usize)>, AllocError>
+    ensures within { IfOk result (λ o. IfSome o (λ found. found.1 ≤ length bytes.now)) }
+    ensures found { IfOk result (λ o. IfSome o (λ found. (take found.1 bytes.now ≡ record_of
+        found.0) × IsStorable found.0)) }
+    ensures none { IfOk result (λ o. IfNone o ((row : List Cell) (n : ℕ) → IsStorable row →
+        take n bytes.now ≡ record_of row → ⊥)) }
+{
+    decode_row_with(alloc, bytes, 0)
+}

@@ -1,0 +1,142 @@
+//! Rows to records.
+ghost use Rattle.std.specs.Prelude.{◌≡◌, ◌↔◌, take, ◌++◌, ◌<◌, ◌^◌, All, length, OnOk, OnErr, IsTrue, IfSome, IfNone};
+ghost use Rattle.std.specs.Int.{to_be_bytes, w32};
+ghost use Rattle.gq_record.specs.Records.{IsStorable, IsCell, record_of, body_of, value_bytes, number_bytes};
+
+use crate::kinds::{INT, NULL, TEXT};
+use byteorder::{BigEndian, ByteOrder};
+use gq_row::{Row, Value};
+use std::alloc::AllocError;
+
+// Puts a length at the end.
+fn put_length(len: usize, out: &mut Vec<u8>) -> Result<(), AllocError>
+    requires { len < 2 ^ 32 }
+    ensures ok { OnOk result (out.new.items ≡ out.old.items ++ to_be_bytes w32 len) }
+    ensures keeps { take (length out.old.items) out.new.items ≡ out.old.items }
+{
+    let mut field = [0; 4];
+    BigEndian::write_u32(&mut field, len as u32);
+    out.extend_from_slice(&field)
+}
+
+// Puts a number at the end.
+fn put_number(n: i64, out: &mut Vec<u8>) -> Result<(), AllocError>
+    ensures ok { OnOk result (out.new.items ≡ out.old.items ++ number_bytes n) }
+    ensures keeps { take (length out.old.items) out.new.items ≡ out.old.items }
+{
+    let mut field = [0; 8];
+    BigEndian::write_i64(&mut field, n);
+    out.extend_from_slice(&field)
+}
+
+// Puts a value at the end.
+#[tactic(auto, unfolding(crate::specs::Records::value_bytes))]
+fn put_value(value: &Value, out: &mut Vec<u8>) -> Result<(), AllocError>
+    requires { IsCell value.now }
+    ensures ok { OnOk result (out.new.items ≡ out.old.items ++ value_bytes value.now) }
+    ensures keeps { take (length out.old.items) out.new.items ≡ out.old.items }
+{
+    match value {
+        Value::Null => out.push(NULL)?,
+        Value::Int(n) => {
+            out.push(INT)?;
+            put_number(*n, out)?;
+        }
+        Value::Text(text) => {
+            out.push(TEXT)?;
+            put_length(text.len(), out)?;
+            out.extend_from_slice(text.as_str().as_bytes())?;
+        }
+    }
+    Ok(())
+}
+
+// Puts the values of a row at the end, one after the other.
+fn put_body(row: &Row, out: &mut Vec<u8>) -> Result<(), AllocError>
+    requires { All IsCell row.now }
+    ensures ok { OnOk result (out.new.items ≡ out.old.items ++ body_of row.now) }
+    ensures keeps { take (length out.old.items) out.new.items ≡ out.old.items }
+{
+    for value in row.cells() {
+        put_value(value, out)?;
+    }
+    Ok(())
+}
+
+// How many bytes a value takes; None for a text that is too long for its length.
+#[tactic(auto, unfolding(crate::specs::Records::value_bytes))]
+fn value_len(value: &Value) -> Option<u64>
+    ensures some { IfSome result (λ len. (len ≡ length (value_bytes value.now)) × (len < 2 ^ 33) ×
+        IsCell value.now) }
+    ensures none { IfNone result (IsCell value.now → ⊥) }
+{
+    match value {
+        Value::Null => Some(1),
+        Value::Int(n) => {
+            // What is read is known to be of 64 bits.
+            let _n = *n;
+            Some(9)
+        }
+        Value::Text(text) => {
+            let chars = text.as_str();
+            if chars.len() > u32::MAX as usize {
+                return None;
+            }
+            Some(5 + chars.len() as u64)
+        }
+    }
+}
+
+// How many bytes the body of a row takes; None where the row has no record.
+fn body_len(row: &Row) -> Option<u64>
+    ensures some { IfSome result (λ len. (len ≡ length (body_of row.now)) × IsStorable row.now) }
+    ensures none { IfNone result (IsStorable row.now → ⊥) }
+{
+    let mut total: u64 = 0;
+    for value in row.cells() {
+        let Some(len) = value_len(value) else {
+            return None;
+        };
+        total += len;
+        if total > u32::MAX as u64 {
+            return None;
+        }
+    }
+    Some(total)
+}
+
+/// Whether a row has a record: whether its values take fewer than 2^32 bytes there.
+pub fn is_storable(row: &Row) -> bool
+    ensures { IsTrue result ↔ IsStorable row.now }
+{
+    body_len(row).is_some()
+}
+
+// Puts the record of a row at the end; where memory is wanting, perhaps a part of it.
+fn put_record(row: &Row, out: &mut Vec<u8>) -> Result<(), AllocError>
+    requires { IsStorable row.now }
+    ensures ok { OnOk result (out.new.items ≡ out.old.items ++ record_of row.now) }
+    ensures keeps { take (length out.old.items) out.new.items ≡ out.old.items }
+{
+    let Some(len) = body_len(row) else {
+        unreachable!()
+    };
+    put_length(len as usize, out)?;
+    put_body(row, out)
+}
+
+/// Puts the record of a row at the end of the bytes. Where memory is wanting they are as they were.
+pub fn encode_row(row: &Row, out: &mut Vec<u8>) -> Result<(), AllocError>
+    requires { IsStorable row.now }
+    ensures ok { OnOk result (out.new.items ≡ out.old.items ++ record_of row.now) }
+    ensures err { OnErr result (out.new.items ≡ out.old.items) }
+{
+    let len = out.len();
+    match put_record(row, out) {
+        Ok(()) => Ok(()),
+        Err(e) => {
+            out.truncate(len);
+            Err(e)
+        }
+    }
+}

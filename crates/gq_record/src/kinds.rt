@@ -1,0 +1,7 @@
+//! The byte before a value that tells its kind.
+
+pub const NULL: u8 = 0;
+
+pub const INT: u8 = 1;
+
+pub const TEXT: u8 = 2;

@@ -1,0 +1,23 @@
+-- How writers and readers of runs tell what the store refused.
+use Rattle.std.specs.Prelude.{◌≡◌, ◌+◌, Bool, true, false, Result, Ok, Err}
+use Rattle.gq_spill.specs.Runs.{Runs, one_if}
+use Rattle.gq_spill.specs.declared.store_error.StoreError.{StoreError}
+use Rattle.gq_spill.specs.declared.store_error.StoreError.TheVariants.{Memory as NoMemory, Fault}
+use Rattle.gq_spill.specs.declared.spill_refusal.SpillRefusal.{SpillRefusal}
+use Rattle.gq_spill.specs.declared.spill_refusal.SpillRefusal.TheVariants.{Memory, StoreFault, Damaged}
+
+-- what a store's error is told as
+abbrev pub told_as : StoreError → SpillRefusal
+told_as NoMemory = Memory
+told_as Fault = StoreFault
+
+-- whether a call answers that the store failed
+abbrev pub tells_fault : {T : Type 0} → Result T SpillRefusal → Bool
+tells_fault (Ok x) = false
+tells_fault (Err Memory) = false
+tells_fault (Err StoreFault) = true
+tells_fault (Err Damaged) = false
+
+-- a call answers that the store failed exactly where it did, which is counted once
+abbrev pub TellsFaults : {T : Type 0} → Result T SpillRefusal → Runs → Runs → Type 0
+TellsFaults result old new = new.failures ≡ old.failures + one_if (tells_fault result)

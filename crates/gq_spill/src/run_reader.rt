@@ -1,0 +1,137 @@
+//! Rows from a run.
+ghost use Rattle.std.specs.Prelude.{◌≡◌, ◌+◌, ◌<◌, ◌≤◌, List, length, Some, None, IfOk, IfErr, IfSome, IfNone, OnOk, Err, IsErrOf, IsTrue};
+ghost use Rattle.gq_row.specs.declared.value.Value.{Value as Cell};
+ghost use Rattle.gq_record.specs.Records.{IsStorable};
+ghost use Rattle.gq_spill.specs.Handing.{Gave, taken};
+ghost use Rattle.gq_spill.specs.Reading.{opened, Left};
+ghost use Rattle.gq_spill.specs.Refusals.{TellsFaults};
+ghost use Rattle.gq_spill.specs.Runs.{OnlyReads};
+
+use crate::run_mark::RunMark;
+use crate::run_tail::RunTail;
+use crate::spill_refusal::SpillRefusal;
+use crate::store::RunStore;
+use crate::window::Window;
+use gq_row::Row;
+use std::alloc::Global;
+use std::marker::Model;
+
+/// Reads the rows of a run, one after the other. Of the store it asks for pieces of 64 KiB.
+///
+/// Contracts see what is left of the run, how many rows the mark tells and how many came, and the
+/// refusal that it answers from now on, if there was one.
+#[derive(Debug, Drop)]
+pub struct RunReader {
+    tail: RunTail,
+    records: u64,
+    columns: usize,
+    given: u64,
+    refused: Option<SpillRefusal>,
+}
+
+impl Model for RunReader {
+    ghost use Rattle.std.specs.Prelude.{◌+◌, ◌≤◌, length};
+    ghost use Rattle.gq_spill.specs.Reading.{Reading};
+
+    ghost Value = { Reading };
+
+    ghost view = { λ r. record { tail = r.tail; records = r.records; columns = r.columns; given = r.given; refused = r.refused } };
+
+    ghost invariant = { λ r. (r.given ≤ r.records) × (r.tail.at + length r.tail.ahead ≤ r.tail.end) };
+}
+
+impl RunReader {
+    /// A reader of the rows of a run, each of so many columns. It takes no memory yet.
+    pub fn open(alloc: Global, mark: RunMark, columns: usize) -> RunReader
+        ensures { result ≡ opened mark columns }
+    {
+        RunReader {
+            tail: RunTail {
+                id: mark.id,
+                at: 0,
+                end: mark.bytes,
+                ahead: Window::new(alloc),
+            },
+            records: mark.records,
+            columns,
+            given: 0,
+            refused: None,
+        }
+    }
+
+    // Takes the row that comes next.
+    fn take_row<S: RunStore>(&mut self, alloc: Global, store: &mut S) -> Result<Row, SpillRefusal>
+        requires live { IsTrue ((S.runs store.old).live self.old.tail.id.number) }
+        requires more { self.old.given < self.old.records }
+        ensures row { IsTrue (S.runs store.old).honest →
+            IfOk result (λ row. (rows : List (List Cell)) → Left self.old (S.runs store.old) rows →
+            Gave (Some row) rows (Left self.new (S.runs store.new))) }
+        ensures width { IfOk result (λ row. (length row ≡ self.old.columns) × IsStorable row) }
+        ensures sound { IsTrue (S.runs store.old).honest → IsErrOf result SpillRefusal.Damaged →
+            (rows : List (List Cell)) → Left self.old (S.runs store.old) rows → ⊥ }
+        ensures count { OnOk result (self.new.given ≡ self.old.given + 1) }
+        ensures same { (self.new.tail.id ≡ self.old.tail.id) ×
+            (self.new.tail.end ≡ self.old.tail.end) × (self.new.records ≡ self.old.records) ×
+            (self.new.columns ≡ self.old.columns) × (self.new.refused ≡ self.old.refused) }
+        ensures store { OnlyReads (S.runs store.old) (S.runs store.new) }
+        ensures faults { TellsFaults result (S.runs store.old) (S.runs store.new) }
+    {
+        match self.tail.take(alloc, store, self.columns) {
+            Ok(row) => {
+                if row.len() != self.columns {
+                    return Err(SpillRefusal::Damaged);
+                }
+                self.given += 1;
+                Ok(row)
+            }
+            Err(why) => Err(why),
+        }
+    }
+
+    /// The next row, or `None` behind the last. After a refusal it answers the same one from then on,
+    /// and leaves the store alone.
+    pub fn next<S: RunStore>(
+        &mut self,
+        alloc: Global,
+        store: &mut S,
+    ) -> Result<Option<Row>, SpillRefusal>
+        requires live { IsTrue ((S.runs store.old).live self.old.tail.id.number) }
+        // Over an honest store the rows come in the order in which they were written,
+        ensures rows { IsTrue (S.runs store.old).honest →
+            IfOk result (λ row. (rows : List (List Cell)) → Left self.old (S.runs store.old) rows →
+            Gave row rows (Left self.new (S.runs store.new))) }
+        // and their run is never found damaged.
+        ensures sound { IsTrue (S.runs store.old).honest → IsErrOf result SpillRefusal.Damaged →
+            (rows : List (List Cell)) → Left self.old (S.runs store.old) rows → ⊥ }
+        // Over any store None comes only behind as many rows as the mark tells.
+        ensures end { IfOk result (λ row. IfNone row (self.new.given ≡ self.old.records)) }
+        ensures count { IfOk result (λ row. self.new.given ≡ self.old.given + taken row) }
+        ensures few { OnOk result (self.new.given ≤ self.old.records) }
+        ensures width { IfOk result (λ row. IfSome row (λ row. (length row ≡ self.old.columns) ×
+            IsStorable row)) }
+        ensures going { OnOk result ((self.old.refused ≡ None) × (self.new.refused ≡ None)) }
+        ensures err { IfErr result (λ why. self.new.refused ≡ Some why) }
+        ensures again { IfSome self.old.refused (λ why. (result ≡ Err why) ×
+            (store.new ≡ store.old)) }
+        ensures same { (self.new.tail.id ≡ self.old.tail.id) ×
+            (self.new.tail.end ≡ self.old.tail.end) × (self.new.records ≡ self.old.records) ×
+            (self.new.columns ≡ self.old.columns) }
+        ensures store { OnlyReads (S.runs store.old) (S.runs store.new) }
+        ensures faults { self.old.refused ≡ None →
+            TellsFaults result (S.runs store.old) (S.runs store.new) }
+    {
+        if let Some(why) = self.refused {
+            return Err(why);
+        }
+        if self.given == self.records {
+            return Ok(None);
+        }
+        match self.take_row(alloc, store) {
+            Ok(row) => Ok(Some(row)),
+            Err(why) => {
+                self.refused = Some(why);
+                Err(why)
+            }
+        }
+    }
+}

@@ -1,0 +1,7 @@
+-- A fact of what was returned, and what follows from it.
+use Rattle.std.proofs.Common.{Result, Ok, Err}
+use Rattle.std.specs.Prelude.{IfOk}
+
+pub if_ok_weaker : {T E : Type 0} (r : Result T E) (P Q : T → Type 0) → ((x : T) → P x → Q x) → IfOk r P → IfOk r Q
+if_ok_weaker (Ok x) P Q f p = f x p
+if_ok_weaker (Err e) P Q f p = tt

@@ -1,0 +1,48 @@
+//! Rows, and what they are spelled as.
+use gq_row::{Row, Text, Value};
+use std::alloc::{AllocError, Global};
+
+pub(crate) fn text(alloc: Global, chars: &str) -> Result<Value, AllocError> {
+    Ok(Value::Text(Text::new(String::from_str(alloc, chars)?)))
+}
+
+/// A row of one number.
+pub(crate) fn number(alloc: Global, n: i64) -> Result<Row, AllocError> {
+    Ok(Row::new(vec![in alloc; Value::Int(n)]?))
+}
+
+/// The rows of one number each, from 1 up.
+pub(crate) fn numbers(alloc: Global, last: i64) -> Result<Vec<Row>, AllocError> {
+    let mut rows = Vec::new(alloc);
+    for n in 1..=last {
+        rows.push(number(alloc, n)?)?;
+    }
+    Ok(rows)
+}
+
+/// A row of null, -1 and `Oslo`.
+pub(crate) fn worked(alloc: Global) -> Result<Row, AllocError> {
+    Ok(Row::new(vec![in alloc; Value::Null, Value::Int(-1), text(alloc, "Oslo")?]?))
+}
+
+/// Each row with its values between commas, and a semicolon behind it.
+pub(crate) fn spelled(alloc: Global, rows: &[Row]) -> Result<String, AllocError> {
+    let mut out = String::new(alloc);
+    for row in rows {
+        for (i, value) in row.cells().iter().enumerate() {
+            if i > 0 {
+                out.push_str(",")?;
+            }
+            match value {
+                Value::Null => out.push_str("null")?,
+                Value::Int(n) => out.push_str(format!(in alloc; "{n}")?.as_str())?,
+                Value::Text(text) => {
+                    let chars = text.as_str();
+                    out.push_str(format!(in alloc; "'{chars}'")?.as_str())?;
+                }
+            }
+        }
+        out.push_str(";")?;
+    }
+    Ok(out)
+}
