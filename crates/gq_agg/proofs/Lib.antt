@@ -1,3 +1,4 @@
 pub mod Chosen
+pub mod Different
 pub mod Kept
 pub mod Unseen

@@ -1,14 +1,15 @@
 -- What the aggregates come to, in the subject's own words.
-use Rattle.std.specs.Prelude.{◌≡◌, true, false, List, [], IsPermutation}
+use Rattle.std.specs.Prelude.{◌≡◌, ◌+◌, ◌||◌, true, false, List, [], ◌∷◌, ◌++◌, if◌then◌else◌, IsPermutation}
 use Rattle.std.specs.List.{list_any}
 use Rattle.std.specs.Ordering.{is_lt}
 use Rattle.gq_row.specs.declared.value.Value.{Value}
 use Rattle.gq_row.specs.declared.value.Value.TheVariants.{Null}
+use Rattle.gq_row.specs.Fitting.{is_null}
 use Rattle.gq_row.specs.Order.{compare_values, same_value}
 use Rattle.gq_agg.specs.declared.kind.AggKind.{AggKind}
 use Rattle.gq_agg.specs.declared.kind.AggKind.TheVariants.{Count, Sum, Min, Max}
 use Rattle.gq_agg.specs.Aggregates.{aggregate}
-use Rattle.gq_agg.specs.Values.{present, least, greatest}
+use Rattle.gq_agg.specs.Values.{present, different, least, greatest}
 
 -- values in another order have the same aggregates
 abbrev pub OrderIsUnseen : Type 0
@@ -29,3 +30,9 @@ pub record EndsAreReached : Type 0 where
   pub greatest_none : (values : List Value) → present values ≡ [] → greatest values ≡ Null
   pub greatest_is_one : (values : List Value) → (present values ≡ [] → ⊥) → list_any (same_value (greatest values)) (present values) ≡ true
   pub none_behind : (values : List Value) → list_any (λ v. is_lt (compare_values (greatest values) v)) (present values) ≡ false
+
+-- of no values none is different; one value more counts unless it is null or the same as one before it; the order makes no difference
+pub record DifferentAreCounted : Type 0 where
+  pub none : different [] ≡ 0
+  pub one_more : (values : List Value) (v : Value) → different (values ++ v ∷ []) ≡ (if is_null v || list_any (same_value v) values then different values else different values + 1)
+  pub order : (xs ys : List Value) → IsPermutation xs ys → different xs ≡ different ys

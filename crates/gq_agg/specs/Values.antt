@@ -1,14 +1,19 @@
--- Lists of values, null among them: how many are not null, their sum, the least and the greatest.
-use Rattle.std.specs.Prelude.{ℤ, pos, ◌+ℤ◌, ◌&&◌, ◌||◌, Bool, not, List, [], ◌∷◌, filter, fold, if◌then◌else◌}
+-- Lists of values, null among them: those that are not null, how many different ones, their sum, the least and the greatest.
+use Rattle.std.specs.Prelude.{ℕ, ℤ, pos, ◌+ℤ◌, ◌&&◌, ◌||◌, Bool, not, List, [], ◌∷◌, length, filter, fold, if◌then◌else◌}
 use Rattle.std.specs.Ordering.{is_lt}
 use Rattle.gq_row.specs.declared.value.Value.{Value}
 use Rattle.gq_row.specs.declared.value.Value.TheVariants.{Null, Int, Text}
 use Rattle.gq_row.specs.Fitting.{is_null}
-use Rattle.gq_row.specs.Order.{compare_values}
+use Rattle.gq_row.specs.Order.{compare_values, same_value}
+use Rattle.gq_row.specs.Repeats.{without_repeats}
 
 -- the values that are not null
 abbrev pub present : List Value → List Value
 present values = filter (λ v. not (is_null v)) values
+
+-- how many different values there are, null left out
+abbrev pub different : List Value → ℕ
+different values = length (without_repeats same_value (present values))
 
 -- the number that a value adds to a sum
 abbrev pub number : Value → ℤ

@@ -1,6 +1,6 @@
 //! Laws: what the definitions come to, in the subject's own words. Each is the contract of a
 //! function that does nothing.
-ghost use Rattle.gq_agg.specs.Laws.{OrderIsUnseen, NullsAreUnseen, EndsAreReached};
+ghost use Rattle.gq_agg.specs.Laws.{OrderIsUnseen, NullsAreUnseen, EndsAreReached, DifferentAreCounted};
 
 /// The order in which values are added makes no difference to their aggregate.
 pub fn order_is_unseen()
@@ -15,4 +15,9 @@ pub fn nulls_are_unseen()
 /// The least and the greatest are among the values, and none is less, or greater.
 pub fn ends_are_reached()
     ensures { EndsAreReached }
+{}
+
+/// A value counts among the different ones unless it is null or the same as one before it.
+pub fn different_are_counted()
+    ensures { DifferentAreCounted }
 {}

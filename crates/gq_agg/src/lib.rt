@@ -21,9 +21,8 @@
 //! After adds of a list, [`Agg::adds`] is its length, and [`Agg::finish`] is `aggregate` of the
 //! list (`specs/Aggregates.antt`), or `SumRange` exactly where that has no value. The laws in
 //! [`laws`] say that the order of the list makes no difference, that nulls make none but to
-//! `CountAll`, and what the least and the greatest are.
-//!
-//! No command uses this crate yet.
+//! `CountAll`, what the least and the greatest are, and what the number of different values is,
+//! which no running aggregate keeps (`different` of `specs/Values.antt`).
 #![tactic(auto)]
 
 mod agg;

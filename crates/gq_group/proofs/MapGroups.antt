@@ -20,7 +20,7 @@ use Rattle.gq_row.specs.Order.{same_key}
 use Rattle.gq_row.specs.Repeats.{no_repeats}
 use Rattle.gq_row.specs.Rows.{key_of}
 use Rattle.gq_row.specs.Tables.{of_key}
-use Rattle.gq_row.proofs.ClassLemmas.{class_tells}
+use Rattle.gq_row.proofs.ClassLemmas.{class_tells, told_class}
 use Rattle.gq_row.proofs.DistinctLemmas.{one, counted_none, none_counted, no_repeats-without, any_without_repeats, at_most_once}
 use Rattle.gq_row.proofs.MovedLemmas.{IsPermutation-from_counts}
 use Rattle.gq_row.proofs.OrderLemmas.{same_key_exact, same_key_itself, same_key_equiv}
@@ -83,6 +83,9 @@ no_rows_of by rows k none = told (list_any (same_key k) (map (key_of by) rows)) 
     told false e = none_of_key by rows k e
 
 -- ---- the map, with one row more
+
+pub classes_same : (a b : List Value) → same (class_of a) (class_of b) ≡ same_key a b
+classes_same a b = told_class (same (class_of a) (class_of b)) a b (λ h. same_is (class_of a) (class_of b) h, λ e. same_itself (class_of a) (class_of b) e)
 
 pub grouped-step : {H : Type 0} (spec : Spec) (rows : List (List Value)) (row : List Value) (old new : View (List Value) (List Running) H) → Grouped spec rows old
     → entries class_of new ≡ insert (entries class_of old) (class_of (key_of spec.by row)) (key_of spec.by row, tallies spec.aggs (of_key spec.by rows (key_of spec.by row) ++ row ∷ []))

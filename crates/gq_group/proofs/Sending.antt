@@ -70,7 +70,7 @@ sent-groups honest before now all m spec rows sent lists grouped =
     = ap (λ l. map (group_of spec rows) (keys_in l)) whole ∙ sent.finished spec rows (subst (AreTallied spec rows) whole (all_tallied spec rows m all grouped lists)) in
     (sent.out, subst (IsPermutation (groups spec rows)) finished (by_entries spec rows m all grouped lists), sent.told)
 
-none_out : (out : List Group) → list_any (λ g. list_any is_none g.1) (map answered out) ≡ false
+pub none_out : (out : List Group) → list_any (λ g. list_any is_none g.1) (map answered out) ≡ false
 none_out [] = refl
 none_out (g ∷ out) = ap (λ b. b || list_any (λ x. list_any is_none x.1) (map answered out)) (none_in g.1) ∙ none_out out
   where

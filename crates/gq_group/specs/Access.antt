@@ -1,6 +1,8 @@
 -- What sources and sinks do with the run store that they share.
 use Rattle.std.specs.Prelude.{◌≡◌, ◌≤◌, ◌<◌, ◌||◌, ℕ, Bool, false, IsTrue}
 use Rattle.gq_spill.specs.Runs.{Runs, SameRun}
+use Rattle.gq_spill.specs.declared.spill_refusal.SpillRefusal.{SpillRefusal}
+use Rattle.gq_spill.specs.declared.spill_refusal.SpillRefusal.TheVariants as spill
 use Rattle.gq_group.specs.declared.refusal.Refusal.{Refusal}
 use Rattle.gq_group.specs.declared.refusal.Refusal.TheVariants.{SumRange, Memory, StoreFault, Damaged}
 
@@ -37,6 +39,12 @@ HasCause Memory old new = Unit {0}
 HasCause StoreFault old new = old.failures < new.failures
 HasCause Damaged old new = IsTrue old.honest → ⊥
 HasCause SumRange old new = ⊥
+
+-- what the refusal of a run's writer or reader is told as
+abbrev pub refused_as : SpillRefusal → Refusal
+refused_as spill.Memory = Memory
+refused_as spill.StoreFault = StoreFault
+refused_as spill.Damaged = Damaged
 
 -- why a grouping refuses; why it answers that a sum is out of range is said by a clause of its own
 abbrev pub GroupCause : Refusal → Runs → Runs → Type 0

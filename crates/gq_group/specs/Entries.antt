@@ -1,5 +1,5 @@
 -- Groups in a map: each key with the running aggregates of its rows.
-use Rattle.std.specs.Prelude.{◌≡◌, ◌++◌, ℕ, Bool, IsTrue, List, length, map, if◌then◌else◌, Option, Some, None}
+use Rattle.std.specs.Prelude.{◌≡◌, ◌++◌, ℕ, Bool, IsTrue, List, map, if◌then◌else◌, Option, Some, None}
 use Rattle.std.specs.FinMap.{get}
 use Rattle.std.specs.List.{AllByRecursion, list_any}
 use Rattle.sw_table.specs.View.{View}
@@ -31,20 +31,6 @@ Grouped spec rows m = (key : List Value) → get (entries class_of m) (class_of 
 -- each entry has the running aggregates of the rows of its key
 abbrev pub AreTallied : Spec → List (List Value) → List Pair → Type 0
 AreTallied spec rows pairs = AllByRecursion (λ (p : Pair). p.1 ≡ tallies spec.aggs (of_key spec.by rows p.0)) pairs
-
--- Rows were taken and grouped. Over an honest store they are the first of those that were there, and gives says what is left.
-pub record Took {H : Type 0} (spec : Spec) (honest : Bool) (before gives : List (List Value) → Type 0) (count : ℕ) (grouping : View (List Value) (List Running) H) : Type 0 where
-  pub done : List (List Value)
-  pub grouped : Grouped spec done grouping
-  pub counted : length done ≡ count
-  pub rest : IsTrue honest → (rows : List (List Value)) → before rows → (left : List (List Value)) × (rows ≡ done ++ left) × gives left
-
--- the same, where nothing is left
-pub record TookAll {H : Type 0} (spec : Spec) (honest : Bool) (before : List (List Value) → Type 0) (count : ℕ) (grouping : View (List Value) (List Running) H) : Type 0 where
-  pub done : List (List Value)
-  pub grouped : Grouped spec done grouping
-  pub counted : length done ≡ count
-  pub all : IsTrue honest → (rows : List (List Value)) → before rows → rows ≡ done
 
 -- Some entries are left, and the groups of the others went to a sink.
 pub record Sent (honest : Bool) (before now : List Group → Type 0) (all left : List Pair) : Type 0 where

@@ -1,5 +1,5 @@
 -- What the groups of some rows are.
-use Rattle.std.specs.Prelude.{◌||◌, ◌&&◌, ℕ, Bool, true, false, List, [], ◌∷◌, length, map, nat_lt, Option, Some, None, IsPermutation}
+use Rattle.std.specs.Prelude.{◌≡◌, ◌||◌, ◌&&◌, ℕ, All, Bool, true, false, List, [], ◌∷◌, length, map, nat_lt, Option, Some, None, IsPermutation}
 use Rattle.std.specs.List.{list_all, list_any}
 use Rattle.gq_row.specs.declared.value.Value.{Value}
 use Rattle.gq_row.specs.Rows.{cell}
@@ -78,3 +78,8 @@ fits_spec spec row = has_columns spec.by row && list_all (fits_cell row) spec.ag
 
 abbrev pub all_fit : Spec → List (List Value) → Bool
 all_fit spec rows = list_all (fits_spec spec) rows
+
+-- rows are all of one length
+abbrev pub OneWidth : List (List Value) → Type 0
+OneWidth [] = Unit {0}
+OneWidth (row ∷ rows) = All (λ other. length other ≡ length row) rows

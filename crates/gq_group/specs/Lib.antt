@@ -1,4 +1,13 @@
 pub mod Access
+pub mod Distinct
 pub mod Entries
 pub mod Groups
-pub mod Handing
+pub mod Levels
+pub mod Phases
+pub mod Piles
+pub mod Readings
+pub mod Residents
+pub mod RunSources
+pub mod Slots
+pub mod Stacks
+pub mod Work

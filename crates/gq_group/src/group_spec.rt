@@ -57,7 +57,7 @@ impl GroupSpec {
     }
 }
 
-fn has_columns(columns: &[usize], row: &Row) -> bool
+pub(crate) fn has_columns(columns: &[usize], row: &Row) -> bool
     ensures { result ≡ columns_there columns.now row.now }
 {
     columns.iter().all(|column| *column < row.len())

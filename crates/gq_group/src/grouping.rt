@@ -1,9 +1,13 @@
 //! Groups of the rows of a source.
-ghost use Rattle.std.specs.Prelude.{◌≡◌, ◌+◌, ◌≤◌, ◌^◌, ◌++◌, [], true, false, List, length, IsTrue, IfOk, OnOk, IfErr, IsErrOf};
+ghost use Rattle.std.specs.Prelude.{◌≡◌, ◌+◌, ◌≤◌, ◌^◌, ◌++◌, [], ℕ, true, false, List, length, IsTrue, IfOk, OnOk, IfErr, IsErrOf};
+ghost use Rattle.std.specs.FinMap.{len};
+ghost use Rattle.sw_table.specs.Entries.{entries};
 ghost use Rattle.gq_row.specs.declared.value.Value.{Value as Cell};
+ghost use Rattle.gq_row.specs.Classes.{class_of};
 ghost use Rattle.gq_group.specs.Access.{Apart, either, LeavesOthers, HasCause, GroupCause};
-ghost use Rattle.gq_group.specs.Entries.{Grouped, TookAll};
-ghost use Rattle.gq_group.specs.Groups.{Spec, Group, keys_of, Pushes, all_fit, out_of_range};
+ghost use Rattle.gq_group.specs.Entries.{Grouped};
+ghost use Rattle.gq_group.specs.Groups.{Spec, Group, keys_of, Pushes, all_fit, out_of_range, OneWidth};
+ghost use Rattle.gq_group.specs.Work.{Spills};
 
 use crate::aggs::Aggs;
 use crate::budget::Budget;
@@ -11,7 +15,8 @@ use crate::group_sink::GroupSink;
 use crate::group_spec::GroupSpec;
 use crate::refusal::Refusal;
 use crate::row_source::RowSource;
-use crate::table::{add_row, start_table};
+use crate::slot::discard_all;
+use crate::stack::group_levels;
 use gq_row::Key;
 use gq_spill::RunStore;
 use std::alloc::Global;
@@ -31,57 +36,21 @@ pub struct Spent {
     pub runs: u64,
 }
 
-// Groups all rows of the source.
-fn take_rows<H: KeyHash<Key> + Copy, S: RunStore, R: RowSource<S>>(
-    alloc: Global,
-    spec: &GroupSpec,
-    source: &mut R,
-    store: &mut S,
-    map: &mut FlatMap<Key, Aggs, H>,
-) -> Result<u64, Refusal>
-    requires source { R.is_ready source.old (S.runs store.old) }
-    requires few { R.bound source.old ≤ 2 ^ 31 }
-    requires rows { IsTrue (S.runs store.old).honest → (rows : List (List Cell)) →
-        R.gives source.old (S.runs store.old) rows → IsTrue (all_fit spec.now rows) }
-    requires start { Grouped spec.now [] map.old }
-    ensures took { IfOk result (λ count. TookAll spec.now (S.runs store.old).honest (R.gives
-        source.old (S.runs store.old)) count map.new) }
-    ensures source { OnOk result (R.is_ready source.new (S.runs store.new)) }
-    ensures others { LeavesOthers (R.owns source.old) (R.owns source.new) (S.runs store.old)
-        (S.runs store.new) }
-    ensures made { R.makes_runs ≡ false → (S.runs store.new).made ≡ (S.runs store.old).made }
-    ensures cause { IfErr result (λ e. HasCause e (S.runs store.old) (S.runs store.new)) }
-{
-    let mut count: u64 = 0;
-    'rows: loop {
-        let Some(row) = source.next(store)? else {
-            break;
-        };
-        if !spec.fits(&row) {
-            return Err(Refusal::Damaged);
-        }
-        let Ok(()) = add_row(alloc, spec, &row, map) else {
-            return Err(Refusal::Memory);
-        };
-        count += 1;
-    }
-    Ok(count)
-}
-
 // Sends all groups to the sink, each as its entry leaves the map.
-fn push_all<H: KeyHash<Key> + Copy, S: RunStore, K: GroupSink<S>>(
+pub(crate) fn push_all<H: KeyHash<Key> + Copy, S: RunStore, K: GroupSink<S>>(
     alloc: Global,
     map: FlatMap<Key, Aggs, H>,
     sink: &mut K,
     store: &mut S,
 ) -> Result<u64, Refusal>
     requires sink { K.is_ready sink.old (S.runs store.old) }
-    ensures groups { IsTrue (S.runs store.old).honest →
-        OnOk result ((spec : Spec) (rows : List (List Cell)) → Grouped spec rows map →
-        (before : List Group) → K.holds sink.old (S.runs store.old) before
-        → Pushes spec rows (λ out. K.holds sink.new (S.runs store.new) (before ++ out))) }
+    ensures sent { OnOk result ((spec : Spec) (rows : List (List Cell)) → Grouped spec rows map →
+        Pushes spec rows (λ out. IsTrue (S.runs store.old).honest → (before : List Group) →
+        K.holds sink.old (S.runs store.old) before →
+        K.holds sink.new (S.runs store.new) (before ++ out))) }
     ensures count { IfOk result (λ n. (spec : Spec) (rows : List (List Cell)) →
         Grouped spec rows map → n ≡ length (keys_of spec.by rows)) }
+    ensures entries { IfOk result (λ n. n ≡ len (entries class_of map)) }
     ensures no_overflow { OnOk result ((spec : Spec) (rows : List (List Cell)) →
         Grouped spec rows map → out_of_range spec rows ≡ false) }
     ensures overflow { IsErrOf result Refusal.SumRange →
@@ -106,8 +75,11 @@ fn push_all<H: KeyHash<Key> + Copy, S: RunStore, K: GroupSink<S>>(
 
 /// The groups of the source's rows, one for each of their keys, pushed to the sink in some order.
 ///
-/// A refusal leaves the source behind some of its rows, and the sink with some of the groups. All
-/// groups are kept in one map yet, whatever the budget, so no row is written and no run is made.
+/// At most the budget's number of groups is kept in memory at once. Rows of keys that have no place
+/// there are written to runs, and each run is read in the same way; the runs are discarded whatever
+/// the outcome. A refusal leaves the source behind some of its rows, and the sink with some of the
+/// groups. A row that has no record, since its values take 2^32 bytes or more, is refused with
+/// `Memory` where it is to be written.
 pub fn group<H: KeyHash<Key> + Copy, S: RunStore, R: RowSource<S>, K: GroupSink<S>>(
     alloc: Global,
     hasher: H,
@@ -123,6 +95,8 @@ pub fn group<H: KeyHash<Key> + Copy, S: RunStore, R: RowSource<S>, K: GroupSink<
     requires few { R.bound source.old ≤ 2 ^ 31 }
     requires rows { IsTrue (S.runs store.old).honest → (rows : List (List Cell)) →
         R.gives source.old (S.runs store.old) rows → IsTrue (all_fit spec.now rows) }
+    requires widths { IsTrue (S.runs store.old).honest → (rows : List (List Cell)) →
+        R.gives source.old (S.runs store.old) rows → OneWidth rows }
     ensures groups { IsTrue (S.runs store.old).honest →
         OnOk result ((rows : List (List Cell)) → R.gives source.old (S.runs store.old) rows
         → (before : List Group) → K.holds sink.old (S.runs store.old) before
@@ -131,6 +105,8 @@ pub fn group<H: KeyHash<Key> + Copy, S: RunStore, R: RowSource<S>, K: GroupSink<
         IfOk result (λ spent. (rows : List (List Cell)) →
         R.gives source.old (S.runs store.old) rows
         → (spent.rows_read ≡ length rows) × (spent.groups ≡ length (keys_of spec.now.by rows))) }
+    ensures spills { IsTrue (S.runs store.old).honest →
+        IfOk result (λ spent. Spills budget.entries spent) }
     ensures no_overflow { IsTrue (S.runs store.old).honest →
         OnOk result ((rows : List (List Cell)) → R.gives source.old (S.runs store.old) rows →
         out_of_range spec.now rows ≡ false) }
@@ -141,20 +117,17 @@ pub fn group<H: KeyHash<Key> + Copy, S: RunStore, R: RowSource<S>, K: GroupSink<
         IfOk result (λ spent. (S.runs store.new).made ≡ (S.runs store.old).made + spent.runs) }
     ensures others { LeavesOthers (either (R.owns source.old) (K.owns sink.old)) (either
         (R.owns source.new) (K.owns sink.new)) (S.runs store.old) (S.runs store.new) }
+    ensures read { IfOk result (λ spent. spent.rows_read ≤ R.bound source.old) }
+    ensures apart { Apart (R.owns source.new) (K.owns sink.new) }
+    ensures grows_source { (run : ℕ) → IsTrue (R.owns source.old run) →
+        IsTrue (R.owns source.new run) }
+    ensures grows_sink { (run : ℕ) → IsTrue (K.owns sink.old run) → IsTrue (K.owns sink.new run) }
     ensures source { OnOk result (R.is_ready source.new (S.runs store.new)) }
     ensures sink { OnOk result (K.is_ready sink.new (S.runs store.new)) }
     ensures cause { IfErr result (λ e. GroupCause e (S.runs store.old) (S.runs store.new)) }
 {
-    let _ = budget;
-    let Ok(mut map) = start_table(alloc, hasher, spec) else {
-        return Err(Refusal::Memory);
-    };
-    let rows_read = take_rows(alloc, spec, source, store, &mut map)?;
-    let groups = push_all(alloc, map, sink, store)?;
-    Ok(Spent {
-        rows_read,
-        rows_written: 0,
-        groups,
-        runs: 0,
-    })
+    let mut stack = Vec::new(alloc);
+    let outcome = group_levels(alloc, hasher, spec, source, sink, store, budget, &mut stack);
+    discard_all(stack, store);
+    outcome
 }

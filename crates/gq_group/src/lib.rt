@@ -16,32 +16,57 @@
 //! its class. A group's aggregates stand in its entry, up to two of them without memory of their
 //! own.
 //!
+//! [`group_distinct`] pushes, for each key, how many different values its rows have in a column,
+//! nulls left out. It goes through [`group`] twice: it groups the rows by the key and the value
+//! behind it, into a run of these pairs, null values too, so that each key has one pair at least; then
+//! it groups that run by the key, and counts the values that are not null.
+//!
+//! # Rows of other keys
+//!
+//! At most the budget's number of groups is kept in memory at once. A row whose key has no group there
+//! and no place for one goes to a run of the store: to one of sixteen, by four bits of its key's hash,
+//! where a run is begun when its first row comes. When the rows are read the groups go to the sink, and
+//! then each run is read in the same way, by the next four bits; from the fifth reading of a row on,
+//! one run takes all rows of other keys. The runs that wait stand on a stack, whose places are there
+//! before a reading begins, and no function calls itself. A run is discarded when it was read, and all
+//! that are left whatever the outcome.
+//!
 //! # The contract above this crate
 //!
 //! Over an honest store: where [`group`] succeeds, the sink has the groups of the source's rows
 //! more, in some order (`groups` of `specs/Groups.antt`), and the counts are those of rows and
 //! groups; it answers `SumRange` only where some sum is out of range, and succeeds only where none
-//! is. Over every store: the runs of others are as they were, whatever the outcome, and it refuses
-//! for a cause.
+//! is. Rows are written and runs are made exactly where there are more groups than the budget, and how
+//! many is bounded by the numbers of rows and groups (`Spills` of `specs/Work.antt`). Where
+//! [`group_distinct`] succeeds, the sink has the counts of different values more, in some order
+//! (`distinct_groups` of `specs/Distinct.antt`), and the counts of rows and groups are right; it never
+//! answers `SumRange`. Over every store: the runs of others are as they were, whatever the outcome, no
+//! run is left behind, and both refuse for a cause.
 //!
-//! All groups are kept in one map yet, whatever the budget, and no run is made. So nothing is said
-//! yet of the number of rows written and of runs, nor that at most the budget's number of groups is
-//! kept at once: these clauses come with the runs. Rows that can be written to a run, and are all
-//! of one length, will be asked for then. Counts of different values (`group_distinct`), and a
-//! command that uses this crate, are still to come.
+//! Over an honest store the rows of a source are all of one length, since a run is read by the number
+//! of its columns. That a table holds at most the budget's number of groups is an invariant of its type
+//! (`ResidentTable`), whatever the store and the hasher.
 #![tactic(auto)]
 
 mod aggs;
 mod budget;
+mod distinct;
 mod group_sink;
 mod group_spec;
 mod grouping;
+mod key_run;
+mod level;
 mod refusal;
+mod resident_table;
 mod row_source;
+mod run_source;
+mod slot;
+mod stack;
 mod table;
 
 pub use aggs::Aggs;
 pub use budget::Budget;
+pub use distinct::group_distinct;
 pub use group_sink::GroupSink;
 pub use group_spec::GroupSpec;
 pub use grouping::{Spent, group};

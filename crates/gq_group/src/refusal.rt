@@ -1,4 +1,8 @@
 //! Why rows are not grouped.
+ghost use Rattle.std.specs.Prelude.{◌≡◌};
+ghost use Rattle.gq_group.specs.Access.{refused_as};
+
+use gq_spill::SpillRefusal;
 use thiserror::Error;
 
 /// Why rows could not be grouped.
@@ -16,4 +20,17 @@ pub enum Refusal {
     /// The store did not read back what was written.
     #[error("a run is damaged")]
     Damaged,
+}
+
+impl Refusal {
+    // What the refusal of a run's writer or reader is told as.
+    pub(crate) fn of(why: SpillRefusal) -> Refusal
+        ensures { result ≡ refused_as why }
+    {
+        match why {
+            SpillRefusal::Memory => Refusal::Memory,
+            SpillRefusal::StoreFault => Refusal::StoreFault,
+            SpillRefusal::Damaged => Refusal::Damaged,
+        }
+    }
 }

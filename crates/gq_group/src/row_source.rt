@@ -3,7 +3,7 @@ ghost use Rattle.std.specs.Prelude.{◌≡◌, ◌+◌, ◌≤◌, ℕ, Bool, fa
 ghost use Rattle.gq_spill.specs.Runs.{Runs};
 ghost use Rattle.gq_row.specs.declared.value.Value.{Value as Cell};
 ghost use Rattle.gq_group.specs.Access.{RunSet, LeavesOthers, KeepsOwn, HasCause};
-ghost use Rattle.gq_group.specs.Handing.{Gave, taken};
+ghost use Rattle.gq_spill.specs.Handing.{Gave, taken};
 
 use crate::refusal::Refusal;
 use gq_row::Row;

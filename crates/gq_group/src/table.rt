@@ -1,6 +1,6 @@
 //! Groups in a map.
-ghost use Rattle.std.specs.Prelude.{◌≡◌, ◌<◌, ◌^◌, ◌++◌, ◌∷◌, [], List, length, IsTrue, IfOk, OnOk};
-ghost use Rattle.std.specs.FinMap.{insert, empty};
+ghost use Rattle.std.specs.Prelude.{◌≡◌, ◌<◌, ◌≤◌, ◌^◌, ◌++◌, ◌∷◌, [], List, length, IsTrue, IfOk, OnOk, OnErr};
+ghost use Rattle.std.specs.FinMap.{insert, empty, len};
 ghost use Rattle.sw_table.specs.Entries.{entries};
 ghost use Rattle.sw_table.specs.LaidOut.{hash_by};
 ghost use Rattle.sw_flat.specs.Vacancies.{IsVacancy};
@@ -12,9 +12,9 @@ ghost use Rattle.gq_group.specs.Groups.{fits_spec};
 
 use crate::aggs::Aggs;
 use crate::group_spec::GroupSpec;
-use gq_row::{Key, KeyRef, Row};
+use gq_row::{Key, Row};
 use std::alloc::{AllocError, Global};
-use sw_flat::{Entry, FlatMap, Vacancy};
+use sw_flat::{FlatMap, Vacancy};
 use sw_probe::KeyHash;
 
 // The groups of no row: without columns to group by there is that of the empty key.
@@ -23,7 +23,9 @@ pub(crate) fn start_table<H: KeyHash<Key> + Copy>(
     hasher: H,
     spec: &GroupSpec,
 ) -> Result<FlatMap<Key, Aggs, H>, AllocError>
-    ensures { IfOk result (λ map. Grouped spec.now [] map) }
+    ensures grouped { IfOk result (λ map. Grouped spec.now [] map) }
+    ensures few { IfOk result (λ map. len (entries class_of map) ≤ 1) }
+    ensures hasher { IfOk result (λ map. map.hasher ≡ hasher) }
 {
     if spec.by().is_empty() {
         return start_alone(alloc, hasher, spec);
@@ -37,10 +39,11 @@ fn start_alone<H: KeyHash<Key> + Copy>(
     hasher: H,
     spec: &GroupSpec,
 ) -> Result<FlatMap<Key, Aggs, H>, AllocError>
-    ensures { IfOk result (λ map. entries class_of map ≡ insert empty (class_of []) (
+    ensures entries { IfOk result (λ map. entries class_of map ≡ insert empty (class_of []) (
       [],
       tallies spec.now.aggs [],
     )) }
+    ensures hasher { IfOk result (λ map. map.hasher ≡ hasher) }
 {
     let mut map = FlatMap::new(alloc, hasher);
     let key = Key::of(alloc, &Row::new(Vec::new(alloc)), &[])?;
@@ -51,27 +54,8 @@ fn start_alone<H: KeyHash<Key> + Copy>(
     Ok(map)
 }
 
-// Groups one row more: one look-up, by one hash, tells its group.
-pub(crate) fn add_row<H: KeyHash<Key> + Copy>(
-    alloc: Global,
-    spec: &GroupSpec,
-    row: &Row,
-    map: &mut FlatMap<Key, Aggs, H>,
-) -> Result<(), AllocError>
-    requires fits { IsTrue (fits_spec spec.now row.now) }
-    requires grouped { (rows : List (List Cell)) × (length rows < 2 ^ 32) × Grouped spec.now
-        rows map.old }
-    ensures { OnOk result ((rows : List (List Cell)) → Grouped spec.now rows map.old →
-        Grouped spec.now (rows ++ row.now ∷ []) map.new) }
-{
-    match map.entry(&KeyRef::new(row, spec.by())) {
-        Entry::Occupied(slot) => map.value_mut(slot).add(spec.aggs(), row),
-        Entry::Vacant(vacancy) => add_group(alloc, spec, row, vacancy, map),
-    }
-}
-
 // Adds the group of a row whose key no row before it has.
-fn add_group<H: KeyHash<Key> + Copy>(
+pub(crate) fn add_group<H: KeyHash<Key> + Copy>(
     alloc: Global,
     spec: &GroupSpec,
     row: &Row,
@@ -81,12 +65,14 @@ fn add_group<H: KeyHash<Key> + Copy>(
     requires fits { IsTrue (fits_spec spec.now row.now) }
     requires vacant { IsVacancy class_of (hash_by H.hash_of bytes_of map.old.hasher) map.old
         (class_of (key_of spec.now.by row.now)) vacancy }
-    ensures { OnOk result (entries class_of map.new ≡ insert (entries class_of map.old)
+    ensures entries { OnOk result (entries class_of map.new ≡ insert (entries class_of map.old)
         (class_of (key_of spec.now.by row.now)) (
           key_of spec.now.by row.now,
           tallies
               spec.now.aggs (row.now ∷ []),
         )) }
+    ensures hasher { map.new.hasher ≡ map.old.hasher }
+    ensures err { OnErr result (map.new ≡ map.old) }
 {
     let key = Key::of(alloc, row, spec.by())?;
     let mut aggs = Aggs::start(alloc, spec.aggs())?;

@@ -1,13 +1,14 @@
 //! Groups of rows.
-ghost use Rattle.std.specs.Prelude.{◌≡◌};
-ghost use Rattle.gq_group.specs.Groups.{all_fit};
+ghost use Rattle.std.specs.Prelude.{◌≡◌, ◌==◌, IsTrue, length};
+ghost use Rattle.std.specs.List.{list_all};
+ghost use Rattle.gq_group.specs.Groups.{all_fit, OneWidth};
 
 use crate::list_sink::ListSink;
 use crate::list_source::ListSource;
 use gq_agg::AggKind;
 use gq_group::{Budget, GroupSpec, Refusal, Spent, group};
 use gq_row::{Key, Row, Text, Value};
-use gq_spill::MemStore;
+use gq_spill::{MemStore, RunStore};
 use std::alloc::{AllocError, Global};
 use std::collections::VecDeque;
 use std::test::Fail;
@@ -15,9 +16,9 @@ use sw_probe::{Constant, Fnv1a, KeyHash, LowBits};
 
 /// What a grouping answers.
 #[derive(Drop)]
-struct Answer {
-    spent: Spent,
-    groups: Vec<String>,
+pub(crate) struct Answer {
+    pub(crate) spent: Spent,
+    pub(crate) groups: Vec<String>,
 }
 
 fn fit(spec: &GroupSpec, rows: &VecDeque<Row>) -> bool
@@ -26,17 +27,48 @@ fn fit(spec: &GroupSpec, rows: &VecDeque<Row>) -> bool
     rows.iter().all(|row| spec.fits(row))
 }
 
-/// The groups of some rows, spelled out, in the order of their spellings.
+// Whether rows are all of this length.
+fn are_long(columns: usize, rows: &VecDeque<Row>) -> bool
+    ensures { result ≡ list_all (λ row. length row == columns) rows.now.items }
+{
+    rows.iter().all(|row| row.len() == columns)
+}
+
+/// Whether rows are all as long as the first.
+#[tactic(auto, using(gq_group::proofs::Widths::width_told))]
+pub(crate) fn are_even(rows: &VecDeque<Row>) -> bool
+    ensures { IsTrue result → OneWidth rows.now.items }
+{
+    let columns = match rows.front() {
+        Some(row) => row.len(),
+        None => 0,
+    };
+    are_long(columns, rows)
+}
+
+/// The groups of some rows within a budget of two, spelled out, in the order of their spellings.
 fn grouped<H: KeyHash<Key> + Copy>(
     alloc: Global,
     hasher: H,
     spec: &GroupSpec,
     rows: VecDeque<Row>,
 ) -> Result<Answer, Refusal> {
+    let mut store = MemStore::new(alloc);
+    grouped_over(alloc, hasher, spec, rows, &mut store)
+}
+
+/// The same over a store.
+pub(crate) fn grouped_over<H: KeyHash<Key> + Copy, S: RunStore>(
+    alloc: Global,
+    hasher: H,
+    spec: &GroupSpec,
+    rows: VecDeque<Row>,
+    store: &mut S,
+) -> Result<Answer, Refusal> {
     let Some(budget) = Budget::new(2) else {
         return Err(Refusal::Memory);
     };
-    if rows.len() > 1_000_000 || !fit(spec, &rows) {
+    if rows.len() > 1_000_000 || !fit(spec, &rows) || !are_even(&rows) {
         return Err(Refusal::Damaged);
     }
     let mut source = ListSource { rows };
@@ -44,16 +76,7 @@ fn grouped<H: KeyHash<Key> + Copy>(
         alloc,
         groups: Vec::new(alloc),
     };
-    let mut store = MemStore::new(alloc);
-    let spent = group(
-        alloc,
-        hasher,
-        spec,
-        &mut source,
-        &mut sink,
-        &mut store,
-        budget,
-    )?;
+    let spent = group(alloc, hasher, spec, &mut source, &mut sink, store, budget)?;
     let ListSink { mut groups, .. } = sink;
     if groups.sort().is_err() {
         return Err(Refusal::Memory);
@@ -62,7 +85,7 @@ fn grouped<H: KeyHash<Key> + Copy>(
 }
 
 /// What came of a grouping: how many rows and groups there were, and then each group.
-fn told(alloc: Global, found: Result<Answer, Refusal>) -> Result<String, AllocError> {
+pub(crate) fn told(alloc: Global, found: Result<Answer, Refusal>) -> Result<String, AllocError> {
     let mut out = String::new(alloc);
     match found {
         Ok(answer) => {
@@ -81,16 +104,18 @@ fn told(alloc: Global, found: Result<Answer, Refusal>) -> Result<String, AllocEr
 
 /// Some rows.
 #[derive(Clone, Copy)]
-enum Rows {
+pub(crate) enum Rows {
     None,
     Worked,
+    Shared,
+    NullsAlone,
     NullsAndEmptyTexts,
     PastTheEdge,
     AtTheEdge,
     Remainders,
 }
 
-fn row(alloc: Global, values: &[Option<i64>]) -> Result<Row, AllocError> {
+pub(crate) fn row(alloc: Global, values: &[Option<i64>]) -> Result<Row, AllocError> {
     let mut cells = Vec::new(alloc);
     for value in values {
         cells.push(match value {
@@ -109,7 +134,7 @@ fn named(alloc: Global, n: i64, name: Option<&str>) -> Result<Row, AllocError> {
     Ok(Row::new(vec![in alloc; Value::Int(n), name]?))
 }
 
-fn rows_of(alloc: Global, rows: Rows) -> Result<VecDeque<Row>, AllocError> {
+pub(crate) fn rows_of(alloc: Global, rows: Rows) -> Result<VecDeque<Row>, AllocError> {
     let mut list = VecDeque::new(alloc);
     match rows {
         Rows::None => {}
@@ -121,6 +146,16 @@ fn rows_of(alloc: Global, rows: Rows) -> Result<VecDeque<Row>, AllocError> {
                 [Some(2), Some(7)],
             ] {
                 list.push_back(row(alloc, &values)?)?;
+            }
+        }
+        Rows::Shared => {
+            for values in [[1, 5], [2, 5], [1, 5], [2, 6]] {
+                list.push_back(row(alloc, &[Some(values[0]), Some(values[1])])?)?;
+            }
+        }
+        Rows::NullsAlone => {
+            for n in [1, 1, 2] {
+                list.push_back(row(alloc, &[Some(n), None])?)?;
             }
         }
         Rows::NullsAndEmptyTexts => {
@@ -152,7 +187,11 @@ fn rows_of(alloc: Global, rows: Rows) -> Result<VecDeque<Row>, AllocError> {
     Ok(list)
 }
 
-fn spec(alloc: Global, by: &[usize], aggs: &[(AggKind, usize)]) -> Result<GroupSpec, AllocError> {
+pub(crate) fn spec(
+    alloc: Global,
+    by: &[usize],
+    aggs: &[(AggKind, usize)],
+) -> Result<GroupSpec, AllocError> {
     Ok(GroupSpec::new(Vec::from_slice(alloc, by)?, Vec::from_slice(alloc, aggs)?))
 }
 

@@ -1,16 +1,25 @@
-//! Tests of running aggregates, of a run store in memory, and of groups: worked examples whose
-//! answers were written by hand, under hashers that spread keys and hashers that do not.
+//! Tests of running aggregates, of groups, and of conditions, matches and different keys: worked
+//! examples whose answers were written by hand, under hashers that spread keys and hashers that do
+//! not, and groups over stores in which one call goes wrong.
 #![tactic(auto)]
 
 #[cfg(test)]
 mod aggregates;
 #[cfg(test)]
+mod conditions;
+#[cfg(test)]
+mod distinct;
+#[cfg(test)]
+mod distinct_keys;
+#[cfg(test)]
 mod groups;
+#[cfg(test)]
+mod joins;
 #[cfg(test)]
 mod list_sink;
 #[cfg(test)]
 mod list_source;
 #[cfg(test)]
-mod runs;
-#[cfg(test)]
 mod spelled;
+#[cfg(test)]
+mod troubled;

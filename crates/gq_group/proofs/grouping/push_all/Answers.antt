@@ -31,11 +31,11 @@ entries-preserved g c = record {
   made = λ none. c.in_ok-push.ensures.made none ∙ c.entries.invariant.made none;
 }
 
-pub returns-clause-groups : goal.returns-clause-groups
-returns-clause-groups g c = λ h spec rows grouped before b.
+pub returns-clause-sent : goal.returns-clause-sent
+returns-clause-sent g c = λ spec rows grouped.
     let sent = rw c.in_default.ensures.end.0 at c.entries.invariant.sent in
     let it = sent-groups _ _ _ (filled c.args.map.places) c.args.map spec rows sent c.keys.ensures.all grouped in
-    (it.0, it.1, it.2 h before b)
+    (it.0, it.1, it.2)
 
 pub returns-clause-count : goal.returns-clause-count
 returns-clause-count g c = λ spec rows grouped. c.len-groups.ensures ∙ sym c.keys.ensures.all.once ∙ count_groups (filled c.args.map.places) c.args.map spec rows c.keys.ensures.all grouped

@@ -1,0 +1,153 @@
+-- Rows are read and placed, one after the other.
+use Rattle.std.proofs.Common.{◌≡◌, ◌<◌, ◌+◌, ◌++◌, ◌==◌, ℕ, zero, suc, Bool, false, List, [], ◌∷◌, length, refl, sym, ap, subst, ◌∙◌, arith, ◌||◌, inl, inr, append_assoc, length-append, cond}
+use Rattle.std.specs.Prelude.{IsTrue}
+use Rattle.std.specs.List.{sum_by}
+use Rattle.std.proofs.lemmas.List.Sums.{sum_by-cons}
+use Rattle.std.proofs.lemmas.Bool.Decides.{nat_tests}
+use Rattle.sw_table.specs.View.{View}
+use Rattle.gq_row.specs.declared.value.Value.{Value}
+use Rattle.gq_agg.specs.Running.{Running}
+use Rattle.gq_spill.specs.Runs.{Runs}
+use Rattle.gq_group.specs.Access.{RunSet, either, Apart, LeavesOthers, HasCause, GroupCause}
+use Rattle.gq_group.specs.Groups.{Spec}
+use Rattle.gq_group.specs.Levels.{one_if_some, lots}
+use Rattle.gq_group.specs.Readings.{Places, Reads, IsWide, left_lots}
+use Rattle.gq_group.specs.Residents.{Resident}
+use Rattle.gq_group.specs.Slots.{is_run, among, Separate, Ours, AllHeld, SlotHolds, AreEmpty}
+use Rattle.gq_group.specs.declared.slot.Slot.{Slot}
+use Rattle.gq_group.specs.declared.refusal.Refusal.{Refusal}
+use Rattle.gq_group.specs.declared.refusal.Refusal.TheVariants.{SumRange, Memory, StoreFault, Damaged}
+use Rattle.gq_group.proofs.AccessLemmas.{or_in, or_from, or_left, leaves-refl, leaves-both}
+use Rattle.gq_group.proofs.SlotLemmas.{not_both, none_there, both_none}
+
+-- what is apart from a step's runs, and was there, is apart from those that it has afterwards
+pub apart-step : (r s : Runs) (a b k : RunSet) → LeavesOthers a b r s → Apart k a → ((run : ℕ) → IsTrue (k run) → IsTrue (r.live run)) → Apart k b
+apart-step r s a b k step apart live run h = none_there (b run) (λ new. step.fresh run (apart run h) new (live run h))
+
+pub apart-flip : (a b : RunSet) → Apart a b → Apart b a
+apart-flip a b apart run h = none_there (a run) (λ i. not_both (b run) h (apart run i))
+
+pub ours-stays : (r s : Runs) (a b : RunSet) (slots : List Slot) → LeavesOthers a b r s → Ours slots r → Ours slots s
+ours-stays r s a b slots step ours = record { live = λ run h. step.live run (ours.live run h); separate = ours.separate }
+
+pub leaves-left : (a b k : RunSet) (r s : Runs) → LeavesOthers a b r s → LeavesOthers (either a k) (either b k) r s
+leaves-left a b k r s step = leaves-both a b k k r s s step (leaves-refl k s)
+
+pub cause-later : (e : Refusal) (a b : RunSet) (r s t : Runs) → LeavesOthers a b r s → HasCause e s t → HasCause e r t
+cause-later Memory a b r s t step h = tt
+cause-later StoreFault a b r s t step h = omega (arith, step.no_fewer_failures, h)
+cause-later Damaged a b r s t step h = λ honest. h (step.same_honest ∙ honest)
+cause-later SumRange a b r s t step h = h
+
+none-empty : (slots : List Slot) → AreEmpty slots → (run : ℕ) → among slots run ≡ false
+none-empty [] h run = refl
+none-empty (s ∷ slots) h run = ap (λ o. is_run o run || among slots run) h.0 ∙ none-empty slots h.1 run
+
+separate-empty : (slots : List Slot) → AreEmpty slots → Separate slots
+separate-empty [] h = tt
+separate-empty (s ∷ slots) h = (λ run i. none-empty slots h.1 run, separate-empty slots h.1)
+
+pub ours-empty : (slots : List Slot) (r : Runs) → AreEmpty slots → Ours slots r
+ours-empty slots r h = record { live = λ run i. absurd (not_both (among slots run) i (none-empty slots h run)); separate = separate-empty slots h }
+
+pub apart-empty : (slots : List Slot) (k : RunSet) → AreEmpty slots → Apart (among slots) k
+apart-empty slots k h run i = absurd (not_both (among slots run) i (none-empty slots h run))
+
+pub others-empty : (slots : List Slot) (a : RunSet) (r : Runs) → AreEmpty slots → LeavesOthers a (either a (among slots)) r r
+others-empty slots a r h =
+    let same = leaves-refl a r in
+    record {
+      others = λ run e. same.others run (or_left (a run) (among slots run) e);
+      grows = λ run i. or_from (a run) (among slots run) (inl i);
+      fresh = λ run e i l. elim (or_in (a run) (among slots run) i) [ inl x ↦ not_both (a run) x e | inr x ↦ not_both (among slots run) x (none-empty slots h run) ];
+      live = same.live;
+      same_honest = same.same_honest;
+      no_fewer_failures = same.no_fewer_failures;
+      no_fewer_made = same.no_fewer_made;
+    }
+
+held-empty : (r : Runs) (class : List Value → ℕ) (by : List ℕ) (q n : ℕ) (slots : List Slot) → length slots ≡ n → AreEmpty slots → AllHeld r slots (lots class by q n [])
+held-empty r class by q zero [] same h = tt
+held-empty r class by q (suc n) [] same h = absurd (omega arith)
+held-empty r class by q zero (s ∷ slots) same h = absurd (omega arith)
+held-empty r class by q (suc n) (s ∷ slots) same h = (subst (λ o. SlotHolds r o []) (sym h.0) refl, held-empty r class by (suc q) n slots (omega arith) h.1)
+
+lots-none : (class : List Value → ℕ) (by : List ℕ) (q n : ℕ) → sum_by one_if_some (lots class by q n []) ≡ 0
+lots-none class by q zero = refl
+lots-none class by q (suc n) = omega (arith, sum_by-cons one_if_some [] (lots class by (suc q) n []), lots-none class by (suc q) n)
+
+not_none : (n : ℕ) → 0 < n → (n == 0) ≡ false
+not_none n h = grind (arith, nat_tests)
+
+wide-step : (done : List (List Value)) (row : List Value) (count columns : ℕ) → length done ≡ count → IsWide columns done → IsWide (cond (count == 0) (length row) columns) (done ++ row ∷ [])
+wide-step [] row count columns counted wide = subst (λ n. length row ≡ cond (n == 0) (length row) columns) counted refl
+wide-step (d ∷ done) row count columns counted wide = wide ∙ ap (λ b. cond b (length row) columns) (sym (not_none count (omega (arith, counted))))
+
+module _ {H : Type 0} where
+  -- nothing was read so far
+  pub reads-none : (spec : Spec) (budget : ℕ) (class : List Value → ℕ) (n : ℕ) (honest : Bool) (before : List (List Value) → Type 0) (r : Runs) (m : View (List Value) (List Running) H) (slots : List Slot)
+      → Resident spec budget [] m → length slots ≡ n → AreEmpty slots → Reads spec budget class n honest before before r 0 0 0 0 m slots
+  reads-none spec budget class n honest before r m slots start same empty = record {
+    done = [];
+    counted = refl;
+    rest = λ h rows b. (rows, refl, b);
+    resident = start;
+    held = held-empty r class spec.by 0 n slots same empty;
+    wrote = refl;
+    began_runs = lots-none class spec.by 0 n;
+    wide = tt;
+  }
+
+  -- one row more was read and placed
+  pub reads-step : (spec : Spec) (budget : ℕ) (class : List Value → ℕ) (n : ℕ) (honest : Bool) (before now after : List (List Value) → Type 0) (r s t : Runs) (count written began columns w b : ℕ)
+      (m m' : View (List Value) (List Running) H) (slots slots' : List Slot) (row : List Value)
+      → Reads spec budget class n honest before now r count written began columns m slots
+      → (IsTrue honest → (rows : List (List Value)) → now rows → (rest : List (List Value)) × (rows ≡ row ∷ rest) × after rest)
+      → ((parts : List (List (List Value))) → AllHeld r slots parts → AllHeld s slots parts)
+      → Places spec budget class n row s t m m' slots slots' w b
+      → (wide : ℕ) → wide ≡ cond (count == 0) (length row) columns
+      → Reads spec budget class n honest before after t (count + 1) (written + w) (began + b) wide m' slots'
+  reads-step spec budget class n honest before now after r s t count written began columns w b m m' slots slots' row read next stays place wide is_wide =
+      let held : AllHeld s slots (left_lots spec class n read.done m) = stays (left_lots spec class n read.done m) read.held in
+      record {
+        done = read.done ++ row ∷ [];
+        counted = omega (arith, length-append read.done (row ∷ []), read.counted);
+        rest = λ h rows bef.
+            let left = read.rest h rows bef in
+            let more = next h left.0 left.2 in
+            (more.0, left.1 ∙ ap (λ l. read.done ++ l) more.1 ∙ sym (append_assoc read.done (row ∷ []) more.0), more.2);
+        resident = place.resident read.done read.resident;
+        held = place.held read.done read.resident held;
+        wrote = omega (arith, place.left read.done read.resident, read.wrote);
+        began_runs = omega (arith, place.runs read.done read.resident held, read.began_runs);
+        wide = subst (λ n. IsWide n (read.done ++ row ∷ [])) (sym is_wide) (wide-step read.done row count columns read.counted read.wide);
+      }
+
+  -- all were read
+  pub reads-end : (spec : Spec) (budget : ℕ) (class : List Value → ℕ) (n : ℕ) (honest : Bool) (before now : List (List Value) → Type 0) (r s : Runs) (count written began columns : ℕ) (m : View (List Value) (List Running) H) (slots : List Slot)
+      → Reads spec budget class n honest before now r count written began columns m slots
+      → (IsTrue honest → (rows : List (List Value)) → now rows → rows ≡ [])
+      → ((parts : List (List (List Value))) → AllHeld r slots parts → AllHeld s slots parts)
+      → Reads spec budget class n honest before (λ left. left ≡ []) s count written began columns m slots
+  reads-end spec budget class n honest before now r s count written began columns m slots read over stays = record {
+    done = read.done;
+    counted = read.counted;
+    rest = λ h rows bef. let left = read.rest h rows bef in (left.0, left.1, over h left.0 left.2);
+    resident = read.resident;
+    held = stays (left_lots spec class n read.done m) read.held;
+    wrote = read.wrote;
+    began_runs = read.began_runs;
+    wide = read.wide;
+  }
+
+pub leaves-empty : (slots : List Slot) (a k : RunSet) (r : Runs) → AreEmpty slots → LeavesOthers (either a k) (either (either a (among slots)) k) r r
+leaves-empty slots a k r h = leaves-left a (either a (among slots)) k r r (others-empty slots a r h)
+
+pub apart-either : (k a b : RunSet) → Apart k a → Apart k b → Apart k (either a b)
+apart-either k a b h i run own = both_none (a run) (b run) (h run own) (i run own)
+
+pub group_cause-later : (e : Refusal) (a b : RunSet) (r s t : Runs) → LeavesOthers a b r s → GroupCause e s t → GroupCause e r t
+group_cause-later Memory a b r s t step h = tt
+group_cause-later StoreFault a b r s t step h = omega (arith, step.no_fewer_failures, h)
+group_cause-later Damaged a b r s t step h = λ honest. h (step.same_honest ∙ honest)
+group_cause-later SumRange a b r s t step h = tt

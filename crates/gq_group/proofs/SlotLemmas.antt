@@ -1,0 +1,171 @@
+-- One slot of several is written to.
+use Rattle.std.proofs.Common.{◌≡◌, ◌<◌, ◌+◌, ◌++◌, ℕ, zero, suc, Bool, true, false, List, [], ◌∷◌, length, refl, sym, ◌∙◌, arith, ◌||◌, ◌⊎◌, inl, inr, get_or, set, Option, Some, None}
+use Rattle.std.specs.Prelude.{IsTrue}
+use Rattle.std.specs.List.{sum_by}
+use Rattle.std.proofs.lemmas.List.Sums.{sum_by-cons}
+use Rattle.gq_row.specs.declared.value.Value.{Value}
+use Rattle.gq_spill.specs.Runs.{Runs}
+use Rattle.gq_spill.specs.Writing.{Writing}
+use Rattle.gq_group.specs.Access.{RunSet, Apart, LeavesOthers, KeepsOwn}
+use Rattle.gq_group.specs.Levels.{one_if_some}
+use Rattle.gq_group.specs.RunSources.{wrote_stays, same_number}
+use Rattle.gq_group.specs.Slots.{is_run, among, Separate, Ours, SlotHolds, AllHeld, push_at}
+use Rattle.gq_group.specs.declared.slot.Slot.{Slot}
+use Rattle.gq_group.proofs.AccessLemmas.{keeps-apart, or_in, or_from}
+
+-- what others do doesn't matter to a run
+pub slot-stays : (r s : Runs) (held : Option Writing) (rows : List (List Value)) → KeepsOwn (is_run held) r s → ((run : ℕ) → IsTrue (is_run held run) → IsTrue (r.live run)) → SlotHolds r held rows → SlotHolds s held rows
+slot-stays r s None rows kept live h = h
+slot-stays r s (Some w) rows kept live h = record {
+  some = h.some;
+  count = h.count;
+  going = h.going;
+  wrote = λ honest.
+      let before : IsTrue r.honest = sym kept.same_honest ∙ honest in
+      wrote_stays w r s kept (live w.mark.id.number (same_number w.mark.id.number)) before rows (h.wrote before);
+}
+
+in_first : (b c : Bool) → IsTrue b → IsTrue (b || c)
+in_first b c h = or_from b c (inl h)
+
+in_rest : (b c : Bool) → IsTrue c → IsTrue (b || c)
+in_rest b c h = or_from b c (inr h)
+
+pub not_both : (b : Bool) → IsTrue b → b ≡ false → ⊥
+not_both b h e = let bad : true ≡ false = sym h ∙ e in cc
+
+pub none_there : (b : Bool) → (IsTrue b → ⊥) → b ≡ false
+none_there true h = absurd (h refl)
+none_there false h = refl
+
+pub both_none : (b c : Bool) → b ≡ false → c ≡ false → (b || c) ≡ false
+both_none true c h i = h
+both_none false c h i = i
+
+pub keeps-less : (a b : RunSet) (r s : Runs) → ((run : ℕ) → IsTrue (b run) → IsTrue (a run)) → KeepsOwn a r s → KeepsOwn b r s
+keeps-less a b r s less kept = record { own = λ run h. kept.own run (less run h); same_honest = kept.same_honest }
+
+pub ours-rest : (s : Slot) (slots : List Slot) (r : Runs) → Ours (s ∷ slots) r → Ours slots r
+ours-rest s slots r ours = record { live = λ run h. ours.live run (in_rest (is_run s.writer run) (among slots run) h); separate = ours.separate.1 }
+
+pub held-stays : (r s : Runs) (slots : List Slot) (parts : List (List (List Value))) → KeepsOwn (among slots) r s → Ours slots r → AllHeld r slots parts → AllHeld s slots parts
+held-stays r s [] [] kept ours h = tt
+held-stays r s [] (part ∷ parts) kept ours h = absurd h
+held-stays r s (x ∷ slots) [] kept ours h = absurd h
+held-stays r s (x ∷ slots) (part ∷ parts) kept ours h = (
+  slot-stays r s x.writer part (keeps-less (among (x ∷ slots)) (is_run x.writer) r s (λ run i. in_first (is_run x.writer run) (among slots run) i) kept) (λ run i. ours.live run (in_first (is_run x.writer run) (among slots run) i)) h.0,
+  held-stays r s slots parts (keeps-less (among (x ∷ slots)) (among slots) r s (λ run i. in_rest (is_run x.writer run) (among slots run) i) kept) (ours-rest x slots r ours) h.1,
+)
+
+pub at-among : (slots : List Slot) (i : ℕ) (x : Slot) (run : ℕ) → i < length slots → IsTrue (is_run (get_or slots i x).writer run) → IsTrue (among slots run)
+at-among [] i x run within h = absurd (omega arith)
+at-among (y ∷ slots) zero x run within h = in_first (is_run y.writer run) (among slots run) h
+at-among (y ∷ slots) (suc i) x run within h = in_rest (is_run y.writer run) (among slots run) (at-among slots i x run (omega arith) h)
+
+pub held-set : (r s : Runs) (slots : List Slot) (i : ℕ) (x : Slot) (parts : List (List (List Value))) (row : List Value)
+    → i < length slots
+    → ((rows : List (List Value)) → SlotHolds r (get_or slots i x).writer rows → SlotHolds s x.writer (rows ++ row ∷ []))
+    → LeavesOthers (is_run (get_or slots i x).writer) (is_run x.writer) r s
+    → Ours slots r
+    → AllHeld r slots parts → AllHeld s (set slots i x) (push_at i row parts)
+held-set r s [] i x parts row within next step ours h = absurd (omega arith)
+held-set r s (y ∷ slots) i x [] row within next step ours h = absurd h
+held-set r s (y ∷ slots) zero x (part ∷ parts) row within next step ours h = (
+  next part h.0,
+  held-stays r s slots parts (keeps-apart (is_run y.writer) (is_run x.writer) (among slots) r s step ours.separate.0 (ours-rest y slots r ours).live) (ours-rest y slots r ours) h.1,
+)
+held-set r s (y ∷ slots) (suc i) x (part ∷ parts) row within next step ours h =
+    let mine : (run : ℕ) → IsTrue (is_run y.writer run) → IsTrue (r.live run) = λ run o. ours.live run (in_first (is_run y.writer run) (among slots run) o) in
+    let apart : Apart (is_run (get_or slots i x).writer) (is_run y.writer)
+    = λ run a. none_there (is_run y.writer run) (λ o. not_both (among slots run) (at-among slots i x run (omega arith) a) (ours.separate.0 run o)) in (
+      slot-stays r s y.writer part (keeps-apart (is_run (get_or slots i x).writer) (is_run x.writer) (is_run y.writer) r s step apart mine) mine h.0,
+      held-set r s slots i x parts row (omega arith) next step (ours-rest y slots r ours) h.1,
+    )
+
+-- a run of the new slots is in the one that was written to, or was there
+pub among-set : (slots : List Slot) (i : ℕ) (x : Slot) (run : ℕ) → IsTrue (among (set slots i x) run) → IsTrue (is_run x.writer run) ⊎ IsTrue (among slots run)
+among-set [] i x run h = inr h
+among-set (y ∷ slots) zero x run h = elim (or_in (is_run x.writer run) (among slots run) h) [ inl a ↦ inl a | inr b ↦ inr (in_rest (is_run y.writer run) (among slots run) b) ]
+among-set (y ∷ slots) (suc i) x run h = elim (or_in (is_run y.writer run) (among (set slots i x) run) h) [
+  | inl a ↦ inr (in_first (is_run y.writer run) (among slots run) a)
+  | inr b ↦ elim (among-set slots i x run b) [ inl a ↦ inl a | inr d ↦ inr (in_rest (is_run y.writer run) (among slots run) d) ]
+]
+
+pub set-among : (slots : List Slot) (i : ℕ) (x : Slot) (run : ℕ) → i < length slots → IsTrue (is_run x.writer run) → IsTrue (among (set slots i x) run)
+set-among [] i x run within h = absurd (omega arith)
+set-among (y ∷ slots) zero x run within h = in_first (is_run x.writer run) (among slots run) h
+set-among (y ∷ slots) (suc i) x run within h = in_rest (is_run y.writer run) (among (set slots i x) run) (set-among slots i x run (omega arith) h)
+
+pub among-grows : (slots : List Slot) (i : ℕ) (x : Slot) (run : ℕ) → i < length slots → (IsTrue (is_run (get_or slots i x).writer run) → IsTrue (is_run x.writer run)) → IsTrue (among slots run) → IsTrue (among (set slots i x) run)
+among-grows [] i x run within grows h = absurd (omega arith)
+among-grows (y ∷ slots) zero x run within grows h = or_from (is_run x.writer run) (among slots run) (elim (or_in (is_run y.writer run) (among slots run) h) [ inl a ↦ inl (grows a) | inr b ↦ inr b ])
+among-grows (y ∷ slots) (suc i) x run within grows h = or_from (is_run y.writer run) (among (set slots i x) run) (elim (or_in (is_run y.writer run) (among slots run) h) [ inl a ↦ inl a | inr b ↦ inr (among-grows slots i x run (omega arith) grows b) ])
+
+-- a run that is elsewhere isn't in the slot that is written to
+elsewhere : (r s : Runs) (a b k : RunSet) → LeavesOthers a b r s → ((run : ℕ) → IsTrue (k run) → a run ≡ false) → ((run : ℕ) → IsTrue (k run) → IsTrue (r.live run)) → (run : ℕ) → IsTrue (b run) → k run ≡ false
+elsewhere r s a b k step apart live run new = none_there (k run) (λ h. step.fresh run (apart run h) new (live run h))
+
+pub separate-set : (r s : Runs) (slots : List Slot) (i : ℕ) (x : Slot) → i < length slots → LeavesOthers (is_run (get_or slots i x).writer) (is_run x.writer) r s → Ours slots r → Separate (set slots i x)
+separate-set r s [] i x within step ours = absurd (omega arith)
+separate-set r s (y ∷ slots) zero x within step ours = (
+  λ run h. elsewhere r s (is_run y.writer) (is_run x.writer) (among slots) step
+      (λ other o. none_there (is_run y.writer other) (λ m. not_both (among slots other) o (ours.separate.0 other m)))
+      (λ other o. ours.live other (in_rest (is_run y.writer other) (among slots other) o)) run h,
+  ours.separate.1,
+)
+separate-set r s (y ∷ slots) (suc i) x within step ours =
+    let less : i < length slots = omega arith in (
+      λ run h. none_there (among (set slots i x) run) (λ m. elim (among-set slots i x run m) [
+        | inl a ↦ not_both (is_run y.writer run) h (elsewhere r s (is_run (get_or slots i x).writer) (is_run x.writer) (is_run y.writer) step
+            (λ other o. none_there (is_run (get_or slots i x).writer other) (λ at. not_both (among slots other) (at-among slots i x other less at) (ours.separate.0 other o)))
+            (λ other o. ours.live other (in_first (is_run y.writer other) (among slots other) o)) run a)
+        | inr b ↦ not_both (among slots run) b (ours.separate.0 run h)
+      ]),
+      separate-set r s slots i x less step (ours-rest y slots r ours),
+    )
+
+pub ours-set : (r s : Runs) (slots : List Slot) (i : ℕ) (x : Slot) → i < length slots → LeavesOthers (is_run (get_or slots i x).writer) (is_run x.writer) r s
+    → ((run : ℕ) → IsTrue (is_run x.writer run) → IsTrue (s.live run)) → Ours slots r → Ours (set slots i x) s
+ours-set r s slots i x within step live ours = record {
+  live = λ run h. elim (among-set slots i x run h) [ inl a ↦ live run a | inr b ↦ step.live run (ours.live run b) ];
+  separate = separate-set r s slots i x within step ours;
+}
+
+pub others-set : (r s : Runs) (slots : List Slot) (i : ℕ) (x : Slot) → i < length slots → LeavesOthers (is_run (get_or slots i x).writer) (is_run x.writer) r s
+    → LeavesOthers (among slots) (among (set slots i x)) r s
+others-set r s slots i x within step = record {
+  others = λ run out. step.others run (none_there (is_run x.writer run) (λ h. not_both (among (set slots i x) run) (set-among slots i x run within h) out));
+  grows = λ run h. among-grows slots i x run within (step.grows run) h;
+  fresh = λ run out h live. elim (among-set slots i x run h) [
+    | inl a ↦ step.fresh run (none_there (is_run (get_or slots i x).writer run) (λ m. not_both (among slots run) (at-among slots i x run within m) out)) a live
+    | inr b ↦ not_both (among slots run) b out
+  ];
+  live = step.live;
+  same_honest = step.same_honest;
+  no_fewer_failures = step.no_fewer_failures;
+  no_fewer_made = step.no_fewer_made;
+}
+
+one_push : (part : List (List Value)) (row : List Value) → one_if_some (part ++ row ∷ []) ≡ 1
+one_push [] row = refl
+one_push (x ∷ part) row = refl
+
+-- a run was begun where there was none
+pub began-set : (r : Runs) (slots : List Slot) (i : ℕ) (x : Slot) (parts : List (List (List Value))) (row : List Value) (began : ℕ)
+    → i < length slots
+    → ((rows : List (List Value)) → SlotHolds r (get_or slots i x).writer rows → one_if_some rows + began ≡ 1)
+    → AllHeld r slots parts → sum_by one_if_some (push_at i row parts) ≡ sum_by one_if_some parts + began
+began-set r [] i x parts row began within one h = absurd (omega arith)
+began-set r (y ∷ slots) i x [] row began within one h = absurd h
+began-set r (y ∷ slots) zero x (part ∷ parts) row began within one h =
+    let here : one_if_some part + began ≡ 1 = one part h.0 in
+    omega (arith, sum_by-cons one_if_some part parts, sum_by-cons one_if_some (part ++ row ∷ []) parts, one_push part row)
+began-set r (y ∷ slots) (suc i) x (part ∷ parts) row began within one h =
+    omega (arith, sum_by-cons one_if_some part parts, sum_by-cons one_if_some part (push_at i row parts), began-set r slots i x parts row began (omega arith) one h.1)
+
+-- what one slot holds
+pub held-one : (r : Runs) (slots : List Slot) (i : ℕ) (x : Slot) (parts : List (List (List Value))) → i < length slots → AllHeld r slots parts → (rows : List (List Value)) × SlotHolds r (get_or slots i x).writer rows
+held-one r [] i x parts within h = absurd (omega arith)
+held-one r (y ∷ slots) i x [] within h = absurd h
+held-one r (y ∷ slots) zero x (part ∷ parts) within h = (part, h.0)
+held-one r (y ∷ slots) (suc i) x (part ∷ parts) within h = held-one r slots i x parts (omega arith) h.1

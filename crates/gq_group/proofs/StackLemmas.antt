@@ -1,0 +1,415 @@
+-- Runs on a stack, and the rows that wait there.
+use Rattle.std.proofs.Common.{◌≡◌, ◌≤◌, ◌<◌, ◌+◌, ◌*◌, ◌^◌, ◌++◌, ◌||◌, ℕ, zero, suc, Bool, true, false, List, [], ◌∷◌, length, map, refl, sym, ap, subst, ◌∙◌, arith, inl, inr, length-append, Option, Some, None}
+use Rattle.std.specs.Prelude.{IsTrue}
+use Rattle.std.specs.List.{flat_map, list_any, AllByRecursion}
+use Rattle.std.proofs.lemmas.List.{append-nil}
+use Rattle.std.proofs.lemmas.List.Folds.{list_any-append}
+use Rattle.std.proofs.lemmas.List.Sums.{sum_by-append, sum_by_push}
+use Rattle.std.proofs.lemmas.List.Sorted.{list_any-IsPermutation}
+use Rattle.std.proofs.lemmas.Grind.{flat_map-append}
+use Rattle.gq_row.specs.declared.value.Value.{Value}
+use Rattle.gq_spill.specs.Runs.{Runs}
+use Rattle.gq_spill.specs.Writing.{Writing}
+use Rattle.gq_group.specs.Access.{RunSet, either, Apart, LeavesOthers, KeepsOwn, GroupCause}
+use Rattle.gq_group.specs.Groups.{Spec, Group, groups, answered, is_none, out_of_range}
+use Rattle.gq_group.specs.Levels.{row_groups}
+use Rattle.gq_group.specs.Piles.{Piled}
+use Rattle.gq_group.specs.Readings.{AreRows, Fit, Parted, Numbers}
+use Rattle.gq_group.specs.RunSources.{only, same_number, equal_number}
+use Rattle.gq_group.specs.Slots.{is_run, among, Separate, Ours, SlotHolds, AllHeld, HasRun, records_in, waiting, IsFilled, Filled, Gone}
+use Rattle.gq_group.specs.Stacks.{OnStack, Waits}
+use Rattle.gq_group.specs.declared.grouping.Spent.{Spent}
+use Rattle.gq_group.specs.declared.level.Level.{Level}
+use Rattle.gq_group.specs.declared.refusal.Refusal.{Refusal}
+use Rattle.gq_group.specs.declared.refusal.Refusal.TheVariants.{SumRange, Memory, StoreFault, Damaged}
+use Rattle.gq_group.specs.declared.slot.Slot.{Slot}
+use Rattle.gq_group.proofs.AccessLemmas.{same_run-trans, keeps-apart, or_in, or_from, or_left, or_right}
+use Rattle.gq_group.proofs.GoneLemmas.{among-append, separate-front, separate-last, ours-front, leaves-read, or_false, or_assoc}
+use Rattle.gq_group.proofs.LevelLemmas.{fit-rows}
+use Rattle.gq_group.proofs.PileLemmas.{piled-first, piled-step, piled-skip, groups-some}
+use Rattle.gq_group.proofs.ReadLemmas.{apart-step, apart-flip, leaves-left}
+use Rattle.gq_group.proofs.SlotLemmas.{not_both, none_there, both_none, held-stays}
+
+or_swap : (x y z : Bool) → ((x || y) || z) ≡ ((x || z) || y)
+or_swap true y z = refl
+or_swap false true true = refl
+or_swap false true false = refl
+or_swap false false true = refl
+or_swap false false false = refl
+
+or_between : (x y z : Bool) → (x || (y || z)) ≡ ((x || z) || y)
+or_between true y z = refl
+or_between false true true = refl
+or_between false true false = refl
+or_between false false true = refl
+or_between false false false = refl
+
+-- the same sets, written in another way
+leaves-same : (a a' b b' : RunSet) (r s : Runs) → ((run : ℕ) → a' run ≡ a run) → ((run : ℕ) → b' run ≡ b run) → LeavesOthers a b r s → LeavesOthers a' b' r s
+leaves-same a a' b b' r s same_a same_b step = record {
+  others = λ run e. step.others run (sym (same_b run) ∙ e);
+  grows = λ run h. same_b run ∙ step.grows run (sym (same_a run) ∙ h);
+  fresh = λ run e h live. step.fresh run (sym (same_a run) ∙ e) (sym (same_b run) ∙ h) live;
+  live = step.live;
+  same_honest = step.same_honest;
+  no_fewer_failures = step.no_fewer_failures;
+  no_fewer_made = step.no_fewer_made;
+}
+
+-- ---- the runs
+
+-- the runs of the first reading
+pub stack-first : (a k a' k' : RunSet) (slots : List Slot) (r s : Runs) → LeavesOthers (either a k) (either (either a' (among slots)) k') r s → Ours slots s → Apart (among slots) (either a' k')
+    → ((run : ℕ) → IsTrue (a run) → IsTrue (a' run)) → ((run : ℕ) → IsTrue (k run) → IsTrue (k' run)) → OnStack (either a k) (either a' k') slots r s
+stack-first a k a' k' slots r s step ours apart grows more = record {
+  ours = ours;
+  apart = apart;
+  others = leaves-same (either a k) (either a k) (either (either a' (among slots)) k') (either (either a' k') (among slots)) r s (λ run. refl) (λ run. or_swap (a' run) (k' run) (among slots run)) step;
+  grows = λ run h. or_from (a' run) (k' run) (elim (or_in (a run) (k run) h) [ inl x ↦ inl (grows run x) | inr x ↦ inr (more run x) ]);
+}
+
+among-none : (front : List Slot) (slot : Slot) (run : ℕ) → slot.writer ≡ None → among (front ++ slot ∷ []) run ≡ among front run
+among-none front slot run none = among-append front (slot ∷ []) run ∙ ap (λ o. among front run || (is_run o run || false)) none ∙ or_false (among front run)
+
+among-some : (front : List Slot) (slot : Slot) (w : Writing) (run : ℕ) → slot.writer ≡ Some w → among (front ++ slot ∷ []) run ≡ (among front run || only w.mark.id.number run)
+among-some front slot w run some = among-append front (slot ∷ []) run ∙ ap (λ o. among front run || (is_run o run || false)) some ∙ ap (λ b. among front run || b) (or_false (only w.mark.id.number run))
+
+-- an empty slot was taken away
+pub stack-skip : (a b : RunSet) (front : List Slot) (slot : Slot) (r s : Runs) → slot.writer ≡ None → OnStack a b (front ++ slot ∷ []) r s → OnStack a b front r s
+stack-skip a b front slot r s none on = record {
+  ours = ours-front front slot s on.ours;
+  apart = λ run h. on.apart run (among-none front slot run none ∙ h);
+  others = leaves-same a a (either b (among (front ++ slot ∷ []))) (either b (among front)) r s (λ run. refl) (λ run. ap (λ x. b run || x) (sym (among-none front slot run none))) on.others;
+  grows = on.grows;
+}
+
+separate-append : (xs ys : List Slot) → Separate xs → Separate ys → ((run : ℕ) → IsTrue (among xs run) → among ys run ≡ false) → Separate (xs ++ ys)
+separate-append [] ys h i apart = i
+separate-append (x ∷ xs) ys h i apart = (
+  λ run own. among-append xs ys run ∙ both_none (among xs run) (among ys run) (h.0 run own) (apart run (or_from (is_run x.writer run) (among xs run) (inl own))),
+  separate-append xs ys h.1 i (λ run own. apart run (or_from (is_run x.writer run) (among xs run) (inr own))),
+)
+
+-- what is apart from a run and a sink, and was there, is as it was once the run was read and discarded
+pub turn-keeps : (x mine k slots k' : RunSet) (r m t : Runs) → LeavesOthers (either mine k) (either (either mine slots) k') r m → Gone mine m t
+    → Apart x (either mine k) → ((run : ℕ) → IsTrue (x run) → IsTrue (r.live run)) → KeepsOwn x r t
+turn-keeps x mine k slots k' r m t step gone apart live =
+    let kept : KeepsOwn x r m = keeps-apart (either mine k) (either (either mine slots) k') x r m step (apart-flip x (either mine k) apart) live in
+    record {
+      own = λ run h. same_run-trans r m t run step.same_honest (kept.own run h) (gone.others run (or_left (mine run) (k run) (apart run h)));
+      same_honest = gone.same_honest ∙ step.same_honest;
+    }
+
+-- a run was read and discarded, and those that it gave are on the stack
+module _ (a src k k' : RunSet) (front slots : List Slot) (slot : Slot) (w : Writing) (r0 r m t : Runs)
+    (is : slot.writer ≡ Some w) (on : OnStack a (either src k) (front ++ slot ∷ []) r0 r)
+    (step : LeavesOthers (either (only w.mark.id.number) k) (either (either (only w.mark.id.number) (among slots)) k') r m) (gone : Gone (only w.mark.id.number) m t)
+    (apart : Apart src k) (live : (run : ℕ) → IsTrue (src run) → IsTrue (r.live run)) where
+  abbrev mine : RunSet
+  mine = only w.mark.id.number
+
+  in_stack : (run : ℕ) → IsTrue (mine run) → IsTrue (among (front ++ slot ∷ []) run)
+  in_stack run h = among-some front slot w run is ∙ or_from (among front run) (mine run) (inr h)
+
+  front_in : (run : ℕ) → IsTrue (among front run) → IsTrue (among (front ++ slot ∷ []) run)
+  front_in run h = among-some front slot w run is ∙ or_from (among front run) (mine run) (inl h)
+
+  mine_front : (run : ℕ) → IsTrue (mine run) → among front run ≡ false
+  mine_front run h = separate-last front slot on.ours.separate run (ap (λ o. is_run o run) is ∙ h)
+
+  front_apart : Apart (among front) (either mine k)
+  front_apart run h = both_none (mine run) (k run) (none_there (mine run) (λ i. not_both (among front run) h (mine_front run i))) (or_right (src run) (k run) (on.apart run (front_in run h)))
+
+  src_apart : Apart src (either mine k)
+  src_apart run h = both_none (mine run) (k run) (none_there (mine run) (λ i. not_both (src run) h (or_left (src run) (k run) (on.apart run (in_stack run i))))) (apart run h)
+
+  front_live : (run : ℕ) → IsTrue (among front run) → IsTrue (r.live run)
+  front_live run h = on.ours.live run (front_in run h)
+
+  pub front_kept : KeepsOwn (among front) r t
+  front_kept = turn-keeps (among front) mine k (among slots) k' r m t step gone front_apart front_live
+
+  pub src_kept : KeepsOwn src r t
+  src_kept = turn-keeps src mine k (among slots) k' r m t step gone src_apart live
+
+  front_later : Apart (among front) (either (either mine (among slots)) k')
+  front_later = apart-step r m (either mine k) (either (either mine (among slots)) k') (among front) step front_apart front_live
+
+  src_later : Apart src (either (either mine (among slots)) k')
+  src_later = apart-step r m (either mine k) (either (either mine (among slots)) k') src step src_apart live
+
+  pub front_held : (parts : List (List (List Value))) → AllHeld r front parts → AllHeld t front parts
+  front_held parts h = held-stays r t front parts front_kept (ours-front front slot r on.ours) h
+
+  -- and what the source owns is still apart from the sink
+  pub src_sink : Apart src k'
+  src_sink run h = or_right (mine run || among slots run) (k' run) (src_later run h)
+
+  pub stack-read : Ours slots t → Apart (among slots) (either mine k') → k' w.mark.id.number ≡ false → ((run : ℕ) → IsTrue (k run) → IsTrue (k' run)) → OnStack a (either src k') (front ++ slots) r0 t
+  stack-read ours out still more = record {
+    ours = record {
+      live = λ run h. elim (or_in (among front run) (among slots run) (sym (among-append front slots run) ∙ h)) [ inl x ↦ (front_kept.own run x).live ∙ front_live run x | inr x ↦ ours.live run x ];
+      separate = separate-append front slots (separate-front front (slot ∷ []) on.ours.separate) ours.separate
+          (λ run h. or_right (mine run) (among slots run) (or_left (mine run || among slots run) (k' run) (front_later run h)));
+    };
+    apart = λ run h. elim (or_in (among front run) (among slots run) (sym (among-append front slots run) ∙ h)) [
+      | inl x ↦ both_none (src run) (k' run) (or_left (src run) (k run) (on.apart run (front_in run x))) (or_right (mine run || among slots run) (k' run) (front_later run x))
+      | inr x ↦ both_none (src run) (k' run) (slots_src run x) (or_right (mine run) (k' run) (out run x))
+    ];
+    others = leaves-same a a (either (either b' (among front)) (among slots)) (either b' (among (front ++ slots))) r0 t (λ run. refl)
+        (λ run. ap (λ x. b' run || x) (among-append front slots run) ∙ sym (or_assoc (b' run) (among front run) (among slots run)))
+        (leaves-read a b b' mine (among front) (among slots) r0 r m t before turned gone on.grows b_grows mine_out);
+    grows = λ run h. b_grows run (on.grows run h);
+  }
+    where
+      b : RunSet
+      b = either src k
+
+      b' : RunSet
+      b' = either src k'
+
+      b_grows : (run : ℕ) → IsTrue (b run) → IsTrue (b' run)
+      b_grows run h = or_from (src run) (k' run) (elim (or_in (src run) (k run) h) [ inl x ↦ inl x | inr x ↦ inr (more run x) ])
+
+      slots_src : (run : ℕ) → IsTrue (among slots run) → src run ≡ false
+      slots_src run h = none_there (src run) (λ i. not_both (among slots run) h (or_right (mine run) (among slots run) (or_left (mine run || among slots run) (k' run) (src_later run i))))
+
+      mine_k' : (run : ℕ) → IsTrue (mine run) → k' run ≡ false
+      mine_k' run h = ap k' (equal_number run w.mark.id.number h) ∙ still
+
+      mine_out : Apart mine (either (either b' (among front)) (among slots))
+      mine_out run h = both_none (b' run || among front run) (among slots run)
+          (both_none (b' run) (among front run) (both_none (src run) (k' run) (or_left (src run) (k run) (on.apart run (in_stack run h))) (mine_k' run h)) (mine_front run h))
+          (none_there (among slots run) (λ i. not_both (mine run) h (or_left (mine run) (k' run) (out run i))))
+
+      before : LeavesOthers a (either (either b (among front)) mine) r0 r
+      before = leaves-same a a (either b (among (front ++ slot ∷ []))) (either (either b (among front)) mine) r0 r (λ run. refl)
+          (λ run. or_assoc (b run) (among front run) (mine run) ∙ ap (λ x. b run || x) (sym (among-some front slot w run is))) on.others
+
+      turned : LeavesOthers (either mine b) (either (either mine (among slots)) b') r m
+      turned = leaves-same (either (either mine k) src) (either mine b) (either (either (either mine (among slots)) k') src) (either (either mine (among slots)) b') r m
+          (λ run. or_between (mine run) (src run) (k run)) (λ run. or_between (mine run || among slots run) (src run) (k' run))
+          (leaves-left (either mine k) (either (either mine (among slots)) k') src r m step)
+
+-- ---- the rows
+
+record LastHeld (r : Runs) (front : List Slot) (slot : Slot) (pile : List (List (List Value))) : Type 0 where
+  pub rest : List (List (List Value))
+  pub part : List (List Value)
+  pub whole : pile ≡ rest ++ part ∷ []
+  pub held : AllHeld r front rest
+  pub last : SlotHolds r slot.writer part
+
+last-held : (r : Runs) (front : List Slot) (slot : Slot) (pile : List (List (List Value))) → AllHeld r (front ++ slot ∷ []) pile → LastHeld r front slot pile
+last-held r [] slot [] h = absurd h
+last-held r [] slot (part ∷ []) h = record { rest = []; part = part; whole = refl; held = tt; last = h.0 }
+last-held r [] slot (part ∷ other ∷ pile) h = absurd h.1
+last-held r (x ∷ front) slot [] h = absurd h
+last-held r (x ∷ front) slot (part ∷ pile) h =
+    let it = last-held r front slot pile h.1 in
+    record { rest = part ∷ it.rest; part = it.part; whole = ap (λ l. part ∷ l) it.whole; held = (h.0, it.held); last = it.last }
+
+held-append : (r : Runs) (xs ys : List Slot) (ps qs : List (List (List Value))) → AllHeld r xs ps → AllHeld r ys qs → AllHeld r (xs ++ ys) (ps ++ qs)
+held-append r [] ys [] qs h i = i
+held-append r [] ys (p ∷ ps) qs h i = absurd h
+held-append r (x ∷ xs) ys [] qs h i = absurd h
+held-append r (x ∷ xs) ys (p ∷ ps) qs h i = (h.0, held-append r xs ys ps qs h.1 i)
+
+each-front : {X : Type 0} (P : X → Type 0) (xs : List X) (x : X) → AllByRecursion P (xs ++ x ∷ []) → AllByRecursion P xs
+each-front P [] x h = tt
+each-front P (y ∷ xs) x h = (h.0, each-front P xs x h.1)
+
+each-last : {X : Type 0} (P : X → Type 0) (xs : List X) (x : X) → AllByRecursion P (xs ++ x ∷ []) → P x
+each-last P [] x h = h.0
+each-last P (y ∷ xs) x h = each-last P xs x h.1
+
+each-append : {X : Type 0} (P : X → Type 0) (xs ys : List X) → AllByRecursion P xs → AllByRecursion P ys → AllByRecursion P (xs ++ ys)
+each-append P [] ys h i = i
+each-append P (x ∷ xs) ys h i = (h.0, each-append P xs ys h.1 i)
+
+-- the first reading
+pub waits-first : (spec : Spec) (budget : ℕ) (rows : List (List Value)) (slots : List Slot) (runs : Runs) (level : Level) (spent : Spent) (holds : List Group → Type 0) → 0 < budget → AreRows spec rows
+    → spent ≡ record { rows_read = level.rows_read; rows_written = level.rows_written; groups = level.groups; runs = level.runs }
+    → Parted spec budget rows slots runs level holds → Waits spec budget rows level.columns slots runs spent holds
+waits-first spec budget rows slots runs level spent holds some are is p = subst (λ s. Waits spec budget rows level.columns slots runs s holds) (sym is) (record {
+  out = p.out;
+  pile = p.parts;
+  pushed = p.pushed;
+  held = p.held;
+  piled = piled-first spec budget rows p.out p.parts level.rows_written level.runs some p.whole p.few p.full p.fewer p.written p.began;
+  fit = p.fit level.columns (fit-rows spec level.columns rows are p.wide);
+  read = p.read;
+  sent = p.sent;
+})
+
+-- an empty slot was taken away
+pub waits-skip : (spec : Spec) (budget : ℕ) (rows : List (List Value)) (columns : ℕ) (front : List Slot) (slot : Slot) (runs : Runs) (spent : Spent) (holds : List Group → Type 0)
+    → slot.writer ≡ None → Waits spec budget rows columns (front ++ slot ∷ []) runs spent holds → Waits spec budget rows columns front runs spent holds
+waits-skip spec budget rows columns front slot runs spent holds none w =
+    let it = last-held runs front slot w.pile w.held in
+    let empty : it.part ≡ [] = subst (λ o. SlotHolds runs o it.part) none it.last in
+    let whole : w.pile ≡ it.rest ++ [] ∷ [] = it.whole ∙ ap (λ l. it.rest ++ l ∷ []) empty in
+    record {
+      out = w.out;
+      pile = it.rest;
+      pushed = w.pushed;
+      held = it.held;
+      piled = piled-skip spec budget rows w.out it.rest spent.rows_written spent.runs (subst (λ l. Piled spec budget rows w.out l spent.rows_written spent.runs) whole w.piled);
+      fit = each-front (Fit spec columns) it.rest it.part (subst (AllByRecursion (Fit spec columns)) it.whole w.fit);
+      read = w.read;
+      sent = w.sent;
+    }
+
+-- what is known of the run on top
+pub record OnTop (spec : Spec) (columns : ℕ) (w : Writing) (runs : Runs) : Type 0 where
+  pub part : List (List Value)
+  pub has : HasRun w runs part
+  pub fit : Fit spec columns part
+
+pub on_top : (spec : Spec) (budget : ℕ) (rows : List (List Value)) (columns : ℕ) (front : List Slot) (slot : Slot) (w : Writing) (runs : Runs) (spent : Spent) (holds : List Group → Type 0)
+    → slot.writer ≡ Some w → Waits spec budget rows columns (front ++ slot ∷ []) runs spent holds → OnTop spec columns w runs
+on_top spec budget rows columns front slot w runs spent holds is waits =
+    let it = last-held runs front slot waits.pile waits.held in
+    record {
+      part = it.part;
+      has = subst (λ o. SlotHolds runs o it.part) is it.last;
+      fit = each-last (Fit spec columns) it.rest it.part (subst (AllByRecursion (Fit spec columns)) it.whole waits.fit);
+    }
+
+-- it was read
+pub waits-read : (spec : Spec) (budget : ℕ) (rows : List (List Value)) (columns : ℕ) (front slots : List Slot) (slot : Slot) (w : Writing) (r t : Runs) (spent next : Spent) (level : Level) (holds more now : List Group → Type 0)
+    → 0 < budget → slot.writer ≡ Some w
+    → Waits spec budget rows columns (front ++ slot ∷ []) r spent holds
+    → ((part : List (List Value)) → HasRun w r part → Fit spec columns part → Parted spec budget part slots t level more)
+    → ((parts : List (List (List Value))) → AllHeld r front parts → AllHeld t front parts)
+    → ((out add : List Group) → holds out → more add → now (out ++ add))
+    → next ≡ record { rows_read = spent.rows_read; rows_written = spent.rows_written + level.rows_written; groups = spent.groups + level.groups; runs = spent.runs + level.runs }
+    → Waits spec budget rows columns (front ++ slots) t next now
+waits-read spec budget rows columns front slots slot w r t spent next level holds more now some is waits reads stays joined same =
+    let it = last-held r front slot waits.pile waits.held in
+    let has : HasRun w r it.part = subst (λ o. SlotHolds r o it.part) is it.last in
+    let fits : AllByRecursion (Fit spec columns) (it.rest ++ it.part ∷ []) = subst (AllByRecursion (Fit spec columns)) it.whole waits.fit in
+    let fit : Fit spec columns it.part = each-last (Fit spec columns) it.rest it.part fits in
+    let p = reads it.part has fit in
+    subst (λ s. Waits spec budget rows columns (front ++ slots) t s now) (sym same) (record {
+      out = waits.out ++ p.out;
+      pile = it.rest ++ p.parts;
+      pushed = joined waits.out p.out waits.pushed p.pushed;
+      held = held-append t front slots it.rest p.parts (stays it.rest it.held) p.held;
+      piled = piled-step spec budget rows waits.out p.out it.rest p.parts it.part spent.rows_written spent.runs level.rows_written level.runs some
+          (subst (λ l. Piled spec budget rows waits.out l spent.rows_written spent.runs) it.whole waits.piled) has.some p.whole p.few p.full p.fewer p.written p.began;
+      fit = each-append (Fit spec columns) it.rest p.parts (each-front (Fit spec columns) it.rest it.part fits) (p.fit columns fit);
+      read = waits.read;
+      sent = omega (arith, waits.sent, p.sent, length-append waits.out p.out);
+    })
+
+or_true : (b : Bool) → (b || true) ≡ true
+or_true true = refl
+or_true false = refl
+
+-- a sum that is out of range among its rows is so among all
+pub waits-range : (spec : Spec) (budget : ℕ) (rows : List (List Value)) (columns : ℕ) (front : List Slot) (slot : Slot) (w : Writing) (r : Runs) (spent : Spent) (holds : List Group → Type 0)
+    → slot.writer ≡ Some w → Waits spec budget rows columns (front ++ slot ∷ []) r spent holds
+    → ((part : List (List Value)) → HasRun w r part → Fit spec columns part → out_of_range spec part ≡ true) → out_of_range spec rows ≡ true
+waits-range spec budget rows columns front slot w r spent holds is waits far =
+    let top = on_top spec budget rows columns front slot w r spent holds is waits in
+    let it = last-held r front slot waits.pile waits.held in
+    let has : HasRun w r it.part = subst (λ o. SlotHolds r o it.part) is it.last in
+    let fit : Fit spec columns it.part = each-last (Fit spec columns) it.rest it.part (subst (AllByRecursion (Fit spec columns)) it.whole waits.fit) in
+    let q : (List Value × List (Option Value)) → Bool = λ g. list_any is_none g.1 in
+    let here : list_any q (row_groups spec it.part) ≡ true = ap (list_any q) (sym (groups-some spec it.part has.some)) ∙ far it.part has fit in
+    let pile : list_any q (flat_map (row_groups spec) waits.pile) ≡ true
+    = ap (λ l. list_any q (flat_map (row_groups spec) l)) it.whole
+    ∙ ap (list_any q) (flat_map-append (row_groups spec) it.rest (it.part ∷ []) ∙ ap (λ l. flat_map (row_groups spec) it.rest ++ l) (append-nil (row_groups spec it.part)))
+    ∙ list_any-append q (flat_map (row_groups spec) it.rest) (row_groups spec it.part)
+    ∙ ap (λ b. list_any q (flat_map (row_groups spec) it.rest) || b) here
+    ∙ or_true (list_any q (flat_map (row_groups spec) it.rest)) in
+    list_any-IsPermutation q (groups spec rows) (map answered waits.out ++ flat_map (row_groups spec) waits.pile) waits.piled.whole
+    ∙ list_any-append q (map answered waits.out) (flat_map (row_groups spec) waits.pile)
+    ∙ ap (λ b. list_any q (map answered waits.out) || b) pile
+    ∙ or_true (list_any q (map answered waits.out))
+
+-- ---- the numbers
+
+abbrev pub work_left : List Slot → ℕ
+work_left slots = 17 * waiting slots + length slots
+
+pub waiting-skip : (front : List Slot) (slot : Slot) → slot.writer ≡ None → waiting (front ++ slot ∷ []) ≡ waiting front
+waiting-skip front slot none = sum_by_push (λ s. records_in s.writer) front slot ∙ ap (λ o. waiting front + records_in o) none ∙ omega arith
+
+-- what waits after a run was read, and what was written in reading it
+pub record Shrinks (front slots : List Slot) (slot : Slot) (w : Writing) (level : Level) : Type 0 where
+  pub waits : waiting (front ++ slots) + 1 ≤ waiting (front ++ slot ∷ [])
+  pub wrote : level.rows_written ≤ waiting (front ++ slot ∷ [])
+  pub lengths : length (front ++ slots) ≤ length (front ++ slot ∷ []) + 15
+
+fewer : (waits written read records : ℕ) → waits ≡ written → (0 < written → written < read) → read ≤ records → 0 < records → waits < records
+fewer waits zero read records is less within some = omega arith
+fewer waits (suc written) read records is less within some = let l : suc written < read = less (omega arith) in omega arith
+
+pub top-filled : (front : List Slot) (slot : Slot) (w : Writing) → slot.writer ≡ Some w → Filled (front ++ slot ∷ []) → 0 < w.mark.records
+top-filled front slot w is filled = subst IsFilled is (each-last (λ (s : Slot). IsFilled s.writer) front slot filled)
+
+pub top-waiting : (front : List Slot) (slot : Slot) (w : Writing) → slot.writer ≡ Some w → waiting (front ++ slot ∷ []) ≡ waiting front + w.mark.records
+top-waiting front slot w is = sum_by_push (λ s. records_in s.writer) front slot ∙ ap (λ o. waiting front + records_in o) is
+
+pub shrinks : (budget : ℕ) (front slots : List Slot) (slot : Slot) (w : Writing) (level : Level) → slot.writer ≡ Some w → Filled (front ++ slot ∷ []) → length slots ≤ 16 → Numbers budget w.mark.records slots level
+    → Shrinks front slots slot w level
+shrinks budget front slots slot w level is filled few n =
+    let less : waiting slots < w.mark.records = fewer (waiting slots) level.rows_written level.rows_read w.mark.records n.waits n.fewer n.read (top-filled front slot w is filled) in
+    let before = top-waiting front slot w is in
+    let after = sum_by-append (λ (s : Slot). records_in s.writer) front slots in
+    record {
+      waits = omega (arith, less, before, after);
+      wrote = omega (arith, less, before, n.waits);
+      lengths = omega (arith, few, length-append front slots, length-append front (slot ∷ []));
+    }
+
+pub filled-read : (front slots : List Slot) (slot : Slot) → Filled (front ++ slot ∷ []) → Filled slots → Filled (front ++ slots)
+filled-read front slots slot h i = each-append (λ (s : Slot). IsFilled s.writer) front slots (each-front (λ (s : Slot). IsFilled s.writer) front slot h) i
+
+pub filled-skip : (front : List Slot) (slot : Slot) → Filled (front ++ slot ∷ []) → Filled front
+filled-skip front slot h = each-front (λ (s : Slot). IsFilled s.writer) front slot h
+
+-- ---- all is discarded
+
+pub gone-kept : (x mine : RunSet) (r s : Runs) → Gone mine r s → Apart mine x → KeepsOwn x r s
+gone-kept x mine r s gone apart = record {
+  own = λ run h. gone.others run (none_there (mine run) (λ i. not_both (x run) h (apart run i)));
+  same_honest = gone.same_honest;
+}
+
+pub gone-cause : (e : Refusal) (mine : RunSet) (r s t : Runs) → Gone mine s t → GroupCause e r s → GroupCause e r t
+gone-cause SumRange mine r s t gone h = tt
+gone-cause Memory mine r s t gone h = tt
+gone-cause StoreFault mine r s t gone h = omega (arith, gone.same_failures, h)
+gone-cause Damaged mine r s t gone h = h
+
+-- the numbers of the first reading
+pub first-waiting : (budget bound : ℕ) (slots : List Slot) (level : Level) → Numbers budget bound slots level → bound ≤ 2 ^ 31 → waiting slots ≤ 2 ^ 31
+first-waiting budget bound slots level n few = at level.rows_written refl
+  where
+    at : (written : ℕ) → level.rows_written ≡ written → waiting slots ≤ 2 ^ 31
+    at zero e = omega (arith, n.waits, e)
+    at (suc written) e = let less : level.rows_written < level.rows_read = n.fewer (omega (arith, e)) in omega (arith, less, n.read, n.waits, few)
+
+-- ---- the end
+
+no_slots : (r : Runs) (pile : List (List (List Value))) → AllHeld r [] pile → pile ≡ []
+no_slots r [] h = refl
+no_slots r (part ∷ pile) h = absurd h
+
+pub waits-end : (spec : Spec) (budget : ℕ) (rows : List (List Value)) (columns : ℕ) (runs : Runs) (spent : Spent) (holds : List Group → Type 0)
+    → (w : Waits spec budget rows columns [] runs spent holds) → Piled spec budget rows w.out [] spent.rows_written spent.runs
+waits-end spec budget rows columns runs spent holds w = subst (λ l. Piled spec budget rows w.out l spent.rows_written spent.runs) (no_slots runs w.pile w.held) w.piled
+
+-- ---- the run on top of the stack
+
+pub top-live : (front : List Slot) (slot : Slot) (w : Writing) (r : Runs) → slot.writer ≡ Some w → Ours (front ++ slot ∷ []) r → IsTrue (r.live w.mark.id.number)
+top-live front slot w r is ours = ours.live w.mark.id.number (among-some front slot w w.mark.id.number is ∙ or_from (among front w.mark.id.number) (only w.mark.id.number w.mark.id.number) (inr (same_number w.mark.id.number)))
+
+pub top-apart : (front : List Slot) (slot : Slot) (w : Writing) (k : RunSet) → slot.writer ≡ Some w → Apart (among (front ++ slot ∷ [])) k → k w.mark.id.number ≡ false
+top-apart front slot w k is apart = apart w.mark.id.number (among-some front slot w w.mark.id.number is ∙ or_from (among front w.mark.id.number) (only w.mark.id.number w.mark.id.number) (inr (same_number w.mark.id.number)))
+
+pub sink_apart : (src k : RunSet) (run : ℕ) → either src k run ≡ false → k run ≡ false
+sink_apart src k run e = or_right (src run) (k run) e

@@ -1,0 +1,131 @@
+use Rattle.std.proofs.Common.{◌≡◌, [], rules, ◌∙◌, sym, ap, subst, append-nil, ◌++◌}
+use Rattle.std.specs.FinMap.{len}
+use Rattle.sw_table.specs.Entries.{entries}
+use Rattle.sw_table.specs.LaidOut.{hash_by}
+use Rattle.gq_row.specs.Classes.{class_of, bytes_of}
+use Rattle.gq_group.specs.Access.{LeavesOthers, KeepsOwn, Apart, either}
+use Rattle.gq_group.specs.Entries.{Grouped}
+use Rattle.gq_group.specs.Groups.{out_of_range}
+use Rattle.gq_group.specs.Levels.{class_by, classes_at}
+use Rattle.gq_group.specs.Readings.{Reads}
+use Rattle.gq_group.specs.Residents.{taken}
+use Rattle.gq_group.specs.Slots.{among}
+use Rattle.gq_group.specs.declared.budget.Budget.{Budget}
+use Rattle.gq_group.specs.declared.level.Level.{Level}
+use Rattle.gq_group.proofs.AccessLemmas.{keeps-apart, or_left, or_right}
+use Rattle.gq_group.proofs.LevelLemmas.{parted, numbers, class_less, range-taken}
+use Rattle.gq_group.proofs.ReadLemmas.{apart-step, apart-flip, ours-empty, apart-empty, leaves-empty}
+use Rattle.gq_group.proofs.SlotLemmas.{held-stays}
+use Rattle.gq_group.proofs.level.one_level.Goals as goal
+
+pub returns-in_default-clause-ours : goal.returns-in_default-clause-ours
+returns-in_default-clause-ours g c = ours-empty c.add_slots.new.slots.items _ c.add_slots.ensures.empty
+
+pub returns-in_default-clause-apart : goal.returns-in_default-clause-apart
+returns-in_default-clause-apart g c = apart-empty c.add_slots.new.slots.items _ c.add_slots.ensures.empty
+
+pub returns-in_default-clause-others : goal.returns-in_default-clause-others
+returns-in_default-clause-others g c = leaves-empty c.add_slots.new.slots.items _ _ _ c.add_slots.ensures.empty
+
+pub returns-in_default-start-clause-ours : goal.returns-in_default-start-clause-ours
+returns-in_default-start-clause-ours g c = ours-empty c.add_slots.new.slots.items _ c.add_slots.ensures.empty
+
+pub returns-in_default-start-clause-apart : goal.returns-in_default-start-clause-apart
+returns-in_default-start-clause-apart g c = apart-empty c.add_slots.new.slots.items _ c.add_slots.ensures.empty
+
+pub returns-in_default-start-clause-others : goal.returns-in_default-start-clause-others
+returns-in_default-start-clause-others g c = leaves-empty c.add_slots.new.slots.items _ _ _ c.add_slots.ensures.empty
+
+pub push_all-requires : goal.push_all-requires
+push_all-requires g c =
+    let r = g.S.RunStore.runs c.args.store.now in
+    let s = g.S.RunStore.runs c.read_rows.new.store in
+    let k = g.K.GroupSink.owns c.args.sink.now in
+    let live = g.met.K.GroupSink.own_live c.args.sink.now r c.requires.sink in
+    record { sink = g.met.K.GroupSink.stays_ready c.args.sink.now r s (keeps-apart _ _ k r s c.in_ok-taken.ensures.others c.requires.apart live) c.requires.sink }
+
+pub returns-in_err-groups-clause-overflow : goal.returns-in_err-groups-clause-overflow
+returns-in_err-groups-clause-overflow g c = λ e h rows b.
+    let r = g.S.RunStore.runs c.args.store.now in
+    let s = g.S.RunStore.runs c.read_rows.new.store in
+    let t = g.S.RunStore.runs c.push_all.new.store in
+    let spec = c.args.spec.now in
+    let m = c.read_rows.new.table.map in
+    let n = c.in_ok-taken.taken in
+    let hash = hash_by g.H.KeyHash.hash_of bytes_of c.in-Ok-start.table.map.hasher in
+    let read = subst (λ (b : Budget). Reads spec b.entries (class_by hash c.args.level) (classes_at c.args.level) r.honest (g.R.RowSource.gives c.args.source.now r) (λ left. left ≡ []) s n.rows_read n.rows_written n.runs n.columns m c.read_rows.new.slots.items)
+    c.in-Ok-start.ensures.budget c.in_ok-taken.ensures.read in
+    let grouped = subst (λ x. Grouped spec (taken spec m read.done) x) (sym c.into_map.ensures) read.resident.grouped in
+    let far = c.in_err-groups.ensures.overflow (search rules) spec (taken spec m read.done) grouped in
+    let got = read.rest h rows b in
+    let same : rows ≡ read.done = got.1 ∙ ap (λ l. read.done ++ l) got.2 ∙ append-nil read.done in
+    ap (out_of_range spec) same ∙ range-taken spec c.args.budget.entries read.done m read.resident far
+
+pub returns-clause-parted : goal.returns-clause-parted
+returns-clause-parted g c = λ h rows b.
+    let r = g.S.RunStore.runs c.args.store.now in
+    let s = g.S.RunStore.runs c.read_rows.new.store in
+    let t = g.S.RunStore.runs c.push_all.new.store in
+    let spec = c.args.spec.now in
+    let m = c.read_rows.new.table.map in
+    let n = c.in_ok-taken.taken in
+    let hash = hash_by g.H.KeyHash.hash_of bytes_of c.in-Ok-start.table.map.hasher in
+    let read = subst (λ (b : Budget). Reads spec b.entries (class_by hash c.args.level) (classes_at c.args.level) r.honest (g.R.RowSource.gives c.args.source.now r) (λ left. left ≡ []) s n.rows_read n.rows_written n.runs n.columns m c.read_rows.new.slots.items)
+    c.in-Ok-start.ensures.budget c.in_ok-taken.ensures.read in
+    let grouped = subst (λ x. Grouped spec (taken spec m read.done) x) (sym c.into_map.ensures) read.resident.grouped in
+    let level : Level = record { rows_read = n.rows_read; rows_written = n.rows_written; groups = c.in_ok-groups.groups; runs = n.runs; columns = n.columns } in
+    let count = c.in_ok-groups.ensures.count spec (taken spec m read.done) grouped in
+    let kept_count = c.in_ok-groups.ensures.entries ∙ ap (λ x. len (entries class_of x)) c.into_map.ensures in
+    let k = g.K.GroupSink.owns c.args.sink.now in
+    let k' = g.K.GroupSink.owns c.push_all.new.sink in
+    let a = g.R.RowSource.owns c.args.source.now in
+    let slots = c.read_rows.new.slots.items in
+    let b' = either (g.R.RowSource.owns c.read_rows.new.source) (among slots) in
+    let step : LeavesOthers a b' r s = c.in_ok-taken.ensures.others in
+    let live = g.met.K.GroupSink.own_live c.args.sink.now r c.requires.sink in
+    let kept : KeepsOwn k r s = keeps-apart a b' k r s step c.requires.apart live in
+    let apart : Apart k b' = apart-step r s a b' k step (apart-flip a k c.requires.apart) live in
+    let slots_apart : Apart k (among slots) = λ run i. or_right (g.R.RowSource.owns c.read_rows.new.source run) (among slots run) (apart run i) in
+    let then : LeavesOthers k k' s t = c.in_ok-groups.ensures.others in
+    let slots_kept : KeepsOwn (among slots) s t = keeps-apart k k' (among slots) s t then slots_apart c.in_ok-taken.ensures.ours.live in
+    let pushes = c.in_ok-groups.ensures.sent spec (taken spec m read.done) grouped in
+    parted spec c.args.budget.entries (class_by hash c.args.level) (classes_at c.args.level) _ _ s t m slots level _ rows
+    (class_less hash c.args.level) read h b
+    (pushes.0, pushes.1, λ before held. pushes.2 (step.same_honest ∙ h) before (g.met.K.GroupSink.keeps_groups c.args.sink.now r s kept c.requires.sink h before held))
+    count kept_count
+    (λ parts i. held-stays s t slots parts slots_kept c.in_ok-taken.ensures.ours i)
+
+pub returns-clause-numbers : goal.returns-clause-numbers
+returns-clause-numbers g c =
+    let r = g.S.RunStore.runs c.args.store.now in
+    let s = g.S.RunStore.runs c.read_rows.new.store in
+    let t = g.S.RunStore.runs c.push_all.new.store in
+    let spec = c.args.spec.now in
+    let m = c.read_rows.new.table.map in
+    let n = c.in_ok-taken.taken in
+    let hash = hash_by g.H.KeyHash.hash_of bytes_of c.in-Ok-start.table.map.hasher in
+    let read = subst (λ (b : Budget). Reads spec b.entries (class_by hash c.args.level) (classes_at c.args.level) r.honest (g.R.RowSource.gives c.args.source.now r) (λ left. left ≡ []) s n.rows_read n.rows_written n.runs n.columns m c.read_rows.new.slots.items)
+    c.in-Ok-start.ensures.budget c.in_ok-taken.ensures.read in
+    let grouped = subst (λ x. Grouped spec (taken spec m read.done) x) (sym c.into_map.ensures) read.resident.grouped in
+    let level : Level = record { rows_read = n.rows_read; rows_written = n.rows_written; groups = c.in_ok-groups.groups; runs = n.runs; columns = n.columns } in
+    let count = c.in_ok-groups.ensures.count spec (taken spec m read.done) grouped in
+    let kept_count = c.in_ok-groups.ensures.entries ∙ ap (λ x. len (entries class_of x)) c.into_map.ensures in
+    numbers spec c.args.budget.entries _ (class_by hash c.args.level) (classes_at c.args.level) _ _ _ m c.read_rows.new.slots.items level
+    c.args.budget.some (class_less hash c.args.level) read count kept_count c.in_ok-taken.ensures.bound c.in_ok-taken.ensures.less_runs
+
+pub returns-clause-source : goal.returns-clause-source
+returns-clause-source g c =
+    let r = g.S.RunStore.runs c.args.store.now in
+    let s = g.S.RunStore.runs c.read_rows.new.store in
+    let t = g.S.RunStore.runs c.push_all.new.store in
+    let k = g.K.GroupSink.owns c.args.sink.now in
+    let k' = g.K.GroupSink.owns c.push_all.new.sink in
+    let a = g.R.RowSource.owns c.args.source.now in
+    let b = g.R.RowSource.owns c.read_rows.new.source in
+    let slots = among c.read_rows.new.slots.items in
+    let step : LeavesOthers a (either b slots) r s = c.in_ok-taken.ensures.others in
+    let live = g.met.K.GroupSink.own_live c.args.sink.now r c.requires.sink in
+    let apart : Apart k (either b slots) = apart-step r s a (either b slots) k step (apart-flip a k c.requires.apart) live in
+    let ready = c.in_ok-taken.ensures.source in
+    let kept : KeepsOwn b s t = keeps-apart k k' b s t c.in_ok-groups.ensures.others (λ run i. or_left (b run) (slots run) (apart run i)) (g.met.R.RowSource.own_live c.read_rows.new.source s ready) in
+    g.met.R.RowSource.stays_ready c.read_rows.new.source s t kept ready

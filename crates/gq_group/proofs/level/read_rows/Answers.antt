@@ -1,0 +1,96 @@
+use Rattle.std.proofs.Common.{arith, ◌∙◌, refl, subst, rules}
+use Rattle.sw_table.specs.LaidOut.{hash_by}
+use Rattle.gq_row.specs.Classes.{bytes_of}
+use Rattle.gq_group.specs.Access.{LeavesOthers, Apart, KeepsOwn}
+use Rattle.gq_group.specs.Levels.{class_by, classes_at}
+use Rattle.gq_group.specs.Readings.{Places}
+use Rattle.gq_group.specs.Slots.{Ours, among}
+use Rattle.gq_group.proofs.AccessLemmas.{leaves-trans, leaves-both, keeps-apart}
+use Rattle.gq_group.proofs.SlotLemmas.{held-stays}
+use Rattle.gq_group.proofs.ReadLemmas.{apart-step, apart-flip, ours-stays, leaves-left, cause-later, ours-empty, apart-empty, others-empty, reads-none, reads-step, reads-end}
+use Rattle.gq_group.proofs.level.read_rows.Goals as goal
+
+pub rows-init : goal.rows-init
+rows-init g c =
+    let r = g.S.RunStore.runs c.args.store.now in
+    record {
+      ready = c.requires.source;
+      read = reads-none _ _ _ _ _ _ r c.args.table.now.map c.args.slots.now.items c.requires.start c.requires.places c.requires.empty;
+      budget = refl;
+      hasher = refl;
+      bound = omega arith;
+      less = omega arith;
+      less_runs = omega arith;
+      same_length = c.requires.places;
+      ours = ours-empty c.args.slots.now.items r c.requires.empty;
+      apart = apart-empty c.args.slots.now.items _ c.requires.empty;
+      others = others-empty c.args.slots.now.items _ r c.requires.empty;
+      grows = λ run h. h;
+      owned = λ none run h. h;
+      made = λ none. omega arith;
+    }
+
+pub returns-clause-read : goal.returns-clause-read
+returns-clause-read g c =
+    let r = g.S.RunStore.runs c.rows.store in
+    let s = g.S.RunStore.runs c.next.new.store in
+    let step : LeavesOthers (g.R.RowSource.owns c.rows.source) (g.R.RowSource.owns c.next.new.self) r s = c.in_ok-row.ensures.others in
+    let kept : KeepsOwn (among c.rows.slots.items) r s
+    = keeps-apart _ _ (among c.rows.slots.items) r s step (apart-flip _ _ c.rows.invariant.apart) c.rows.invariant.ours.live in
+    reads-end _ _ _ _ _ _ _ r s c.rows.rows_read c.rows.rows_written c.rows.runs c.rows.columns c.rows.table.map c.rows.slots.items c.rows.invariant.read
+    (λ h rows now. let over = rw c.in_default.is at (c.in_ok-row.ensures.rows (c.rows.invariant.others.same_honest ∙ h)) in (over rows now).0)
+    (λ parts held. held-stays r s c.rows.slots.items parts kept c.rows.invariant.ours held)
+
+pub returns-in_err-placed-clause-cause : goal.returns-in_err-placed-clause-cause
+returns-in_err-placed-clause-cause g c =
+    let r = g.S.RunStore.runs c.rows.store in
+    let s = g.S.RunStore.runs c.next.new.store in
+    let t = g.S.RunStore.runs c.place_row.new.store in
+    let step : LeavesOthers (g.R.RowSource.owns c.rows.source) (g.R.RowSource.owns c.next.new.self) r s = c.in_ok-row.ensures.others in
+    let kept : KeepsOwn (among c.rows.slots.items) r s
+    = keeps-apart _ _ (among c.rows.slots.items) r s step (apart-flip _ _ c.rows.invariant.apart) c.rows.invariant.ours.live in
+    let held = held-stays r s c.rows.slots.items _ kept c.rows.invariant.ours c.rows.invariant.read.held in
+    let told = c.in_err-placed.ensures.cause _ held in
+    let all = cause-later _ _ _ (g.S.RunStore.runs c.args.store.now) s t (leaves-trans _ _ _ _ _ _ c.rows.invariant.others (leaves-left _ _ (among c.rows.slots.items) r s step)) told in
+    search rules
+
+pub rows-preserved : goal.rows-preserved
+rows-preserved g c =
+    let inv = c.rows.invariant in
+    let placed = c.in_ok-placed.ensures in
+    let a = g.R.RowSource.owns c.rows.source in
+    let b = g.R.RowSource.owns c.next.new.self in
+    let k = among c.rows.slots.items in
+    let k' = among c.place_row.new.slots.items in
+    let r = g.S.RunStore.runs c.rows.store in
+    let s = g.S.RunStore.runs c.next.new.store in
+    let t = g.S.RunStore.runs c.place_row.new.store in
+    let step : LeavesOthers a b r s = c.in_ok-row.ensures.others in
+    let kept : KeepsOwn k r s = keeps-apart a b k r s step (apart-flip k a inv.apart) inv.ours.live in
+    let then : LeavesOthers k k' s t = placed.others in
+    let ours : Ours c.rows.slots.items s = ours-stays r s a b c.rows.slots.items step inv.ours in
+    let apart : Apart k b = apart-step r s a b k step inv.apart inv.ours.live in
+    let live = g.met.R.RowSource.own_live c.next.new.self s c.in_ok-row.ensures.ready in
+    let source : KeepsOwn b s t = keeps-apart k k' b s t then apart live in
+    let next = rw c.in-Some.is at c.in_ok-row.ensures.rows in
+    let hashed = subst (λ h. Places c.args.spec.now c.rows.table.budget.entries (class_by (hash_by g.H.KeyHash.hash_of bytes_of h) c.args.level) (classes_at c.args.level) c.in-Some.row s t c.rows.table.map c.place_row.new.table.map c.rows.slots.items c.place_row.new.slots.items c.in_ok-placed.placed.written c.in_ok-placed.placed.began) inv.hasher placed.places in
+    let places = subst (λ b. Places c.args.spec.now b.entries (class_by (hash_by g.H.KeyHash.hash_of bytes_of c.args.table.now.map.hasher) c.args.level) (classes_at c.args.level) c.in-Some.row s t c.rows.table.map c.place_row.new.table.map c.rows.slots.items c.place_row.new.slots.items c.in_ok-placed.placed.written c.in_ok-placed.placed.began) inv.budget hashed in
+    record {
+      ready = g.met.R.RowSource.stays_ready c.next.new.self s t source c.in_ok-row.ensures.ready;
+      read = reads-step c.args.spec.now _ _ _ _ _ _ (g.R.RowSource.gives c.next.new.self t) r s t c.rows.rows_read c.rows.rows_written c.rows.runs c.rows.columns _ _ c.rows.table.map c.place_row.new.table.map c.rows.slots.items c.place_row.new.slots.items c.in-Some.row inv.read
+          (λ h rows now. let before = inv.others.same_honest ∙ h in let got = next before rows now in (got.0, got.1, g.met.R.RowSource.keeps_rows c.next.new.self s t source c.in_ok-row.ensures.ready (step.same_honest ∙ before) got.0 got.2))
+          (λ parts held. held-stays r s c.rows.slots.items parts kept inv.ours held)
+          places c.width-columns.result c.width-columns.ensures;
+      budget = placed.budget ∙ inv.budget;
+      hasher = placed.hasher ∙ inv.hasher;
+      bound = (let taken = rw c.in-Some.is at c.in_ok-row.ensures.bound in omega (arith, taken, inv.bound));
+      less = omega (arith, inv.less, placed.places.one);
+      less_runs = omega (arith, inv.less_runs, placed.places.one_began);
+      same_length = placed.same_length;
+      ours = placed.ours;
+      apart = apart-flip b k' (apart-step s t k k' b then (apart-flip k b apart) live);
+      others = leaves-trans _ _ _ _ _ _ inv.others (leaves-both a b k k' r s t step then);
+      grows = λ run h. step.grows run (inv.grows run h);
+      owned = λ none run h. inv.owned none run (c.in_ok-row.ensures.owned none run h);
+      made = λ none. omega (arith, c.in_ok-row.ensures.made none, inv.made none, placed.made);
+    }

@@ -1,0 +1,66 @@
+use Rattle.std.proofs.Common.{◌≡◌, ◌+◌, ◌++◌, ◌∷◌, [], List, get_or, sym, ap, subst, ◌∙◌}
+use Rattle.std.proofs.lemmas.List.{set-set, get_or_default}
+use Rattle.gq_row.specs.declared.value.Value.{Value}
+use Rattle.gq_group.specs.Access.{LeavesOthers}
+use Rattle.gq_group.specs.Levels.{one_if_some}
+use Rattle.gq_group.specs.Slots.{is_run, SlotHolds}
+use Rattle.gq_group.specs.declared.slot.Slot.{Slot}
+use Rattle.gq_group.proofs.MapGroups.{on_ok, if_ok}
+use Rattle.gq_group.proofs.SlotLemmas.{held-set, ours-set, others-set, began-set, held-one}
+use Rattle.gq_group.proofs.slot.spill.Goals as goal
+
+pub returns-clause-holds : goal.returns-clause-holds
+returns-clause-holds g c =
+    let r = g.S.RunStore.runs c.args.store.now in
+    let s = g.S.RunStore.runs c.write_to-writer.new.store in
+    let slots : List Slot = c.args.slots.now.items in
+    let x : Slot = record { level = c.index_mut-2.result.now.level; writer = c.write_to-writer.result.0 } in
+    let old : c.take-held.result ≡ (get_or slots c.args.place x).writer
+    = c.take-held.ensures.value ∙ ap (λ (s : Slot). s.writer) (c.index_mut.ensures.value ∙ get_or_default slots c.args.place c.index_mut.result.now x c.requires.within) in
+    let step : LeavesOthers (is_run (get_or slots c.args.place x).writer) (is_run x.writer) r s = subst (λ o. LeavesOthers (is_run o) (is_run x.writer) r s) old c.write_to-writer.ensures.others in
+    rw set-set (on_ok _ _ c.write_to-writer.result.1
+    (λ told parts held. held-set r s slots c.args.place x parts c.args.row.now c.requires.within (subst (λ o. (rows : List (List Value)) → SlotHolds r o rows → SlotHolds s x.writer (rows ++ c.args.row.now ∷ [])) old told) step c.requires.ours held)
+    c.write_to-writer.ensures.holds)
+
+pub returns-clause-began : goal.returns-clause-began
+returns-clause-began g c =
+    let r = g.S.RunStore.runs c.args.store.now in
+    let slots : List Slot = c.args.slots.now.items in
+    let x : Slot = record { level = c.index_mut-2.result.now.level; writer = c.write_to-writer.result.0 } in
+    let old : c.take-held.result ≡ (get_or slots c.args.place x).writer
+    = c.take-held.ensures.value ∙ ap (λ (s : Slot). s.writer) (c.index_mut.ensures.value ∙ get_or_default slots c.args.place c.index_mut.result.now x c.requires.within) in
+    if_ok _ _ c.write_to-writer.result.1
+    (λ began told parts held. began-set r slots c.args.place x parts c.args.row.now began c.requires.within (subst (λ o. (rows : List (List Value)) → SlotHolds r o rows → one_if_some rows + began ≡ 1) old told) held)
+    c.write_to-writer.ensures.began
+
+pub returns-clause-ours : goal.returns-clause-ours
+returns-clause-ours g c =
+    let r = g.S.RunStore.runs c.args.store.now in
+    let s = g.S.RunStore.runs c.write_to-writer.new.store in
+    let slots : List Slot = c.args.slots.now.items in
+    let x : Slot = record { level = c.index_mut-2.result.now.level; writer = c.write_to-writer.result.0 } in
+    let old : c.take-held.result ≡ (get_or slots c.args.place x).writer
+    = c.take-held.ensures.value ∙ ap (λ (s : Slot). s.writer) (c.index_mut.ensures.value ∙ get_or_default slots c.args.place c.index_mut.result.now x c.requires.within) in
+    let step : LeavesOthers (is_run (get_or slots c.args.place x).writer) (is_run x.writer) r s = subst (λ o. LeavesOthers (is_run o) (is_run x.writer) r s) old c.write_to-writer.ensures.others in
+    rw set-set (ours-set r s slots c.args.place x c.requires.within step c.write_to-writer.ensures.live c.requires.ours)
+
+pub returns-clause-others : goal.returns-clause-others
+returns-clause-others g c =
+    let r = g.S.RunStore.runs c.args.store.now in
+    let s = g.S.RunStore.runs c.write_to-writer.new.store in
+    let slots : List Slot = c.args.slots.now.items in
+    let x : Slot = record { level = c.index_mut-2.result.now.level; writer = c.write_to-writer.result.0 } in
+    let old : c.take-held.result ≡ (get_or slots c.args.place x).writer
+    = c.take-held.ensures.value ∙ ap (λ (s : Slot). s.writer) (c.index_mut.ensures.value ∙ get_or_default slots c.args.place c.index_mut.result.now x c.requires.within) in
+    let step : LeavesOthers (is_run (get_or slots c.args.place x).writer) (is_run x.writer) r s = subst (λ o. LeavesOthers (is_run o) (is_run x.writer) r s) old c.write_to-writer.ensures.others in
+    rw set-set (others-set r s slots c.args.place x c.requires.within step)
+
+pub returns-clause-cause : goal.returns-clause-cause
+returns-clause-cause g c parts held =
+    let r = g.S.RunStore.runs c.args.store.now in
+    let slots : List Slot = c.args.slots.now.items in
+    let x : Slot = c.index_mut.result.now in
+    let old : (get_or slots c.args.place x).writer ≡ c.take-held.result
+    = sym (c.take-held.ensures.value ∙ ap (λ (s : Slot). s.writer) c.index_mut.ensures.value) in
+    let one = held-one r slots c.args.place x parts c.requires.within held in
+    c.write_to-writer.ensures.cause one.0 (subst (λ o. SlotHolds r o one.0) old one.1)

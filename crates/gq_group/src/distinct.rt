@@ -1,0 +1,252 @@
+//! How many different values the rows of each key have in a column.
+ghost use Rattle.std.specs.Prelude.{◌≡◌, ◌+◌, ◌≤◌, ◌<◌, ◌^◌, ◌++◌, [], ℕ, true, false, List, length, IsTrue, IfOk, OnOk, IfErr, IfSome};
+ghost use Rattle.gq_row.specs.declared.value.Value.{Value as Cell};
+ghost use Rattle.gq_spill.specs.Reading.{Left, opened};
+ghost use Rattle.gq_spill.specs.Writing.{Wrote};
+ghost use Rattle.gq_group.specs.Access.{Apart, either, LeavesOthers, HasCause};
+ghost use Rattle.gq_group.specs.Distinct.{PushesDistinct, with_column, all_have};
+ghost use Rattle.gq_group.specs.Groups.{Group, keys_of, Pushes, OneWidth};
+ghost use Rattle.gq_group.specs.Phases.{pairs_of, counts_of, blamed_as, CanWrite};
+ghost use Rattle.gq_group.specs.RunSources.{only};
+
+use crate::budget::Budget;
+use crate::group_sink::GroupSink;
+use crate::group_spec::GroupSpec;
+use crate::grouping::{Spent, group};
+use crate::key_run::KeyRun;
+use crate::refusal::Refusal;
+use crate::row_source::RowSource;
+use crate::run_source::RunSource;
+use gq_agg::AggKind;
+use gq_row::Key;
+use gq_spill::{RunMark, RunReader, RunStore};
+use std::alloc::{AllocError, Global};
+use sw_probe::KeyHash;
+
+// Groups rows by their key and, behind it, their value in a column.
+fn pairs_spec(alloc: Global, by: &[usize], column: usize) -> Result<GroupSpec, AllocError>
+    ensures { IfOk result (λ spec. spec ≡ pairs_of by.now column) }
+{
+    let mut columns = Vec::from_slice(alloc, by)?;
+    columns.push(column)?;
+    Ok(GroupSpec::new(columns, Vec::new(alloc)))
+}
+
+// Groups such pairs by the columns before their value, and counts those that have one.
+fn counts_spec(alloc: Global, columns: usize) -> Result<GroupSpec, AllocError>
+    ensures { IfOk result (λ spec. spec ≡ counts_of columns) }
+{
+    let mut by = Vec::new(alloc);
+    'columns: for column in 0..columns {
+        by.push(column)?;
+    }
+    let aggs = vec![in alloc; (AggKind::Count, columns)]?;
+    Ok(GroupSpec::new(by, aggs))
+}
+
+// No count is out of range: a store that does not read back what was written is to blame.
+fn blamed(refusal: Refusal) -> Refusal
+    ensures { result ≡ blamed_as refusal }
+{
+    match refusal {
+        Refusal::SumRange => Refusal::Damaged,
+        Refusal::Memory => Refusal::Memory,
+        Refusal::StoreFault => Refusal::StoreFault,
+        Refusal::Damaged => Refusal::Damaged,
+    }
+}
+
+// What both phases took, and the run between them. No count is told past 64 bits.
+fn in_all(first: Spent, second: Spent) -> Result<Spent, Refusal>
+    ensures read { IfOk result (λ spent. spent.rows_read ≡ first.rows_read) }
+    ensures groups { IfOk result (λ spent. spent.groups ≡ second.groups) }
+    ensures runs { IfOk result (λ spent. spent.runs ≡ 1 + first.runs + second.runs) }
+    ensures cause { IfErr result (λ e. e ≡ Refusal.Memory) }
+{
+    let pairs = second.rows_read;
+    let Some(written) = first.rows_written.checked_add(pairs) else {
+        return Err(Refusal::Memory);
+    };
+    let Some(rows_written) = written.checked_add(second.rows_written) else {
+        return Err(Refusal::Memory);
+    };
+    let Some(made) = first.runs.checked_add(1) else {
+        return Err(Refusal::Memory);
+    };
+    let Some(runs) = made.checked_add(second.runs) else {
+        return Err(Refusal::Memory);
+    };
+    Ok(Spent {
+        rows_read: first.rows_read,
+        rows_written,
+        groups: second.groups,
+        runs,
+    })
+}
+
+// Groups the pairs of a run, each of so many columns and a value, and counts their values.
+fn count_pairs<H: KeyHash<Key> + Copy, S: RunStore, K: GroupSink<S>>(
+    alloc: Global,
+    hasher: H,
+    columns: usize,
+    mark: RunMark,
+    sink: &mut K,
+    store: &mut S,
+    budget: Budget,
+) -> Result<Spent, Refusal>
+    requires live { IsTrue ((S.runs store.old).live mark.id.number) }
+    requires sink { K.is_ready sink.old (S.runs store.old) }
+    requires apart { Apart (only mark.id.number) (K.owns sink.old) }
+    requires few { mark.records ≤ 2 ^ 31 }
+    requires short { columns < 2 ^ 63 }
+    requires pairs { IsTrue (S.runs store.old).honest → (pairs : List (List Cell)) ×
+        Left (opened mark (columns + 1)) (S.runs store.old) pairs }
+    ensures groups { IsTrue (S.runs store.old).honest →
+        OnOk result ((pairs : List (List Cell)) →
+        Left (opened mark (columns + 1)) (S.runs store.old) pairs → (before : List Group) →
+        K.holds sink.old (S.runs store.old) before → Pushes (counts_of columns) pairs
+        (λ out. K.holds sink.new (S.runs store.new) (before ++ out))) }
+    ensures count { IsTrue (S.runs store.old).honest →
+        IfOk result (λ spent. (pairs : List (List Cell)) →
+        Left (opened mark (columns + 1)) (S.runs store.old) pairs →
+        spent.groups ≡ length (keys_of (counts_of columns).by pairs)) }
+    ensures made { K.makes_runs ≡ false →
+        IfOk result (λ spent. (S.runs store.new).made ≡ (S.runs store.old).made + spent.runs) }
+    ensures others { LeavesOthers (either (only mark.id.number) (K.owns sink.old)) (either
+        (only mark.id.number) (K.owns sink.new)) (S.runs store.old) (S.runs store.new) }
+    ensures apart { Apart (only mark.id.number) (K.owns sink.new) }
+    ensures grows { (run : ℕ) → IsTrue (K.owns sink.old run) → IsTrue (K.owns sink.new run) }
+    ensures sink { OnOk result (K.is_ready sink.new (S.runs store.new)) }
+    ensures cause { IfErr result (λ e. HasCause e (S.runs store.old) (S.runs store.new)) }
+{
+    let Ok(spec) = counts_spec(alloc, columns) else {
+        return Err(Refusal::Memory);
+    };
+    let mut source = RunSource {
+        alloc,
+        reader: RunReader::open(alloc, mark, columns + 1),
+    };
+    match group(alloc, hasher, &spec, &mut source, sink, store, budget) {
+        Ok(spent) => Ok(spent),
+        Err(refusal) => Err(blamed(refusal)),
+    }
+}
+
+// Writes the different pairs of a key and a value to a run, and counts what it then has. The run
+// stays for the caller to discard.
+fn count_in_run<H: KeyHash<Key> + Copy, S: RunStore, R: RowSource<S>, K: GroupSink<S>>(
+    alloc: Global,
+    hasher: H,
+    by: &[usize],
+    column: usize,
+    keys: KeyRun,
+    source: &mut R,
+    sink: &mut K,
+    store: &mut S,
+    budget: Budget,
+) -> Result<Spent, Refusal>
+    requires keys { CanWrite keys.writer (S.runs store.old) }
+    requires empty { IsTrue (S.runs store.old).honest →
+        Wrote keys.writer (S.runs store.old) [] }
+    requires source { R.is_ready source.old (S.runs store.old) }
+    requires sink { K.is_ready sink.old (S.runs store.old) }
+    requires apart { Apart (R.owns source.old) (K.owns sink.old) }
+    requires apart_source { Apart (R.owns source.old) (only keys.writer.mark.id.number) }
+    requires apart_sink { Apart (only keys.writer.mark.id.number) (K.owns sink.old) }
+    requires few { R.bound source.old ≤ 2 ^ 31 }
+    requires rows { IsTrue (S.runs store.old).honest → (rows : List (List Cell)) →
+        R.gives source.old (S.runs store.old) rows →
+        IsTrue (all_have (with_column by.now column) rows) }
+    requires widths { IsTrue (S.runs store.old).honest → (rows : List (List Cell)) →
+        R.gives source.old (S.runs store.old) rows → OneWidth rows }
+    ensures groups { IsTrue (S.runs store.old).honest →
+        OnOk result ((rows : List (List Cell)) → R.gives source.old (S.runs store.old) rows
+        → (before : List Group) → K.holds sink.old (S.runs store.old) before
+        → PushesDistinct by.now column rows
+        (λ out. K.holds sink.new (S.runs store.new) (before ++ out))) }
+    ensures counts { IsTrue (S.runs store.old).honest →
+        IfOk result (λ spent. (rows : List (List Cell)) →
+        R.gives source.old (S.runs store.old) rows
+        → (spent.rows_read ≡ length rows) × (spent.groups ≡ length (keys_of by.now rows))) }
+    ensures made { R.makes_runs ≡ false → K.makes_runs ≡ false → IfOk result (λ spent.
+        (S.runs store.new).made + 1 ≡ (S.runs store.old).made + spent.runs) }
+    ensures others { LeavesOthers
+        (either (either (R.owns source.old) (K.owns sink.old)) (only keys.writer.mark.id.number))
+        (either (either (R.owns source.new) (K.owns sink.new)) (only keys.writer.mark.id.number))
+        (S.runs store.old) (S.runs store.new) }
+    ensures apart { Apart (only keys.writer.mark.id.number)
+        (either (R.owns source.new) (K.owns sink.new)) }
+    ensures grows { (run : ℕ) → IsTrue (either (R.owns source.old) (K.owns sink.old) run) →
+        IsTrue (either (R.owns source.new) (K.owns sink.new) run) }
+    ensures source { OnOk result (R.is_ready source.new (S.runs store.new)) }
+    ensures sink { OnOk result (K.is_ready sink.new (S.runs store.new)) }
+    ensures cause { IfErr result (λ e. HasCause e (S.runs store.old) (S.runs store.new)) }
+{
+    let Ok(spec) = pairs_spec(alloc, by, column) else {
+        return Err(Refusal::Memory);
+    };
+    let mut keys = keys;
+    let first = match group(alloc, hasher, &spec, source, &mut keys, store, budget) {
+        Ok(first) => first,
+        Err(refusal) => return Err(blamed(refusal)),
+    };
+    let mark = keys.finish();
+    if mark.records > first.rows_read {
+        return Err(Refusal::Damaged);
+    }
+    let second = count_pairs(alloc, hasher, by.len(), mark, sink, store, budget)?;
+    in_all(first, second)
+}
+
+/// The number of different values of a column, nulls left out, among the source's rows of each key:
+/// one group for each key of the columns `by`, with that number alone, pushed to the sink in some
+/// order. Without columns to group by there is one group, also over no rows.
+///
+/// The different pairs of a key and a value are grouped first, and written to a run; these are then
+/// grouped by their keys. Both keep at most the budget's number of groups in memory, as [`group`]
+/// does. A pair that no run takes is refused with `Memory`.
+///
+/// A refusal leaves the source behind some of its rows, and the sink with some of the groups; it is
+/// never `SumRange`. The runs that were made are discarded, whatever the outcome.
+pub fn group_distinct<H: KeyHash<Key> + Copy, S: RunStore, R: RowSource<S>, K: GroupSink<S>>(
+    alloc: Global,
+    hasher: H,
+    by: &[usize],
+    column: usize,
+    source: &mut R,
+    sink: &mut K,
+    store: &mut S,
+    budget: Budget,
+) -> Result<Spent, Refusal>
+    requires source { R.is_ready source.old (S.runs store.old) }
+    requires sink { K.is_ready sink.old (S.runs store.old) }
+    requires apart { Apart (R.owns source.old) (K.owns sink.old) }
+    requires few { R.bound source.old ≤ 2 ^ 31 }
+    requires rows { IsTrue (S.runs store.old).honest → (rows : List (List Cell)) →
+        R.gives source.old (S.runs store.old) rows →
+        IsTrue (all_have (with_column by.now column) rows) }
+    requires widths { IsTrue (S.runs store.old).honest → (rows : List (List Cell)) →
+        R.gives source.old (S.runs store.old) rows → OneWidth rows }
+    ensures groups { IsTrue (S.runs store.old).honest →
+        OnOk result ((rows : List (List Cell)) → R.gives source.old (S.runs store.old) rows
+        → (before : List Group) → K.holds sink.old (S.runs store.old) before
+        → PushesDistinct by.now column rows
+        (λ out. K.holds sink.new (S.runs store.new) (before ++ out))) }
+    ensures counts { IsTrue (S.runs store.old).honest →
+        IfOk result (λ spent. (rows : List (List Cell)) →
+        R.gives source.old (S.runs store.old) rows
+        → (spent.rows_read ≡ length rows) × (spent.groups ≡ length (keys_of by.now rows))) }
+    ensures made { R.makes_runs ≡ false → K.makes_runs ≡ false →
+        IfOk result (λ spent. (S.runs store.new).made ≡ (S.runs store.old).made + spent.runs) }
+    ensures others { LeavesOthers (either (R.owns source.old) (K.owns sink.old)) (either
+        (R.owns source.new) (K.owns sink.new)) (S.runs store.old) (S.runs store.new) }
+    ensures source { OnOk result (R.is_ready source.new (S.runs store.new)) }
+    ensures sink { OnOk result (K.is_ready sink.new (S.runs store.new)) }
+    ensures cause { IfErr result (λ e. HasCause e (S.runs store.old) (S.runs store.new)) }
+{
+    let keys = KeyRun::begin(alloc, store)?;
+    let run = keys.run();
+    let outcome = count_in_run(alloc, hasher, by, column, keys, source, sink, store, budget);
+    store.discard(run);
+    outcome
+}

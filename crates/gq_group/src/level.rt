@@ -1,0 +1,250 @@
+//! One reading of a source: groups of some keys to the sink, rows of other keys to runs.
+ghost use Rattle.std.specs.Prelude.{◌≡◌, ◌+◌, ◌<◌, ◌≤◌, ◌^◌, ◌++◌, [], ℕ, false, true, List, length, IsTrue, IfOk, OnOk, IfErr, IsErrOf, cond, ◌==◌};
+ghost use Rattle.sw_table.specs.LaidOut.{hash_by};
+ghost use Rattle.gq_row.specs.declared.value.Value.{Value as Cell};
+ghost use Rattle.gq_row.specs.Classes.{bytes_of};
+ghost use Rattle.gq_group.specs.Access.{Apart, either, LeavesOthers, HasCause, GroupCause};
+ghost use Rattle.gq_group.specs.Groups.{Group, fits_spec, out_of_range};
+ghost use Rattle.gq_group.specs.Levels.{class_at, class_by, classes_at};
+ghost use Rattle.gq_group.specs.Readings.{AreRows, Parted, Numbers, Places, Reads};
+ghost use Rattle.gq_group.specs.Residents.{Resident};
+ghost use Rattle.gq_group.specs.Slots.{among, Ours, AllHeld, AreEmpty};
+
+use crate::budget::Budget;
+use crate::group_sink::GroupSink;
+use crate::group_spec::GroupSpec;
+use crate::grouping::push_all;
+use crate::refusal::Refusal;
+use crate::resident_table::{Offered, ResidentTable};
+use crate::row_source::RowSource;
+use crate::slot::{Slot, add_slots, spill};
+use gq_row::{Key, Row};
+use gq_spill::{RunStore, is_storable};
+use std::alloc::Global;
+use sw_probe::KeyHash;
+
+// What a reading did.
+#[derive(Clone, Copy, Debug)]
+pub(crate) struct Level {
+    pub(crate) rows_read: u64,
+    pub(crate) rows_written: u64,
+    pub(crate) groups: u64,
+    pub(crate) runs: u64,
+    // The length of the first row.
+    pub(crate) columns: usize,
+}
+
+// What became of a row: whether it was written, and whether a run was begun for it, as numbers.
+#[derive(Clone, Copy)]
+struct Placed {
+    written: u64,
+    began: u64,
+}
+
+// What was read, and what became of it.
+#[derive(Clone, Copy)]
+struct Taken {
+    rows_read: u64,
+    rows_written: u64,
+    runs: u64,
+    columns: usize,
+}
+
+// How many classes of keys a level has: sixteen, and from level 4 on one.
+fn slots_at(level: u32) -> usize
+    ensures { result ≡ classes_at level }
+{
+    if level < 4 { 16 } else { 1 }
+}
+
+// The class of a key, by its hash.
+fn place_at(level: u32, hash: u64) -> usize
+    ensures { result ≡ class_at level hash }
+{
+    if level < 4 {
+        ((hash >> (60 - 4 * level)) % 16) as usize
+    } else {
+        0
+    }
+}
+
+// Puts a row into its group, or into the run of its class.
+fn place_row<H: KeyHash<Key> + Copy, S: RunStore>(
+    alloc: Global,
+    spec: &GroupSpec,
+    level: u32,
+    row: &Row,
+    store: &mut S,
+    table: &mut ResidentTable<H>,
+    slots: &mut Vec<Slot>,
+) -> Result<Placed, Refusal>
+    requires fits { IsTrue (fits_spec spec.now row.now) }
+    requires resident { (rows : List (List Cell)) × (length rows < 2 ^ 32) ×
+        Resident spec.now table.old.budget.entries rows table.old.map }
+    requires places { length slots.old.items ≡ classes_at level }
+    requires ours { Ours slots.old.items (S.runs store.old) }
+    ensures places { IfOk result (λ placed. Places spec.now table.old.budget.entries (class_by
+        (hash_by H.hash_of bytes_of table.old.map.hasher) level) (classes_at level) row.now (S.runs
+        store.old) (S.runs store.new) table.old.map table.new.map slots.old.items slots.new.items
+        placed.written placed.began) }
+    ensures budget { table.new.budget ≡ table.old.budget }
+    ensures hasher { OnOk result (table.new.map.hasher ≡ table.old.map.hasher) }
+    ensures same_length { length slots.new.items ≡ classes_at level }
+    ensures ours { Ours slots.new.items (S.runs store.new) }
+    ensures others { LeavesOthers (among slots.old.items) (among slots.new.items) (S.runs
+        store.old) (S.runs store.new) }
+    ensures made { IfOk result (λ placed.
+        (S.runs store.new).made ≡ (S.runs store.old).made + placed.began) }
+    ensures cause { (parts : List (List (List Cell))) →
+        AllHeld (S.runs store.old) slots.old.items parts →
+        IfErr result (λ e. HasCause e (S.runs store.old) (S.runs store.new)) }
+{
+    let Ok(offered) = table.offer(alloc, spec, row) else {
+        return Err(Refusal::Memory);
+    };
+    let Offered::Left(hash) = offered else {
+        return Ok(Placed {
+            written: 0,
+            began: 0,
+        });
+    };
+    if !is_storable(row) {
+        return Err(Refusal::Memory);
+    }
+    let began = spill(alloc, slots, place_at(level, hash), row, store)?;
+    Ok(Placed { written: 1, began })
+}
+
+// The length of the first row.
+fn width(count: u64, columns: usize, row: &Row) -> usize
+    ensures { result ≡ cond (count == 0) (length row.now) columns }
+{
+    if count == 0 { row.len() } else { columns }
+}
+
+// Reads all rows of the source: each into its group, or where the table is full into the run of its
+// class.
+fn read_rows<H: KeyHash<Key> + Copy, S: RunStore, R: RowSource<S>>(
+    alloc: Global,
+    spec: &GroupSpec,
+    level: u32,
+    source: &mut R,
+    store: &mut S,
+    table: &mut ResidentTable<H>,
+    slots: &mut Vec<Slot>,
+) -> Result<Taken, Refusal>
+    requires source { R.is_ready source.old (S.runs store.old) }
+    requires few { R.bound source.old ≤ 2 ^ 31 }
+    requires rows { IsTrue (S.runs store.old).honest → (rows : List (List Cell)) ×
+        R.gives source.old (S.runs store.old) rows × AreRows spec.now rows }
+    requires start { Resident spec.now table.old.budget.entries [] table.old.map }
+    requires places { length slots.old.items ≡ classes_at level }
+    requires empty { AreEmpty slots.old.items }
+    ensures read { IfOk result (λ taken. Reads spec.now table.old.budget.entries (class_by
+        (hash_by H.hash_of bytes_of table.old.map.hasher) level) (classes_at level) (S.runs
+        store.old).honest (R.gives source.old (S.runs store.old)) (λ left. left ≡ []) (S.runs
+        store.new) taken.rows_read taken.rows_written taken.runs taken.columns table.new.map
+        slots.new.items) }
+    ensures bound { IfOk result (λ taken. taken.rows_read ≤ R.bound source.old) }
+    ensures less_runs { IfOk result (λ taken. taken.runs ≤ taken.rows_written) }
+    ensures places { length slots.new.items ≡ classes_at level }
+    ensures source { OnOk result (R.is_ready source.new (S.runs store.new)) }
+    ensures ours { Ours slots.new.items (S.runs store.new) }
+    ensures apart { Apart (among slots.new.items) (R.owns source.new) }
+    ensures others { LeavesOthers (R.owns source.old) (either (R.owns source.new) (among
+        slots.new.items)) (S.runs store.old) (S.runs store.new) }
+    ensures grows { (run : ℕ) → IsTrue (R.owns source.old run) → IsTrue (R.owns source.new run) }
+    ensures owned { R.makes_runs ≡ false → (run : ℕ) → IsTrue (R.owns source.new run) →
+        IsTrue (R.owns source.old run) }
+    ensures made { R.makes_runs ≡ false → IfOk result (λ taken.
+        (S.runs store.new).made ≡ (S.runs store.old).made + taken.runs) }
+    ensures cause { IfErr result (λ e. HasCause e (S.runs store.old) (S.runs store.new)) }
+{
+    let mut rows_read: u64 = 0;
+    let mut rows_written: u64 = 0;
+    let mut runs: u64 = 0;
+    let mut columns: usize = 0;
+    'rows: loop {
+        let Some(row) = source.next(store)? else {
+            break;
+        };
+        if !spec.fits(&row) {
+            return Err(Refusal::Damaged);
+        }
+        let placed = place_row(alloc, spec, level, &row, store, table, slots)?;
+        columns = width(rows_read, columns, &row);
+        rows_read += 1;
+        rows_written += placed.written;
+        runs += placed.began;
+    }
+    Ok(Taken {
+        rows_read,
+        rows_written,
+        runs,
+        columns,
+    })
+}
+
+// Sends the groups of some of a source's keys to the sink, at most the budget's number, and writes the
+// rows of its other keys to runs in new slots. At every exit the runs that were begun stand there.
+pub(crate) fn one_level<H: KeyHash<Key> + Copy, S: RunStore, R: RowSource<S>, K: GroupSink<S>>(
+    alloc: Global,
+    hasher: H,
+    spec: &GroupSpec,
+    level: u32,
+    source: &mut R,
+    sink: &mut K,
+    store: &mut S,
+    budget: Budget,
+    slots: &mut Vec<Slot>,
+) -> Result<Level, Refusal>
+    requires source { R.is_ready source.old (S.runs store.old) }
+    requires sink { K.is_ready sink.old (S.runs store.old) }
+    requires apart { Apart (R.owns source.old) (K.owns sink.old) }
+    requires few { R.bound source.old ≤ 2 ^ 31 }
+    requires rows { IsTrue (S.runs store.old).honest → (rows : List (List Cell)) ×
+        R.gives source.old (S.runs store.old) rows × AreRows spec.now rows }
+    requires none { slots.old.items ≡ [] }
+    ensures parted { IsTrue (S.runs store.old).honest → IfOk result (λ done.
+        (rows : List (List Cell)) → R.gives source.old (S.runs store.old) rows →
+        Parted spec.now budget.entries rows slots.new.items (S.runs store.new) done (λ out.
+        (before : List Group) → K.holds sink.old (S.runs store.old) before →
+        K.holds sink.new (S.runs store.new) (before ++ out))) }
+    ensures overflow { IsErrOf result Refusal.SumRange → IsTrue (S.runs store.old).honest →
+        (rows : List (List Cell)) → R.gives source.old (S.runs store.old) rows →
+        out_of_range spec.now rows ≡ true }
+    ensures numbers { IfOk result (λ done. Numbers budget.entries (R.bound source.old)
+        slots.new.items done) }
+    ensures places { length slots.new.items ≤ 16 }
+    ensures source { OnOk result (R.is_ready source.new (S.runs store.new)) }
+    ensures sink { OnOk result (K.is_ready sink.new (S.runs store.new)) }
+    ensures ours { Ours slots.new.items (S.runs store.new) }
+    ensures apart { Apart (among slots.new.items) (either (R.owns source.new) (K.owns sink.new)) }
+    ensures still_apart { Apart (R.owns source.new) (K.owns sink.new) }
+    ensures others { LeavesOthers (either (R.owns source.old) (K.owns sink.old)) (either (either
+        (R.owns source.new) (among slots.new.items)) (K.owns sink.new)) (S.runs store.old) (S.runs
+        store.new) }
+    ensures grows { (run : ℕ) → IsTrue (R.owns source.old run) → IsTrue (R.owns source.new run) }
+    ensures sink_grows { (run : ℕ) → IsTrue (K.owns sink.old run) → IsTrue (K.owns sink.new run) }
+    ensures owned { R.makes_runs ≡ false → (run : ℕ) → IsTrue (R.owns source.new run) →
+        IsTrue (R.owns source.old run) }
+    ensures made { R.makes_runs ≡ false → K.makes_runs ≡ false → IfOk result (λ done.
+        (S.runs store.new).made ≡ (S.runs store.old).made + done.runs) }
+    ensures cause { IfErr result (λ e. GroupCause e (S.runs store.old) (S.runs store.new)) }
+{
+    let Ok(()) = add_slots(level.saturating_add(1), slots_at(level), slots) else {
+        return Err(Refusal::Memory);
+    };
+    let Ok(mut table) = ResidentTable::start(alloc, hasher, spec, budget) else {
+        return Err(Refusal::Memory);
+    };
+    let taken = read_rows(alloc, spec, level, source, store, &mut table, slots)?;
+    let groups = push_all(alloc, table.into_map(), sink, store)?;
+    Ok(Level {
+        rows_read: taken.rows_read,
+        rows_written: taken.rows_written,
+        groups,
+        runs: taken.runs,
+        columns: taken.columns,
+    })
+}

@@ -1,0 +1,95 @@
+//! The groups that are kept in memory.
+ghost use Rattle.std.specs.Prelude.{◌≡◌, ◌≤◌, ◌<◌, ◌^◌, [], List, length, IsTrue, IfOk, OnOk};
+ghost use Rattle.std.specs.FinMap.{len};
+ghost use Rattle.sw_table.specs.Entries.{entries};
+ghost use Rattle.sw_table.specs.LaidOut.{hash_by};
+ghost use Rattle.gq_row.specs.declared.value.Value.{Value as Cell};
+ghost use Rattle.gq_row.specs.Classes.{class_of, bytes_of};
+ghost use Rattle.gq_row.specs.Rows.{key_of};
+ghost use Rattle.gq_group.specs.Groups.{fits_spec};
+ghost use Rattle.gq_group.specs.Residents.{Resident, Offers, HasHash};
+
+use crate::aggs::Aggs;
+use crate::budget::Budget;
+use crate::group_spec::GroupSpec;
+use crate::table::{add_group, start_table};
+use gq_row::{Key, KeyRef, Row};
+use std::alloc::{AllocError, Global};
+use sw_flat::{Entry, FlatMap};
+use sw_probe::KeyHash;
+
+// Groups, at most as many as a budget.
+#[derive(Drop)]
+pub(crate) struct ResidentTable<H: KeyHash<Key>> {
+    map: FlatMap<Key, Aggs, H>,
+    budget: Budget,
+    ghost within: { len (entries class_of map) ≤ budget.entries },
+}
+
+// What became of a row.
+#[derive(Clone, Copy)]
+pub(crate) enum Offered {
+    // It is in its group.
+    Taken,
+    // Its key has no group, and there is no space for one: the hash of that key.
+    Left(u64),
+}
+
+impl<H: KeyHash<Key> + Copy> ResidentTable<H> {
+    // The groups of no row: without columns to group by there is that of the empty key.
+    pub(crate) fn start(
+        alloc: Global,
+        hasher: H,
+        spec: &GroupSpec,
+        budget: Budget,
+    ) -> Result<ResidentTable<H>, AllocError>
+        ensures resident { IfOk result (λ table. Resident spec.now budget.entries [] table.map) }
+        ensures budget { IfOk result (λ table. table.budget ≡ budget) }
+        ensures hasher { IfOk result (λ table. table.map.hasher ≡ hasher) }
+    {
+        let map = start_table(alloc, hasher, spec)?;
+        Ok(ResidentTable { map, budget })
+    }
+
+    // Groups one row more where its key has a group, or where there is space for one more: one
+    // look-up, by one hash, tells.
+    pub(crate) fn offer(
+        &mut self,
+        alloc: Global,
+        spec: &GroupSpec,
+        row: &Row,
+    ) -> Result<Offered, AllocError>
+        requires fits { IsTrue (fits_spec spec.now row.now) }
+        requires resident { (rows : List (List Cell)) × (length rows < 2 ^ 32) ×
+            Resident spec.now self.old.budget.entries rows self.old.map }
+        ensures offers { IfOk result (λ answer. (rows : List (List Cell)) →
+            Resident spec.now self.old.budget.entries rows self.old.map →
+            Offers spec.now self.old.budget.entries rows row.now self.old.map self.new.map
+            answer) }
+        ensures hash { IfOk result (HasHash (hash_by H.hash_of bytes_of self.old.map.hasher
+            (class_of (key_of spec.now.by row.now)))) }
+        ensures budget { self.new.budget ≡ self.old.budget }
+        ensures hasher { OnOk result (self.new.map.hasher ≡ self.old.map.hasher) }
+    {
+        match self.map.entry(&KeyRef::new(row, spec.by())) {
+            Entry::Occupied(slot) => {
+                self.map.value_mut(slot).add(spec.aggs(), row)?;
+                Ok(Offered::Taken)
+            }
+            Entry::Vacant(vacancy) => {
+                if self.map.len() >= self.budget.entries() as usize {
+                    return Ok(Offered::Left(vacancy.hash()));
+                }
+                add_group(alloc, spec, row, vacancy, &mut self.map)?;
+                Ok(Offered::Taken)
+            }
+        }
+    }
+
+    // The groups.
+    pub(crate) fn into_map(self) -> FlatMap<Key, Aggs, H>
+        ensures { result ≡ self.map }
+    {
+        self.map
+    }
+}

@@ -1,0 +1,127 @@
+//! Counts of different values.
+ghost use Rattle.std.specs.Prelude.{◌≡◌};
+ghost use Rattle.gq_group.specs.Distinct.{all_have};
+ghost use Rattle.gq_group.specs.Groups.{has_columns as columns_there};
+
+use crate::groups::{Answer, Rows, are_even, rows_of, told};
+use crate::list_sink::ListSink;
+use crate::list_source::ListSource;
+use gq_group::{Budget, Refusal, group_distinct};
+use gq_row::{Key, Row};
+use gq_spill::MemStore;
+use std::alloc::{AllocError, Global};
+use std::collections::VecDeque;
+use std::test::Fail;
+use sw_probe::{Constant, Fnv1a, KeyHash, LowBits};
+
+fn has_columns(columns: &[usize], row: &Row) -> bool
+    ensures { result ≡ columns_there columns.now row.now }
+{
+    columns.iter().all(|column| *column < row.len())
+}
+
+fn have_columns(columns: &[usize], rows: &VecDeque<Row>) -> bool
+    ensures { result ≡ all_have columns.now rows.now.items }
+{
+    rows.iter().all(|row| has_columns(columns, row))
+}
+
+/// The counts of the different values of a column, spelled out, in the order of their spellings.
+fn counted<H: KeyHash<Key> + Copy>(
+    alloc: Global,
+    hasher: H,
+    by: &[usize],
+    column: usize,
+    rows: VecDeque<Row>,
+) -> Result<Answer, Refusal> {
+    let Some(budget) = Budget::new(2) else {
+        return Err(Refusal::Memory);
+    };
+    let Ok(mut columns) = Vec::from_slice(alloc, by) else {
+        return Err(Refusal::Memory);
+    };
+    let Ok(()) = columns.push(column) else {
+        return Err(Refusal::Memory);
+    };
+    let fits = have_columns(columns.as_slice(), &rows) && are_even(&rows);
+    if rows.len() > 1_000_000 || !fits {
+        return Err(Refusal::Damaged);
+    }
+    let mut source = ListSource { rows };
+    let mut sink = ListSink {
+        alloc,
+        groups: Vec::new(alloc),
+    };
+    let mut store = MemStore::new(alloc);
+    let spent = group_distinct(
+        alloc,
+        hasher,
+        by,
+        column,
+        &mut source,
+        &mut sink,
+        &mut store,
+        budget,
+    )?;
+    let ListSink { mut groups, .. } = sink;
+    if groups.sort().is_err() {
+        return Err(Refusal::Memory);
+    }
+    Ok(Answer { spent, groups })
+}
+
+/// What the counts come to under a hasher that spreads keys, one that hashes all alike, and one
+/// between, with a line for each.
+fn by_each_hasher(
+    alloc: Global,
+    by: &[usize],
+    column: usize,
+    rows: Rows,
+) -> Result<Vec<String>, AllocError> {
+    let spread = counted(alloc, Fnv1a { seed: 0 }, by, column, rows_of(alloc, rows)?);
+    let alike = counted(alloc, Constant(0), by, column, rows_of(alloc, rows)?);
+    let between = counted(alloc, LowBits(7), by, column, rows_of(alloc, rows)?);
+    let mut answers = Vec::new(alloc);
+    answers.push(told(alloc, spread)?)?;
+    answers.push(told(alloc, alike)?)?;
+    answers.push(told(alloc, between)?)?;
+    Ok(answers)
+}
+
+#[test]
+fn worked_counts(rt: HostRuntime) -> Result<(), Fail> {
+    let alloc = rt.alloc();
+    for (rows, by, column, due) in [
+        (Rows::Worked, &[0usize][..], 1, "4 rows, 2 groups; 1:1; 2:1"),
+        (Rows::Worked, &[], 1, "4 rows, 1 groups; :2"),
+        (Rows::Worked, &[1], 1, "4 rows, 3 groups; 5:1; 7:1; null:0"),
+        (
+            Rows::Worked,
+            &[1, 0],
+            0,
+            "4 rows, 3 groups; 5,1:1; 7,2:1; null,1:1",
+        ),
+        (Rows::Shared, &[0], 1, "4 rows, 2 groups; 1:1; 2:2"),
+        (Rows::Shared, &[], 1, "4 rows, 1 groups; :2"),
+        (Rows::Shared, &[1], 0, "4 rows, 2 groups; 5:2; 6:1"),
+        (Rows::NullsAlone, &[0], 1, "3 rows, 2 groups; 1:0; 2:0"),
+        (Rows::NullsAlone, &[], 1, "3 rows, 1 groups; :0"),
+        (Rows::NullsAlone, &[1], 0, "3 rows, 1 groups; null:2"),
+        (Rows::None, &[], 1, "0 rows, 1 groups; :0"),
+        (Rows::None, &[0], 1, "0 rows, 0 groups"),
+        (
+            Rows::NullsAndEmptyTexts,
+            &[1],
+            0,
+            "5 rows, 2 groups; '':2; null:3",
+        ),
+        (Rows::NullsAndEmptyTexts, &[], 1, "5 rows, 1 groups; :1"),
+        (Rows::Remainders, &[], 1, "500 rows, 1 groups; :50"),
+        (Rows::Remainders, &[], 0, "500 rows, 1 groups; :500"),
+    ] {
+        for found in by_each_hasher(alloc, by, column, rows)?.as_slice() {
+            assert_eq!(rt; found.as_str(), due);
+        }
+    }
+    Ok(())
+}
