@@ -1,84 +1,36 @@
 -- What is written so is read.
-use Rattle.std.proofs.Common.{◌≡◌, ℕ, zero, suc, ◌≤◌, ◌<◌, Bool, true, false, List, [], ◌∷◌, ◌++◌, Option, Some, None, length, refl, sym, ap, ◌∙◌, append_assoc, arith, length-append}
+use Rattle.std.proofs.Common.{◌≡◌, Bool, true, false, cond, List, [], ◌∷◌, ◌++◌, Option, Some, None, refl, sym, ap, ◌∙◌, append_assoc, arith}
 use Rattle.std.proofs.lemmas.List.{append-nil}
 use Rattle.std.specs.Prelude.{◌&&◌}
 use Rattle.gq_token.specs.declared.token.Terminal.{Terminal}
 use Rattle.gq_token.specs.declared.token.Terminal.TheVariants as terminal
-use Rattle.gq_row.specs.declared.schema.Kind.TheVariants as kind
 use Rattle.gq_token.specs.declared.token.Token.{Token}
 use Rattle.gq_token.specs.declared.token.Token.TheVariants.{Fixed, Name}
-use Rattle.gq_command.specs.Commands.{Bytes, counts_alone, separated, parenthesized, name_words, names_words, column_words, literal_words, key_words, phrase, some, grammatical, is_open, keeps_rules, SaysTokens}
+use Rattle.gq_token.specs.Tokens.{same}
+use Rattle.gq_token.specs.Queue.{skip, column_comma}
+use Rattle.gq_row.specs.declared.schema.Kind.TheVariants as kind
+use Rattle.gq_row.specs.declared.schema.Column.{Column}
+use Rattle.gq_row.specs.declared.value.Value.{Value}
+use Rattle.gq_clause.specs.declared.aggregate.Aggregate.{Aggregate}
+use Rattle.gq_clause.specs.declared.condition.Test.{Test}
+use Rattle.gq_clause.specs.Reading.{name_at, names_at, literals_at, in_parentheses}
+use Rattle.gq_clause.proofs.Again.{Again, list_again, names_again, literals_again, in_parentheses_again, clause_again, aggregates_again, tests_clause_again, tests_at_end, not_led}
+use Rattle.gq_clause.specs.Words.{test_words}
+use Rattle.gq_command.specs.Commands.{Bytes, some, separated, parenthesized, name_words, names_words, column_words, literals_words, aggregates_words, tests_clause, key_words, not_words, exists_words, phrase, exists_filled, grammatical, is_open, keeps_rules, SaysTokens}
 use Rattle.gq_command.specs.declared.command.Command.{Command}
 use Rattle.gq_command.specs.declared.command.Command.TheVariants.{Create, Drop, Load, Upsert, Delete, Show, Group, Distinct}
-use Rattle.gq_command.specs.declared.command.Aggregate.{Aggregate}
-use Rattle.gq_command.specs.declared.command.Aggregate.TheVariants.{CountAll}
+use Rattle.gq_command.specs.declared.command.Exists.{Exists}
 use Rattle.gq_command.specs.declared.command.Payload.{Payload}
 use Rattle.gq_command.specs.declared.command.Payload.TheVariants as payload
-use Rattle.gq_command.specs.declared.command.Test.{Test}
-use Rattle.gq_command.specs.declared.command.Exists.{Exists}
-use Rattle.gq_row.specs.declared.value.Value.{Value}
-use Rattle.gq_row.specs.declared.value.Value.TheVariants as value
-use Rattle.gq_row.specs.declared.schema.Column.{Column}
-use Rattle.gq_token.specs.Queue.{skip, column_comma}
-use Rattle.gq_command.specs.Reading.{name_at, literal_at, kind_at, column_at, items_within, items_at, names_at, literals_at, columns_at, in_parentheses, key_at, ended, row_at, create_at, group_at, form_behind, form_at, command_of}
+use Rattle.gq_command.specs.Reading.{kind_at, column_at, columns_at, key_at, ended, row_at, create_at, exists_behind, exists_at, conditions_behind, group_at, distinct_at, form_behind, form_at, command_of}
 
--- an item that is written is read, whatever follows it
-abbrev pub Again : {A : Type 0} → (List Token → Option (A × List Token)) → (A → List Token) → Type 0
-Again {A} item write = (x : A) (rest : List Token) → item (write x ++ rest) ≡ Some (x, rest)
-
-name_again : Again name_at name_words
-unfolding name_at
-name_again x rest = refl
-
-literal_again : Again literal_at literal_words
-unfolding literal_at
-literal_again value.Null rest = refl
-literal_again (value.Int z) rest = refl
-literal_again (value.Text t) rest = refl
+pub both_true : (a b : Bool) → a && b ≡ true → (a ≡ true) × (b ≡ true)
+both_true true b h = (refl, h)
+both_true false b h = absurd cc
 
 column_again : Again column_at column_words
 unfolding column_at name_at kind_at
 column_again c rest = elim c.kind as (λ k. column_at (column_words (record { name = c.name; kind = k }) ++ rest) ≡ Some (record { name = c.name; kind = k }, rest)) [ kind.Int ↦ refl | kind.Text ↦ refl ]
-
--- each item takes a token
-abbrev pub Takes : {A : Type 0} → (A → List Token) → Type 0
-Takes {A} write = (x : A) → 0 < length (write x)
-
-module _ {A : Type 0} (item : List Token → Option (A × List Token)) (next : List Token → Option (List Token)) (write : A → List Token) (separator : Terminal)
-    (again : Again item write) (takes : Takes write) (goes_on : (x : A) (rest : List Token) → next (Fixed separator ∷ (write x ++ rest)) ≡ Some (write x ++ rest)) where
-  -- the items after a separator
-  goes_on_list : (y : A) (ys : List A) (rest : List Token) → next (Fixed separator ∷ (separated separator write (y ∷ ys) ++ rest)) ≡ Some (separated separator write (y ∷ ys) ++ rest)
-  goes_on_list y [] rest = goes_on y rest
-  goes_on_list y (z ∷ zs) rest =
-      let e = append_assoc (write y) (Fixed separator ∷ separated separator write (z ∷ zs)) rest in
-      ap (λ (l : List Token). next (Fixed separator ∷ l)) e ∙ goes_on y (Fixed separator ∷ separated separator write (z ∷ zs) ++ rest) ∙ ap Some (sym e)
-
-  items_again : (n : ℕ) (x : A) (xs : List A) (rest : List Token) → length (x ∷ xs) ≤ n → next rest ≡ None → items_within item next n (separated separator write (x ∷ xs) ++ rest) ≡ Some (x ∷ xs, rest)
-  unfolding items_within
-  items_again zero x xs rest enough ends = absurd (omega arith)
-  items_again (suc n) x [] rest enough ends = rw (again x rest, ends) refl
-  items_again (suc n) x (y ∷ ys) rest enough ends =
-      let e : separated separator write (x ∷ y ∷ ys) ++ rest ≡ write x ++ (Fixed separator ∷ (separated separator write (y ∷ ys) ++ rest)) = append_assoc (write x) (Fixed separator ∷ separated separator write (y ∷ ys)) rest in
-      rw (e, again x (Fixed separator ∷ (separated separator write (y ∷ ys) ++ rest)), goes_on_list y ys rest, items_again n y ys rest (omega arith) ends) refl
-
-  enough_tokens : (x : A) (xs : List A) → length (x ∷ xs) ≤ length (separated separator write (x ∷ xs))
-  enough_tokens x [] = omega (arith, takes x)
-  enough_tokens x (y ∷ ys) = omega (arith, takes x, enough_tokens y ys, length-append (write x) (Fixed separator ∷ separated separator write (y ∷ ys)))
-
-  list_again : (xs : List A) (rest : List Token) → some xs ≡ true → next rest ≡ None → items_at item next (separated separator write xs ++ rest) ≡ Some (xs, rest)
-  list_again [] rest filled ends = absurd cc
-  list_again (x ∷ xs) rest filled ends = items_again (length (separated separator write (x ∷ xs) ++ rest)) x xs rest (omega (arith, enough_tokens x xs, length-append (separated separator write (x ∷ xs)) rest)) ends
-
-names_again : (xs : List Bytes) (rest : List Token) → some xs ≡ true → skip terminal.Comma rest ≡ None → names_at (names_words xs ++ rest) ≡ Some (xs, rest)
-names_again = list_again name_at (skip terminal.Comma) name_words terminal.Comma name_again (λ x. omega arith) (λ x rest. refl)
-
-literal_takes : Takes literal_words
-literal_takes value.Null = omega arith
-literal_takes (value.Int z) = omega arith
-literal_takes (value.Text t) = omega arith
-
-literals_again : (xs : List Value) (rest : List Token) → some xs ≡ true → skip terminal.Comma rest ≡ None → literals_at (separated terminal.Comma literal_words xs ++ rest) ≡ Some (xs, rest)
-literals_again = list_again literal_at (skip terminal.Comma) literal_words terminal.Comma literal_again literal_takes (λ x rest. refl)
 
 column_goes_on : (x : Column) (rest : List Token) → column_comma (Fixed terminal.Comma ∷ (column_words x ++ rest)) ≡ Some (column_words x ++ rest)
 unfolding column_comma
@@ -86,11 +38,6 @@ column_goes_on x rest = refl
 
 columns_again : (xs : List Column) (rest : List Token) → some xs ≡ true → column_comma rest ≡ None → columns_at (separated terminal.Comma column_words xs ++ rest) ≡ Some (xs, rest)
 columns_again = list_again column_at column_comma column_words terminal.Comma column_again (λ x. omega arith) column_goes_on
-
-in_parentheses_again : {A : Type 0} (inner : List Token → Option (A × List Token)) (text : List Token) (x : A) (rest : List Token)
-    → inner (text ++ (Fixed terminal.Close ∷ rest)) ≡ Some (x, Fixed terminal.Close ∷ rest) → in_parentheses inner (parenthesized text ++ rest) ≡ Some (x, rest)
-unfolding in_parentheses
-in_parentheses_again inner text x rest h = rw (append_assoc text (Fixed terminal.Close ∷ []) rest, h) refl
 
 -- what closes a list of columns
 columns_end : (key : List Bytes) (rest : List Token) → column_comma (key_words key ++ (Fixed terminal.Close ∷ rest)) ≡ None
@@ -111,28 +58,69 @@ create_again t columns key filled =
     let e : (inner ++ key_words key) ++ (Fixed terminal.Close ∷ []) ≡ inner ++ (key_words key ++ (Fixed terminal.Close ∷ [])) = append_assoc inner (key_words key) (Fixed terminal.Close ∷ []) in
     rw (e, columns_again columns (key_words key ++ (Fixed terminal.Close ∷ [])) filled (columns_end key []), key_again key []) refl
 
-row_again : (t : Bytes) (values : List Value) → some values ≡ true → row_at (Name t ∷ parenthesized (separated terminal.Comma literal_words values)) ≡ Some ((t, values), [])
+row_again : (t : Bytes) (values : List Value) → some values ≡ true → row_at (Name t ∷ parenthesized (literals_words values)) ≡ Some ((t, values), [])
 unfolding row_at name_at
 row_again t values filled =
-    let text = separated terminal.Comma literal_words values in
+    let text = literals_words values in
     let h : in_parentheses literals_at (parenthesized text) ≡ Some (values, []) = ap (in_parentheses literals_at) (sym (append-nil (parenthesized text))) ∙ in_parentheses_again literals_at text values [] (literals_again values (Fixed terminal.Close ∷ []) filled refl) in
     rw h refl
 
--- what the first stage groups by
-pub alone : (t : Bytes) (by : List Bytes) (shown : List Aggregate) (tests : List Test) (exists : Option Exists) (having : List Test) → counts_alone shown tests exists having ≡ true → Group t by shown tests exists having ≡ Group t by (CountAll ∷ []) [] None []
-alone t by (CountAll ∷ []) [] None [] h = refl
-alone t by _ _ _ _ h = absurd cc
+-- a word that begins neither exists nor what follows it
+exists_not_led : (word : Terminal) (e : Option Exists) (rest : List Token) → same terminal.Not word ≡ false → same terminal.Exists word ≡ false → skip word rest ≡ None → skip word (exists_words e ++ rest) ≡ None
+exists_not_led word None rest unlike other none = none
+exists_not_led word (Some e) rest unlike other none = by_negated e.negated
+  where
+    by_negated : (negated : Bool) → skip word ((not_words negated ++ (Fixed terminal.Exists ∷ Name e.table ∷ (parenthesized (names_words e.theirs) ++ (Fixed terminal.Equal ∷ parenthesized (names_words e.ours))))) ++ rest) ≡ None
+    by_negated true = ap (λ (b : Bool). cond b (Some ((Fixed terminal.Exists ∷ Name e.table ∷ (parenthesized (names_words e.theirs) ++ (Fixed terminal.Equal ∷ parenthesized (names_words e.ours)))) ++ rest)) None) unlike
+    by_negated false = ap (λ (b : Bool). cond b (Some ((Name e.table ∷ (parenthesized (names_words e.theirs) ++ (Fixed terminal.Equal ∷ parenthesized (names_words e.ours)))) ++ rest)) None) other
 
-group_again : (t : Bytes) (by : List Bytes) → some by ≡ true → form_at (phrase (Group t by (CountAll ∷ []) [] None [])) ≡ Some (Group t by (CountAll ∷ []) [] None [], [])
-unfolding group_at name_at form_at form_behind phrase
-group_again t [] filled = absurd cc
-group_again t (n ∷ ns) filled =
-    let rest : List Token = Fixed terminal.Show ∷ Fixed terminal.Count ∷ Fixed terminal.Open ∷ Fixed terminal.Star ∷ Fixed terminal.Close ∷ [] in
-    rw (names_again (n ∷ ns) rest filled refl) refl
+-- what stands behind the word `exists` is read
+exists_behind_again : (negated : Bool) (t : Bytes) (theirs ours : List Bytes) (rest : List Token) → some theirs ≡ true → some ours ≡ true
+    → exists_behind negated (Name t ∷ (parenthesized (names_words theirs) ++ (Fixed terminal.Equal ∷ (parenthesized (names_words ours) ++ rest)))) ≡ Some (record { negated = negated; table = t; theirs = theirs; ours = ours }, rest)
+unfolding exists_behind name_at
+exists_behind_again negated t theirs ours rest h k =
+    let behind : List Token = Fixed terminal.Equal ∷ (parenthesized (names_words ours) ++ rest) in
+    let first : in_parentheses names_at (parenthesized (names_words theirs) ++ behind) ≡ Some (theirs, behind) = in_parentheses_again names_at (names_words theirs) theirs behind (names_again theirs (Fixed terminal.Close ∷ behind) h refl) in
+    let second : in_parentheses names_at (parenthesized (names_words ours) ++ rest) ≡ Some (ours, rest) = in_parentheses_again names_at (names_words ours) ours rest (names_again ours (Fixed terminal.Close ∷ rest) k refl) in
+    rw (first, second) refl
 
-pub both_true : (a b : Bool) → a && b ≡ true → (a ≡ true) × (b ≡ true)
-both_true true b h = (refl, h)
-both_true false b h = absurd cc
+exists_again : (e : Option Exists) (rest : List Token) → exists_filled e ≡ true → skip terminal.Not rest ≡ None → skip terminal.Exists rest ≡ None → exists_at (exists_words e ++ rest) ≡ Some (e, rest)
+unfolding exists_at
+exists_again None rest filled unlike other = rw (unlike, other) refl
+exists_again (Some e) rest filled unlike other =
+    let front : List Token = parenthesized (names_words e.theirs) in
+    let back : List Token = parenthesized (names_words e.ours) in
+    let p = both_true (some e.theirs) (some e.ours) filled in
+    let apart : (front ++ (Fixed terminal.Equal ∷ back)) ++ rest ≡ front ++ (Fixed terminal.Equal ∷ (back ++ rest)) = append_assoc front (Fixed terminal.Equal ∷ back) rest in
+    let read : (negated : Bool) → exists_behind negated (Name e.table ∷ ((front ++ (Fixed terminal.Equal ∷ back)) ++ rest)) ≡ Some (record { negated = negated; table = e.table; theirs = e.theirs; ours = e.ours }, rest)
+    = λ negated. ap (λ (l : List Token). exists_behind negated (Name e.table ∷ l)) apart ∙ exists_behind_again negated e.table e.theirs e.ours rest p.0 p.1 in
+    let P : Bool → Type 0 = λ negated. exists_at ((not_words negated ++ (Fixed terminal.Exists ∷ Name e.table ∷ (front ++ (Fixed terminal.Equal ∷ back)))) ++ rest) ≡ Some (Some (record { negated = negated; table = e.table; theirs = e.theirs; ours = e.ours }), rest) in
+    let by_negated : (negated : Bool) → P negated = λ negated. elim negated as P [ true ↦ rw (read true) refl | false ↦ rw (read false) refl ] in
+    by_negated e.negated
+
+group_again : (t : Bytes) (by : List Bytes) (shown : List Aggregate) (tests : List Test) (exists : Option Exists) (having : List Test) → some shown ≡ true → exists_filled exists ≡ true
+    → form_at (phrase (Group t by shown tests exists having)) ≡ Some (Group t by shown tests exists having, [])
+unfolding group_at conditions_behind name_at form_at form_behind phrase
+group_again t by shown tests exists having filled both =
+    let end : List Token = tests_clause terminal.Having having in
+    let last : List Token = exists_words exists ++ end in
+    let conditions : List Token = tests_clause terminal.Where tests ++ last in
+    let list : List Token = Fixed terminal.Show ∷ (aggregates_words shown ++ conditions) in
+    let led : (word : Terminal) → same terminal.Having word ≡ false → skip word end ≡ None = λ word h. ap (skip word) (sym (append-nil end)) ∙ not_led word terminal.Having terminal.And test_words having [] h refl in
+    let led_last : (word : Terminal) → same terminal.Not word ≡ false → same terminal.Exists word ≡ false → same terminal.Having word ≡ false → skip word last ≡ None = λ word n x h. exists_not_led word exists end n x (led word h) in
+    let first = clause_again terminal.By terminal.Comma names_at name_words names_again by list refl refl in
+    let second = aggregates_again shown conditions filled (not_led terminal.Comma terminal.Where terminal.And test_words tests last refl (led_last terminal.Comma refl refl refl)) in
+    let third = tests_clause_again terminal.Where tests last (led_last terminal.Where refl refl refl) (led_last terminal.And refl refl refl) in
+    let fourth = exists_again exists end both (led terminal.Not refl) (led terminal.Exists refl) in
+    let fifth = tests_at_end terminal.Having having in
+    rw (first, second, third, fourth, fifth) refl
+
+distinct_again : (t : Bytes) (on : List Bytes) (tests : List Test) → some on ≡ true → form_at (phrase (Distinct t on tests)) ≡ Some (Distinct t on tests, [])
+unfolding distinct_at name_at form_at form_behind phrase
+distinct_again t on tests filled =
+    let end : List Token = tests_clause terminal.Where tests in
+    let led : skip terminal.Comma end ≡ None = ap (skip terminal.Comma) (sym (append-nil end)) ∙ not_led terminal.Comma terminal.Where terminal.And test_words tests [] refl refl in
+    rw (names_again on end filled led, tests_at_end terminal.Where tests) refl
 
 pub opened : (p : Payload) → is_open p ≡ true → p ≡ payload.Open
 opened (payload.Bytes bytes) e = absurd cc
@@ -150,10 +138,9 @@ form_again (Upsert t values) h k = rw (row_again t values h) refl
 form_again (Delete t values) h k = rw (row_again t values h) refl
 form_again (Show t) h k = refl
 form_again (Group t by shown tests exists having) h k =
-    let p = both_true (some by) (counts_alone shown tests exists having) h in
-    let same = alone t by shown tests exists having p.1 in
-    ap (λ (c : Command). form_at (phrase c)) same ∙ group_again t by p.0 ∙ ap (λ (c : Command). Some (c, [])) (sym same)
-form_again (Distinct t on tests) h k = absurd cc
+    let p = both_true (some shown) (exists_filled exists) h in
+    group_again t by shown tests exists having p.0 p.1
+form_again (Distinct t on tests) h k = distinct_again t on tests h
 
 -- what the tokens say is read from them
 pub command_again : (ts : List Token) (c : Command) → SaysTokens (Some ts) c → command_of ts ≡ Some c

@@ -3,7 +3,6 @@ pub mod Answered
 pub mod Line
 pub mod LoadWord
 pub mod Loaded
-pub mod Loop
 pub mod Names
 pub mod OneReading
 pub mod Passing

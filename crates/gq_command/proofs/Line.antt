@@ -3,7 +3,7 @@ use Rattle.std.proofs.Common.{◌≡◌, List, Option, Some, None, refl, sym, �
 use Rattle.std.specs.Str.{is_utf8}
 use Rattle.std.proofs.lemmas.Str.{IsUtf8-from_is_utf8}
 use Rattle.gq_token.specs.declared.token.Token.{Token}
-use Rattle.gq_command.specs.Commands.{Bytes, SaysTokens, is_command}
+use Rattle.gq_command.specs.Commands.{Bytes, SaysTokens}
 use Rattle.gq_command.specs.declared.command.Command.{Command}
 use Rattle.gq_token.specs.Results.{◌>>=◌}
 use Rattle.gq_command.specs.Reading.{command_of}
@@ -35,6 +35,3 @@ not_utf8 bs never = by_test (is_utf8 bs) refl
     by_test : (b : Bool) → is_utf8 bs ≡ b → is_utf8 bs ≡ false
     by_test true e = absurd (never (IsUtf8-from_is_utf8 bs e))
     by_test false e = e
-
-pub line_command : (line : Bytes) (c : Command) → command_on line ≡ Some c → is_command c ≡ true
-line_command line c e = (line_sound line c e).command

@@ -2,13 +2,13 @@
 use Rattle.std.proofs.Common.{◌≡◌, ◌≤◌, true, false, ℕ, length, Option, Some, None, refl, sym, ap, subst, ◌∙◌, inl, inr}
 use Rattle.gq_row.specs.declared.limits.Bounds.{Bounds}
 use Rattle.gq_command.specs.declared.command.Command.{Command}
-use Rattle.gq_command.specs.declared.command.Command.TheVariants.{Load}
+use Rattle.gq_command.specs.declared.command.Command.TheVariants.{Create, Drop, Load, Upsert, Delete, Show, Group, Distinct}
 use Rattle.gq_command.specs.declared.command.Payload.{Payload}
 use Rattle.gq_command.specs.declared.command.Payload.TheVariants as payload
 use Rattle.gq_command.specs.declared.reader.Item.{Item}
 use Rattle.gq_command.specs.declared.reader.Item.TheVariants as item
 use Rattle.gq_command.specs.Commands.{Bytes, is_open, fits}
-use Rattle.gq_command.specs.Items.{StandsFor, StandsInFor, LosesPayload, IsReadAs, with_payload}
+use Rattle.gq_command.specs.Items.{StandsFor, StandsInFor, LosesPayload, IsReadAs, IsReady, with_payload}
 use Rattle.gq_command.specs.Lines.{Says}
 use Rattle.gq_script.specs.Script.{Plain, Loading, takes_payload}
 use Rattle.gq_command.proofs.LoadWord.{said_load}
@@ -49,3 +49,15 @@ loaded b line told p (item.Command c) takes (inl h) s =
     subst (λ (c : Command). IsReadAs b (Loading line told) (with_payload p (item.Command c))) (sym load.1) read
 loaded b line told p (item.Command c) takes (inr (inl e)) s = absurd cc
 loaded b line told p (item.Command c) takes (inr (inr lost)) s = absurd (none_lost b line (item.Command c) lost)
+
+-- an item that is ready is so with any payload
+pub ready_with : (b : Bounds) (p : Payload) (it : Item) → IsReady b it → IsReady b (with_payload p it)
+ready_with b p (item.Refused r) h = h
+ready_with b p (item.Command (Create t columns key)) h = h
+ready_with b p (item.Command (Drop t)) h = h
+ready_with b p (item.Command (Load t carried)) h = h
+ready_with b p (item.Command (Upsert t values)) h = h
+ready_with b p (item.Command (Delete t values)) h = h
+ready_with b p (item.Command (Show t)) h = h
+ready_with b p (item.Command (Group t by shown tests exists having)) h = h
+ready_with b p (item.Command (Distinct t on tests)) h = h

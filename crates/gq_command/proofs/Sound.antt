@@ -1,128 +1,37 @@
 -- What is read is written so.
-use Rattle.std.proofs.Common.{◌≡◌, ℕ, zero, suc, Bool, true, false, cond, eqb, List, [], ◌∷◌, ◌++◌, Option, Some, None, length, refl, sym, ap, subst, ◌∙◌, append_assoc, eq-eqb, ⊎_elim, inl, inr, ◌⊎◌}
+use Rattle.std.proofs.Common.{◌≡◌, Bool, true, false, cond, List, [], ◌∷◌, ◌++◌, Option, Some, None, length, refl, sym, ap, ◌∙◌, append_assoc, ⊎_elim}
 use Rattle.std.specs.Prelude.{if◌then◌else◌, ◌&&◌}
 use Rattle.std.proofs.lemmas.List.{append-nil}
-use Rattle.std.proofs.lemmas.Bool.{eqb-true}
 use Rattle.gq_token.specs.declared.token.Terminal.{Terminal}
 use Rattle.gq_token.specs.declared.token.Terminal.TheVariants as terminal
 use Rattle.gq_row.specs.declared.schema.Kind.{Kind}
 use Rattle.gq_row.specs.declared.schema.Kind.TheVariants as kind
-use Rattle.gq_token.specs.Tokens.{place_of, same}
+use Rattle.gq_token.specs.Tokens.{same}
 use Rattle.gq_token.specs.declared.token.Token.{Token}
 use Rattle.gq_token.specs.declared.token.Token.TheVariants.{Fixed, Name, Number, Text}
-use Rattle.gq_command.specs.Commands.{Bytes, separated, parenthesized, name_words, names_words, kind_word, column_words, literal_words, key_words, phrase, some, grammatical, keeps_rules, SaysTokens}
-use Rattle.gq_command.specs.declared.command.Command.{Command}
-use Rattle.gq_command.specs.declared.command.Command.TheVariants.{Create, Drop, Load, Upsert, Delete, Show, Group}
-use Rattle.gq_command.specs.declared.command.Payload.TheVariants as payload
-use Rattle.gq_command.specs.declared.command.Aggregate.TheVariants.{CountAll}
-use Rattle.gq_row.specs.declared.value.Value.{Value}
-use Rattle.gq_row.specs.declared.value.Value.TheVariants as value
-use Rattle.gq_row.specs.declared.schema.Column.{Column}
 use Rattle.gq_token.specs.Results.{◌>>=◌}
 use Rattle.gq_token.specs.Queue.{skip, column_comma}
-use Rattle.gq_command.specs.Reading.{name_at, literal_at, kind_at, column_at, items_within, names_at, literals_at, columns_at, in_parentheses, key_at, ended, row_at, create_at, group_at, form_behind, form_at, command_of}
+use Rattle.gq_row.specs.declared.value.Value.{Value}
+use Rattle.gq_row.specs.declared.schema.Column.{Column}
+use Rattle.gq_clause.specs.declared.aggregate.Aggregate.{Aggregate}
+use Rattle.gq_clause.specs.declared.condition.Test.{Test}
+use Rattle.gq_clause.specs.Reading.{name_at, names_at, literals_at, in_parentheses, clause_at, aggregates_at, tests_at}
+use Rattle.gq_clause.proofs.Sound.{same_is, some_is, bind_some, guard_some, pair_is, read_is, Sound, skip_sound, name_sound, chosen, items_sound, names_sound, literals_sound, enclosed, in_parentheses_sound, clause_sound, joined, aggregates_sound, tests_sound}
+use Rattle.gq_clause.specs.Words.{test_words}
+use Rattle.gq_command.specs.Commands.{Bytes, some, separated, parenthesized, name_words, names_words, kind_word, column_words, literals_words, aggregates_words, clause, tests_clause, key_words, not_words, exists_words, phrase, exists_filled, grammatical, keeps_rules, SaysTokens}
+use Rattle.gq_command.specs.declared.command.Command.{Command}
+use Rattle.gq_command.specs.declared.command.Command.TheVariants.{Create, Drop, Load, Upsert, Delete, Show, Group, Distinct}
+use Rattle.gq_command.specs.declared.command.Exists.{Exists}
+use Rattle.gq_command.specs.declared.command.Payload.TheVariants as payload
+use Rattle.gq_command.specs.Reading.{kind_at, column_at, columns_at, key_at, row_at, create_at, exists_behind, with_exists, exists_at, conditions_behind, group_at, distinct_at, ended, form_behind, form_at, command_of}
 
--- a terminal by its number
-terminal_at : ℕ → Terminal
-terminal_at n = cond (eqb n 0) terminal.Create (cond (eqb n 1) terminal.Drop (cond (eqb n 2) terminal.Load (cond (eqb n 3) terminal.Upsert (cond (eqb n 4) terminal.Delete (cond (eqb n 5) terminal.Show (cond (eqb n 6) terminal.Group (cond (eqb n 7) terminal.Distinct (cond (eqb n 8) terminal.By (cond (eqb n 9) terminal.On (cond (eqb n 10) terminal.Where (cond (eqb n 11) terminal.Not (cond (eqb n 12) terminal.Exists (cond (eqb n 13) terminal.Having (cond (eqb n 14) terminal.And (cond (eqb n 15) terminal.Is (cond (eqb n 16) terminal.Null (cond (eqb n 17) terminal.Key (cond (eqb n 18) terminal.Int (cond (eqb n 19) terminal.Text (cond (eqb n 20) terminal.Count (cond (eqb n 21) terminal.Sum (cond (eqb n 22) terminal.Min (cond (eqb n 23) terminal.Max (cond (eqb n 24) terminal.NoCase (cond (eqb n 25) terminal.Rollup (cond (eqb n 26) terminal.Open (cond (eqb n 27) terminal.Close (cond (eqb n 28) terminal.Comma (cond (eqb n 29) terminal.Star (cond (eqb n 30) terminal.Equal (cond (eqb n 31) terminal.NotEqual (cond (eqb n 32) terminal.Less (cond (eqb n 33) terminal.LessEqual (cond (eqb n 34) terminal.Greater (terminal.GreaterEqual)))))))))))))))))))))))))))))))))))
-
-terminal_back : (t : Terminal) → terminal_at (place_of t) ≡ t
-unfolding terminal_at
-terminal_back terminal.Create = refl
-terminal_back terminal.Drop = refl
-terminal_back terminal.Load = refl
-terminal_back terminal.Upsert = refl
-terminal_back terminal.Delete = refl
-terminal_back terminal.Show = refl
-terminal_back terminal.Group = refl
-terminal_back terminal.Distinct = refl
-terminal_back terminal.By = refl
-terminal_back terminal.On = refl
-terminal_back terminal.Where = refl
-terminal_back terminal.Not = refl
-terminal_back terminal.Exists = refl
-terminal_back terminal.Having = refl
-terminal_back terminal.And = refl
-terminal_back terminal.Is = refl
-terminal_back terminal.Null = refl
-terminal_back terminal.Key = refl
-terminal_back terminal.Int = refl
-terminal_back terminal.Text = refl
-terminal_back terminal.Count = refl
-terminal_back terminal.Sum = refl
-terminal_back terminal.Min = refl
-terminal_back terminal.Max = refl
-terminal_back terminal.NoCase = refl
-terminal_back terminal.Rollup = refl
-terminal_back terminal.Open = refl
-terminal_back terminal.Close = refl
-terminal_back terminal.Comma = refl
-terminal_back terminal.Star = refl
-terminal_back terminal.Equal = refl
-terminal_back terminal.NotEqual = refl
-terminal_back terminal.Less = refl
-terminal_back terminal.LessEqual = refl
-terminal_back terminal.Greater = refl
-terminal_back terminal.GreaterEqual = refl
-
-same_is : (a b : Terminal) → same a b ≡ true → a ≡ b
-same_is a b h = sym (terminal_back a) ∙ ap terminal_at (eqb-true (place_of a) (place_of b) h) ∙ terminal_back b
-
-same_self : (a : Terminal) → same a a ≡ true
-same_self a = eq-eqb (place_of a) (place_of a) refl
-
-some_is : {A : Type 0} (x y : A) → Some x ≡ Some y → x ≡ y
-some_is x y e = cc
-
-bind_some : {A B : Type 0} (r : Option A) (f : A → Option B) (y : B) → (r >>= f) ≡ Some y → (x : A) × (r ≡ Some x) × (f x ≡ Some y)
-bind_some (Some x) f y e = (x, refl, e)
-bind_some None f y e = absurd cc
-
-guard_some : {A : Type 0} (b : Bool) (x y : A) → cond b (Some x) None ≡ Some y → (b ≡ true) × (x ≡ y)
-guard_some true x y e = (refl, cc)
-guard_some false x y e = absurd cc
-
-pair_is : {A B : Type 0} (a c : A) (b d : B) → ◌≡◌ {A = Option (A × B)} (Some (a, b)) (Some (c, d)) → (a ≡ c) × (b ≡ d)
-pair_is {A} {B} a c b d e = let f : ◌≡◌ {A = A × B} (a, b) (c, d) = some_is (a, b) (c, d) e in (ap (λ (p : A × B). p.0) f, ap (λ (p : A × B). p.1) f)
-
-read_is : {A : Type 0} (write : A → List Token) (x y : A) (ts rest : List Token) → ◌≡◌ {A = Option (A × List Token)} (Some (x, ts)) (Some (y, rest)) → write x ++ ts ≡ write y ++ rest
-read_is write x y ts rest e = let p = pair_is x y ts rest e in ap (λ v. write v ++ ts) p.0 ∙ ap (λ (l : List Token). write y ++ l) p.1
-
--- what is read is written so
-
-abbrev pub Sound : {A : Type 0} → (List Token → Option (A × List Token)) → (A → List Token) → Type 0
-Sound {A} item write = (ts : List Token) (x : A) (rest : List Token) → item ts ≡ Some (x, rest) → ts ≡ write x ++ rest
-
-skip_sound : (t : Terminal) (ts rest : List Token) → skip t ts ≡ Some rest → ts ≡ Fixed t ∷ rest
-skip_sound t [] rest e = absurd cc
-skip_sound t (Fixed u ∷ ts) rest e = let g = guard_some (same u t) ts rest e in let h : u ≡ t = same_is u t g.0 in let i : ts ≡ rest = g.1 in cc
-skip_sound t (Name n ∷ ts) rest e = absurd cc
-skip_sound t (Number n ∷ ts) rest e = absurd cc
-skip_sound t (Text n ∷ ts) rest e = absurd cc
-
-name_sound : Sound name_at name_words
-unfolding name_at
-name_sound [] x rest e = absurd cc
-name_sound (Fixed u ∷ ts) x rest e = absurd cc
-name_sound (Name n ∷ ts) x rest e = read_is (λ n. Name n ∷ []) n x ts rest e
-name_sound (Number n ∷ ts) x rest e = absurd cc
-name_sound (Text n ∷ ts) x rest e = absurd cc
-
-literal_sound : Sound literal_at literal_words
-unfolding literal_at
-literal_sound [] x rest e = absurd cc
-literal_sound (Fixed u ∷ ts) x rest e = let g = guard_some (same u terminal.Null) (value.Null, ts) (x, rest) e in let h : u ≡ terminal.Null = same_is u terminal.Null g.0 in
-    ap (λ (v : Terminal). Fixed v ∷ ts) h ∙ read_is literal_words value.Null x ts rest (ap Some g.1)
-literal_sound (Name n ∷ ts) x rest e = absurd cc
-literal_sound (Number z ∷ ts) x rest e = read_is literal_words (value.Int z) x ts rest e
-literal_sound (Text n ∷ ts) x rest e = read_is literal_words (value.Text n) x ts rest e
+both : (a b : Bool) → a ≡ true → b ≡ true → a && b ≡ true
+both true true p q = refl
+both true false p q = absurd cc
+both false b p q = absurd cc
 
 kind_words : Kind → List Token
 kind_words k = Fixed (kind_word k) ∷ []
-
-chosen : {A : Type 0} (b : Bool) (x y z : A) → cond b x y ≡ z → ((b ≡ true) × (x ≡ z)) ⊎ ((b ≡ false) × (y ≡ z))
-chosen true x y z e = inl (refl, e)
-chosen false x y z e = inr (refl, e)
 
 kind_sound : Sound kind_at kind_words
 unfolding kind_at kind_words
@@ -143,38 +52,6 @@ column_sound ts x rest e =
     let b = bind_some (kind_at a.0.1) (λ kind. Some (record { name = a.0.0; kind = kind.0 }, kind.1)) (x, rest) a.2 in
     name_sound ts a.0.0 a.0.1 a.1 ∙ ap (λ (l : List Token). Name a.0.0 ∷ l) (kind_sound a.0.1 b.0.0 b.0.1 b.1) ∙ read_is column_words (record { name = a.0.0; kind = b.0.0 }) x b.0.1 rest b.2
 
-module _ {A : Type 0} (item : List Token → Option (A × List Token)) (next : List Token → Option (List Token)) (write : A → List Token) (separator : Terminal) where
-  -- an item before others
-  before : (x : A) (xs : List A) (ts after rest : List Token) → some xs ≡ true → ts ≡ write x ++ (Fixed separator ∷ after) → after ≡ separated separator write xs ++ rest → ts ≡ separated separator write (x ∷ xs) ++ rest
-  before x [] ts after rest filled first others = absurd cc
-  before x (y ∷ ys) ts after rest filled first others =
-      first ∙ ap (λ (l : List Token). write x ++ (Fixed separator ∷ l)) others ∙ sym (append_assoc (write x) (Fixed separator ∷ separated separator write (y ∷ ys)) rest)
-
-  items_sound : Sound item write → ((ts after : List Token) → next ts ≡ Some after → ts ≡ Fixed separator ∷ after) → (n : ℕ) (ts : List Token) (xs : List A) (rest : List Token)
-      → items_within item next n ts ≡ Some (xs, rest) → (ts ≡ separated separator write xs ++ rest) × (some xs ≡ true)
-  unfolding items_within
-  items_sound sound commas zero ts xs rest e = absurd cc
-  items_sound sound commas (suc n) ts xs rest e =
-      let f : List Token → A → Option (List Token) → Option (List A × List Token) = λ after x o. elim o [ None ↦ Some (x ∷ [], after) | Some more ↦ items_within item next n more >>= λ y. Some (x ∷ y.0, y.1) ] in
-      let a = bind_some (item ts) (λ x. f x.1 x.0 (next x.1)) (xs, rest) e in
-      let first = sound ts a.0.0 a.0.1 a.1 in
-      let P : Option (List Token) → Type 0 = λ o. next a.0.1 ≡ o → f a.0.1 a.0.0 o ≡ Some (xs, rest) → (ts ≡ separated separator write xs ++ rest) × (some xs ≡ true) in
-      let by_cases : (o : Option (List Token)) → P o = λ o. elim o as P [
-        | None ↦ λ is g. let p = pair_is (a.0.0 ∷ []) xs a.0.1 rest g in (first ∙ ap (λ (l : List Token). write a.0.0 ++ l) p.1 ∙ ap (λ (l : List A). separated separator write l ++ rest) p.0, ap some (sym p.0))
-        | Some more ↦ λ is g.
-            let b = bind_some (items_within item next n more) (λ y. Some (a.0.0 ∷ y.0, y.1)) (xs, rest) g in
-            let others = items_sound sound commas n more b.0.0 b.0.1 b.1 in
-            let p = pair_is (a.0.0 ∷ b.0.0) xs b.0.1 rest b.2 in
-            (before a.0.0 b.0.0 ts more b.0.1 others.1 (first ∙ ap (λ (l : List Token). write a.0.0 ++ l) (commas a.0.1 more is)) others.0 ∙ ap (λ (l : List A). separated separator write l ++ b.0.1) p.0 ∙ ap (λ (l : List Token). separated separator write xs ++ l) p.1, ap some (sym p.0))
-      ] in
-      by_cases (next a.0.1) refl a.2
-
-names_sound : (ts : List Token) (xs : List Bytes) (rest : List Token) → names_at ts ≡ Some (xs, rest) → (ts ≡ names_words xs ++ rest) × (some xs ≡ true)
-names_sound ts xs rest e = items_sound name_at (skip terminal.Comma) name_words terminal.Comma name_sound (skip_sound terminal.Comma) (length ts) ts xs rest e
-
-literals_sound : (ts : List Token) (xs : List Value) (rest : List Token) → literals_at ts ≡ Some (xs, rest) → (ts ≡ separated terminal.Comma literal_words xs ++ rest) × (some xs ≡ true)
-literals_sound ts xs rest e = items_sound literal_at (skip terminal.Comma) literal_words terminal.Comma literal_sound (skip_sound terminal.Comma) (length ts) ts xs rest e
-
 column_comma_sound : (ts after : List Token) → column_comma ts ≡ Some after → ts ≡ Fixed terminal.Comma ∷ after
 unfolding column_comma
 column_comma_sound ts after e =
@@ -185,23 +62,6 @@ column_comma_sound ts after e =
 
 columns_sound : (ts : List Token) (xs : List Column) (rest : List Token) → columns_at ts ≡ Some (xs, rest) → (ts ≡ separated terminal.Comma column_words xs ++ rest) × (some xs ≡ true)
 columns_sound ts xs rest e = items_sound column_at column_comma column_words terminal.Comma column_sound column_comma_sound (length ts) ts xs rest e
-
--- what stands between parentheses
-enclosed : (inner ts opened closed rest : List Token) → ts ≡ Fixed terminal.Open ∷ opened → opened ≡ inner ++ closed → closed ≡ Fixed terminal.Close ∷ rest → ts ≡ parenthesized inner ++ rest
-enclosed inner ts opened closed rest a b c = a ∙ ap (λ (l : List Token). Fixed terminal.Open ∷ l) (b ∙ ap (λ (l : List Token). inner ++ l) c ∙ sym (append_assoc inner (Fixed terminal.Close ∷ []) rest))
-
-in_parentheses_sound : {A : Type 0} (inner : List Token → Option (A × List Token)) (write : A → List Token) (Filled : A → Type 0)
-    → ((ts : List Token) (x : A) (rest : List Token) → inner ts ≡ Some (x, rest) → (ts ≡ write x ++ rest) × Filled x)
-    → (ts : List Token) (x : A) (rest : List Token) → in_parentheses inner ts ≡ Some (x, rest) → (ts ≡ parenthesized (write x) ++ rest) × Filled x
-unfolding in_parentheses
-in_parentheses_sound inner write Filled sound ts x rest e =
-    let a = bind_some (skip terminal.Open ts) (λ opened. inner opened >>= λ x. skip terminal.Close x.1 >>= λ closed. Some (x.0, closed)) (x, rest) e in
-    let b = bind_some (inner a.0) (λ x. skip terminal.Close x.1 >>= λ closed. Some (x.0, closed)) (x, rest) a.2 in
-    let c = bind_some (skip terminal.Close b.0.1) (λ closed. Some (b.0.0, closed)) (x, rest) b.2 in
-    let p = pair_is b.0.0 x c.0 rest c.2 in
-    let s = sound a.0 b.0.0 b.0.1 b.1 in
-    let whole = enclosed (write b.0.0) ts a.0 b.0.1 c.0 (skip_sound terminal.Open ts a.0 a.1) s.0 (skip_sound terminal.Close b.0.1 c.0 c.1) in
-    (whole ∙ ap (λ v. parenthesized (write v) ++ c.0) p.0 ∙ ap (λ (l : List Token). parenthesized (write x) ++ l) p.1, subst Filled p.0 s.1)
 
 filled_key : (key : List Bytes) → some key ≡ true → key_words key ≡ Fixed terminal.Comma ∷ Fixed terminal.Key ∷ parenthesized (names_words key)
 filled_key [] h = absurd cc
@@ -252,7 +112,7 @@ named_sound first form words always ts c rest e =
     (worded ∙ ap (λ (v : Command). phrase v ++ a.0.1) p.0 ∙ ap (λ (l : List Token). phrase c ++ l) p.1, ap grammatical (sym p.0) ∙ always a.0.0)
 
 row_words : Bytes × List Value → List Token
-row_words row = Name row.0 ∷ parenthesized (separated terminal.Comma literal_words row.1)
+row_words row = Name row.0 ∷ parenthesized (literals_words row.1)
 
 row_sound : (ts : List Token) (row : Bytes × List Value) (rest : List Token) → row_at ts ≡ Some (row, rest) → (ts ≡ row_words row ++ rest) × (some row.1 ≡ true)
 unfolding row_at row_words
@@ -260,7 +120,7 @@ row_sound ts row rest e =
     let a = bind_some (name_at ts) (λ table. in_parentheses literals_at table.1 >>= λ values. Some ((table.0, values.0), values.1)) (row, rest) e in
     let b = bind_some (in_parentheses literals_at a.0.1) (λ values. Some ((a.0.0, values.0), values.1)) (row, rest) a.2 in
     let p = pair_is (a.0.0, b.0.0) row b.0.1 rest b.2 in
-    let values = in_parentheses_sound literals_at (separated terminal.Comma literal_words) (λ xs. some xs ≡ true) literals_sound a.0.1 b.0.0 b.0.1 b.1 in
+    let values = in_parentheses_sound literals_at literals_words (λ xs. some xs ≡ true) literals_sound a.0.1 b.0.0 b.0.1 b.1 in
     (name_sound ts a.0.0 a.0.1 a.1 ∙ ap (λ (l : List Token). Name a.0.0 ∷ l) values.0 ∙ read_is row_words (a.0.0, b.0.0) row b.0.1 rest b.2, ap (λ (row : Bytes × List Value). some row.1) (sym p.0) ∙ values.1)
 
 -- a form with the literals of a row behind a table's name
@@ -274,36 +134,146 @@ valued_sound first form words filled ts c rest e =
     let worded : Fixed first ∷ ts ≡ phrase (form a.0.0.0 a.0.0.1) ++ a.0.1 = ap (λ (l : List Token). Fixed first ∷ l) row.0 ∙ ap (λ (l : List Token). l ++ a.0.1) (sym (words a.0.0.0 a.0.0.1)) in
     (worded ∙ ap (λ (v : Command). phrase v ++ a.0.1) p.0 ∙ ap (λ (l : List Token). phrase c ++ l) p.1, ap grammatical (sym p.0) ∙ filled a.0.0.0 a.0.0.1 ∙ row.1)
 
-filled_by : (t : Bytes) (by : List Bytes) → some by ≡ true → phrase (Group t by (CountAll ∷ []) [] None []) ≡ Fixed terminal.Group ∷ Name t ∷ Fixed terminal.By ∷ (names_words by ++ (Fixed terminal.Show ∷ Fixed terminal.Count ∷ Fixed terminal.Open ∷ Fixed terminal.Star ∷ Fixed terminal.Close ∷ []))
+-- what stands behind the word `exists`
+exists_tail : Exists → List Token
+exists_tail e = Name e.table ∷ (parenthesized (names_words e.theirs) ++ (Fixed terminal.Equal ∷ parenthesized (names_words e.ours)))
+
+exists_parts : (e : Exists) → exists_words (Some e) ≡ not_words e.negated ++ (Fixed terminal.Exists ∷ exists_tail e)
+unfolding exists_tail
+exists_parts e = refl
+
+exists_behind_sound : (negated : Bool) (ts : List Token) (e : Exists) (rest : List Token) → exists_behind negated ts ≡ Some (e, rest) → (ts ≡ exists_tail e ++ rest) × (e.negated ≡ negated) × (exists_filled (Some e) ≡ true)
+unfolding exists_behind exists_tail
+exists_behind_sound negated ts c rest e =
+    let named = bind_some (name_at ts) (λ t. in_parentheses names_at t.1 >>= λ f. skip terminal.Equal f.1 >>= λ q. in_parentheses names_at q >>= λ o. Some (record { negated = negated; table = t.0; theirs = f.0; ours = o.0 }, o.1)) (c, rest) e in
+    let theirs_read = bind_some (in_parentheses names_at named.0.1) (λ f. skip terminal.Equal f.1 >>= λ q. in_parentheses names_at q >>= λ o. Some (record { negated = negated; table = named.0.0; theirs = f.0; ours = o.0 }, o.1)) (c, rest) named.2 in
+    let equal = bind_some (skip terminal.Equal theirs_read.0.1) (λ q. in_parentheses names_at q >>= λ o. Some (record { negated = negated; table = named.0.0; theirs = theirs_read.0.0; ours = o.0 }, o.1)) (c, rest) theirs_read.2 in
+    let ours_read = bind_some (in_parentheses names_at equal.0) (λ o. Some (record { negated = negated; table = named.0.0; theirs = theirs_read.0.0; ours = o.0 }, o.1)) (c, rest) equal.2 in
+    let made : Exists = record { negated = negated; table = named.0.0; theirs = theirs_read.0.0; ours = ours_read.0.0 } in
+    let p = pair_is made c ours_read.0.1 rest ours_read.2 in
+    let theirs = in_parentheses_sound names_at names_words (λ xs. some xs ≡ true) names_sound named.0.1 theirs_read.0.0 theirs_read.0.1 theirs_read.1 in
+    let ours = in_parentheses_sound names_at names_words (λ xs. some xs ≡ true) names_sound equal.0 ours_read.0.0 ours_read.0.1 ours_read.1 in
+    let front : List Token = parenthesized (names_words theirs_read.0.0) in
+    let back : List Token = Fixed terminal.Equal ∷ parenthesized (names_words ours_read.0.0) in
+    let last : theirs_read.0.1 ≡ back ++ ours_read.0.1 = skip_sound terminal.Equal theirs_read.0.1 equal.0 equal.1 ∙ ap (λ (l : List Token). Fixed terminal.Equal ∷ l) ours.0 in
+    let whole : ts ≡ exists_tail made ++ ours_read.0.1 = name_sound ts named.0.0 named.0.1 named.1 ∙ ap (λ (l : List Token). Name named.0.0 ∷ l) (joined front back named.0.1 theirs_read.0.1 ours_read.0.1 theirs.0 last) in
+    let filled : exists_filled (Some made) ≡ true = both (some theirs_read.0.0) (some ours_read.0.0) theirs.1 ours.1 in
+    (whole ∙ read_is exists_tail made c ours_read.0.1 rest ours_read.2, ap (λ (e : Exists). e.negated) (sym p.0), ap (λ (e : Exists). exists_filled (Some e)) (sym p.0) ∙ filled)
+
+-- an exists that was read, behind what stands before it
+exists_made : (negated : Bool) (before ts : List Token) (x : Option Exists) (rest : List Token) → before ≡ not_words negated ++ (Fixed terminal.Exists ∷ ts) → with_exists (exists_behind negated ts) ≡ Some (x, rest)
+    → (before ≡ exists_words x ++ rest) × (exists_filled x ≡ true)
+exists_made negated before ts x rest is e =
+    let a = bind_some (exists_behind negated ts) (λ e. Some (Some e.0, e.1)) (x, rest) e in
+    let p = pair_is (Some a.0.0) x a.0.1 rest a.2 in
+    let s = exists_behind_sound negated ts a.0.0 a.0.1 a.1 in
+    let tail : Fixed terminal.Exists ∷ ts ≡ (Fixed terminal.Exists ∷ exists_tail a.0.0) ++ a.0.1 = ap (λ (l : List Token). Fixed terminal.Exists ∷ l) s.0 in
+    let whole : before ≡ exists_words (Some a.0.0) ++ a.0.1 =
+    joined (not_words negated) (Fixed terminal.Exists ∷ exists_tail a.0.0) before (Fixed terminal.Exists ∷ ts) a.0.1 is tail
+    ∙ ap (λ (v : Bool). (not_words v ++ (Fixed terminal.Exists ∷ exists_tail a.0.0)) ++ a.0.1) (sym s.1) ∙ ap (λ (l : List Token). l ++ a.0.1) (sym (exists_parts a.0.0)) in
+    (whole ∙ read_is exists_words (Some a.0.0) x a.0.1 rest a.2, ap exists_filled (sym p.0) ∙ s.2)
+
+exists_sound : (ts : List Token) (x : Option Exists) (rest : List Token) → exists_at ts ≡ Some (x, rest) → (ts ≡ exists_words x ++ rest) × (exists_filled x ≡ true)
+unfolding exists_at
+exists_sound ts x rest e =
+    let g : Option (List Token) → Option (Option Exists × List Token) = λ o. elim o [ None ↦ Some (None, ts) | Some after ↦ with_exists (exists_behind false after) ] in
+    let f : Option (List Token) → Option (Option Exists × List Token) = λ o. elim o [ None ↦ g (skip terminal.Exists ts) | Some after ↦ skip terminal.Exists after >>= λ behind. with_exists (exists_behind true behind) ] in
+    let Q : Option (List Token) → Type 0 = λ o. skip terminal.Exists ts ≡ o → g o ≡ Some (x, rest) → (ts ≡ exists_words x ++ rest) × (exists_filled x ≡ true) in
+    let by_exists : (o : Option (List Token)) → Q o = λ o. elim o as Q [
+      | None ↦ λ is h. (read_is exists_words None x ts rest h, ap exists_filled (sym (pair_is None x ts rest h).0))
+      | Some after ↦ λ is h. exists_made false ts after x rest (skip_sound terminal.Exists ts after is) h
+    ] in
+    let P : Option (List Token) → Type 0 = λ o. skip terminal.Not ts ≡ o → f o ≡ Some (x, rest) → (ts ≡ exists_words x ++ rest) × (exists_filled x ≡ true) in
+    let by_not : (o : Option (List Token)) → P o = λ o. elim o as P [
+      | None ↦ λ is h. by_exists (skip terminal.Exists ts) refl h
+      | Some after ↦ λ is h.
+          let a = bind_some (skip terminal.Exists after) (λ behind. with_exists (exists_behind true behind)) (x, rest) h in
+          exists_made true ts a.0 x rest (skip_sound terminal.Not ts after is ∙ ap (λ (l : List Token). Fixed terminal.Not ∷ l) (skip_sound terminal.Exists after a.0 a.1)) a.2
+    ] in
+    by_not (skip terminal.Not ts) refl e
+
+-- several pieces, one behind the other
+pieces : (a b d f g rest : List Token) → a ++ (b ++ (d ++ (f ++ (g ++ rest)))) ≡ (a ++ (b ++ (d ++ (f ++ g)))) ++ rest
+pieces a b d f g rest = simp append_assoc
+
+-- the conditions that were read, and the grouping with them
+record Conditions (table : Bytes) (by : List Bytes) (shown : List Aggregate) (ts : List Token) (c : Command) (rest : List Token) : Type 0 where
+  tests : List Test
+  exists : Option Exists
+  having : List Test
+  is : c ≡ Group table by shown tests exists having
+  written : ts ≡ tests_clause terminal.Where tests ++ (exists_words exists ++ (tests_clause terminal.Having having ++ rest))
+  filled : exists_filled exists ≡ true
+
+conditions_sound : (table : Bytes) (by : List Bytes) (shown : List Aggregate) (ts : List Token) (c : Command) (rest : List Token) → conditions_behind table by shown ts ≡ Some (c, rest) → Conditions table by shown ts c rest
+unfolding conditions_behind
+conditions_sound table by shown ts c rest e =
+    let where_read = bind_some (clause_at terminal.Where tests_at ts) (λ w. exists_at w.1 >>= λ x. clause_at terminal.Having tests_at x.1 >>= λ h. Some (Group table by shown w.0 x.0 h.0, h.1)) (c, rest) e in
+    let exists_read = bind_some (exists_at where_read.0.1) (λ x. clause_at terminal.Having tests_at x.1 >>= λ h. Some (Group table by shown where_read.0.0 x.0 h.0, h.1)) (c, rest) where_read.2 in
+    let having_read = bind_some (clause_at terminal.Having tests_at exists_read.0.1) (λ h. Some (Group table by shown where_read.0.0 exists_read.0.0 h.0, h.1)) (c, rest) exists_read.2 in
+    let p = pair_is (Group table by shown where_read.0.0 exists_read.0.0 having_read.0.0) c having_read.0.1 rest having_read.2 in
+    let found = exists_sound where_read.0.1 exists_read.0.0 exists_read.0.1 exists_read.1 in
+    let first : ts ≡ tests_clause terminal.Where where_read.0.0 ++ where_read.0.1 = clause_sound terminal.Where terminal.And tests_at test_words tests_sound ts where_read.0.0 where_read.0.1 where_read.1 in
+    let last : exists_read.0.1 ≡ tests_clause terminal.Having having_read.0.0 ++ rest =
+    clause_sound terminal.Having terminal.And tests_at test_words tests_sound exists_read.0.1 having_read.0.0 having_read.0.1 having_read.1 ∙ ap (λ (l : List Token). tests_clause terminal.Having having_read.0.0 ++ l) p.1 in
+    record {
+      tests = where_read.0.0;
+      exists = exists_read.0.0;
+      having = having_read.0.0;
+      is = sym p.0;
+      written = one_after (tests_clause terminal.Where where_read.0.0) (exists_words exists_read.0.0) ts where_read.0.1 exists_read.0.1 (tests_clause terminal.Having having_read.0.0 ++ rest) first found.0 last;
+      filled = found.1;
+    }
+  where
+    one_after : (front back ts middle after rest : List Token) → ts ≡ front ++ middle → middle ≡ back ++ after → after ≡ rest → ts ≡ front ++ (back ++ rest)
+    one_after front back ts middle after rest a b d = a ∙ ap (λ (l : List Token). front ++ l) (b ∙ ap (λ (l : List Token). back ++ l) d)
+
+group_written : (t : Bytes) (by : List Bytes) (shown : List Aggregate) (tests : List Test) (exists : Option Exists) (having : List Test) (ts named grouped showing told rest : List Token)
+    → ts ≡ Name t ∷ named → named ≡ clause terminal.By terminal.Comma name_words by ++ grouped → grouped ≡ Fixed terminal.Show ∷ showing → showing ≡ aggregates_words shown ++ told
+    → told ≡ tests_clause terminal.Where tests ++ (exists_words exists ++ (tests_clause terminal.Having having ++ rest)) → Fixed terminal.Group ∷ ts ≡ phrase (Group t by shown tests exists having) ++ rest
 unfolding phrase
-filled_by t [] h = absurd cc
-filled_by t (n ∷ ns) h = refl
+group_written t by shown tests exists having ts named grouped showing told rest a b d f g =
+    let front : List Token = clause terminal.By terminal.Comma name_words by in
+    let list : List Token = Fixed terminal.Show ∷ aggregates_words shown in
+    let conditions : List Token = tests_clause terminal.Where tests ++ (exists_words exists ++ (tests_clause terminal.Having having ++ rest)) in
+    let tail : grouped ≡ list ++ conditions = d ∙ ap (λ (l : List Token). Fixed terminal.Show ∷ l) (f ∙ ap (λ (l : List Token). aggregates_words shown ++ l) g) in
+    ap (λ (l : List Token). Fixed terminal.Group ∷ l)
+    (a ∙ ap (λ (l : List Token). Name t ∷ l) (b ∙ ap (λ (l : List Token). front ++ l) tail ∙ pieces front list (tests_clause terminal.Where tests) (exists_words exists) (tests_clause terminal.Having having) rest))
 
 group_sound : SoundForm terminal.Group group_at
 unfolding group_at SoundForm
 group_sound ts c rest e =
-    let a = bind_some (name_at ts) (λ table. skip terminal.By table.1 >>= λ by. names_at by >>= λ names. skip terminal.Show names.1 >>= λ shown. skip terminal.Count shown >>= λ counted. skip terminal.Open counted >>= λ opened. skip terminal.Star opened >>= λ star. skip terminal.Close star >>= λ closed. Some (Group table.0 names.0 (CountAll ∷ []) [] None [], closed)) (c, rest) e in
-    let b = bind_some (skip terminal.By a.0.1) (λ by. names_at by >>= λ names. skip terminal.Show names.1 >>= λ shown. skip terminal.Count shown >>= λ counted. skip terminal.Open counted >>= λ opened. skip terminal.Star opened >>= λ star. skip terminal.Close star >>= λ closed. Some (Group a.0.0 names.0 (CountAll ∷ []) [] None [], closed)) (c, rest) a.2 in
-    let n = bind_some (names_at b.0) (λ names. skip terminal.Show names.1 >>= λ shown. skip terminal.Count shown >>= λ counted. skip terminal.Open counted >>= λ opened. skip terminal.Star opened >>= λ star. skip terminal.Close star >>= λ closed. Some (Group a.0.0 names.0 (CountAll ∷ []) [] None [], closed)) (c, rest) b.2 in
-    let s = bind_some (skip terminal.Show n.0.1) (λ shown. skip terminal.Count shown >>= λ counted. skip terminal.Open counted >>= λ opened. skip terminal.Star opened >>= λ star. skip terminal.Close star >>= λ closed. Some (Group a.0.0 n.0.0 (CountAll ∷ []) [] None [], closed)) (c, rest) n.2 in
-    let k = bind_some (skip terminal.Count s.0) (λ counted. skip terminal.Open counted >>= λ opened. skip terminal.Star opened >>= λ star. skip terminal.Close star >>= λ closed. Some (Group a.0.0 n.0.0 (CountAll ∷ []) [] None [], closed)) (c, rest) s.2 in
-    let o = bind_some (skip terminal.Open k.0) (λ opened. skip terminal.Star opened >>= λ star. skip terminal.Close star >>= λ closed. Some (Group a.0.0 n.0.0 (CountAll ∷ []) [] None [], closed)) (c, rest) k.2 in
-    let r = bind_some (skip terminal.Star o.0) (λ star. skip terminal.Close star >>= λ closed. Some (Group a.0.0 n.0.0 (CountAll ∷ []) [] None [], closed)) (c, rest) o.2 in
-    let f = bind_some (skip terminal.Close r.0) (λ closed. Some (Group a.0.0 n.0.0 (CountAll ∷ []) [] None [], closed)) (c, rest) r.2 in
-    let p = pair_is (Group a.0.0 n.0.0 (CountAll ∷ []) [] None []) c f.0 rest f.2 in
-    let names = names_sound b.0 n.0.0 n.0.1 n.1 in
-    let tail : n.0.1 ≡ Fixed terminal.Show ∷ Fixed terminal.Count ∷ Fixed terminal.Open ∷ Fixed terminal.Star ∷ Fixed terminal.Close ∷ f.0 =
-    skip_sound terminal.Show n.0.1 s.0 s.1
-    ∙ ap (λ (l : List Token). Fixed terminal.Show ∷ l) (skip_sound terminal.Count s.0 k.0 k.1
-    ∙ ap (λ (l : List Token). Fixed terminal.Count ∷ l) (skip_sound terminal.Open k.0 o.0 o.1
-    ∙ ap (λ (l : List Token). Fixed terminal.Open ∷ l) (skip_sound terminal.Star o.0 r.0 r.1
-    ∙ ap (λ (l : List Token). Fixed terminal.Star ∷ l) (skip_sound terminal.Close r.0 f.0 f.1)))) in
-    let shown : List Token = Fixed terminal.Show ∷ Fixed terminal.Count ∷ Fixed terminal.Open ∷ Fixed terminal.Star ∷ Fixed terminal.Close ∷ [] in
-    let inner : b.0 ≡ (names_words n.0.0 ++ shown) ++ f.0 = names.0 ∙ ap (λ (l : List Token). names_words n.0.0 ++ l) tail ∙ sym (append_assoc (names_words n.0.0) shown f.0) in
-    let worded : Fixed terminal.Group ∷ ts ≡ phrase (Group a.0.0 n.0.0 (CountAll ∷ []) [] None []) ++ f.0 =
-    ap (λ (l : List Token). Fixed terminal.Group ∷ l) (name_sound ts a.0.0 a.0.1 a.1 ∙ ap (λ (l : List Token). Name a.0.0 ∷ l) (skip_sound terminal.By a.0.1 b.0 b.1 ∙ ap (λ (l : List Token). Fixed terminal.By ∷ l) inner))
-    ∙ ap (λ (l : List Token). l ++ f.0) (sym (filled_by a.0.0 n.0.0 names.1)) in
-    (worded ∙ ap (λ (v : Command). phrase v ++ f.0) p.0 ∙ ap (λ (l : List Token). phrase c ++ l) p.1, ap grammatical (sym p.0) ∙ ap (λ (v : Bool). v && true) names.1)
+    let named = bind_some (name_at ts) (λ t. clause_at terminal.By names_at t.1 >>= λ b. skip terminal.Show b.1 >>= λ s. aggregates_at s >>= λ a. conditions_behind t.0 b.0 a.0 a.1) (c, rest) e in
+    let grouped = bind_some (clause_at terminal.By names_at named.0.1) (λ b. skip terminal.Show b.1 >>= λ s. aggregates_at s >>= λ a. conditions_behind named.0.0 b.0 a.0 a.1) (c, rest) named.2 in
+    let showing = bind_some (skip terminal.Show grouped.0.1) (λ s. aggregates_at s >>= λ a. conditions_behind named.0.0 grouped.0.0 a.0 a.1) (c, rest) grouped.2 in
+    let told = bind_some (aggregates_at showing.0) (λ a. conditions_behind named.0.0 grouped.0.0 a.0 a.1) (c, rest) showing.2 in
+    let k = conditions_sound named.0.0 grouped.0.0 told.0.0 told.0.1 c rest told.2 in
+    let shown = aggregates_sound showing.0 told.0.0 told.0.1 told.1 in
+    let by = clause_sound terminal.By terminal.Comma names_at name_words names_sound named.0.1 grouped.0.0 grouped.0.1 grouped.1 in
+    group_told named.0.0 grouped.0.0 told.0.0 k.tests k.exists k.having c ts rest
+    (group_written named.0.0 grouped.0.0 told.0.0 k.tests k.exists k.having ts named.0.1 grouped.0.1 showing.0 told.0.1 rest (name_sound ts named.0.0 named.0.1 named.1) by (skip_sound terminal.Show grouped.0.1 showing.0 showing.1) shown.0 k.written)
+    shown.1 k.filled k.is
+  where
+    group_told : (t : Bytes) (by : List Bytes) (shown : List Aggregate) (tests : List Test) (exists : Option Exists) (having : List Test) (c : Command) (ts rest : List Token)
+        → Fixed terminal.Group ∷ ts ≡ phrase (Group t by shown tests exists having) ++ rest → some shown ≡ true → exists_filled exists ≡ true → c ≡ Group t by shown tests exists having
+        → (Fixed terminal.Group ∷ ts ≡ phrase c ++ rest) × (grammatical c ≡ true)
+    group_told t by shown tests exists having c ts rest written filled paired is = (written ∙ ap (λ (v : Command). phrase v ++ rest) (sym is), ap grammatical is ∙ both (some shown) (exists_filled exists) filled paired)
+
+distinct_sound : SoundForm terminal.Distinct distinct_at
+unfolding distinct_at SoundForm phrase
+distinct_sound ts c rest e =
+    let named = bind_some (name_at ts) (λ t. skip terminal.On t.1 >>= λ o. names_at o >>= λ n. clause_at terminal.Where tests_at n.1 >>= λ w. Some (Distinct t.0 n.0 w.0, w.1)) (c, rest) e in
+    let on_read = bind_some (skip terminal.On named.0.1) (λ o. names_at o >>= λ n. clause_at terminal.Where tests_at n.1 >>= λ w. Some (Distinct named.0.0 n.0 w.0, w.1)) (c, rest) named.2 in
+    let listed = bind_some (names_at on_read.0) (λ n. clause_at terminal.Where tests_at n.1 >>= λ w. Some (Distinct named.0.0 n.0 w.0, w.1)) (c, rest) on_read.2 in
+    let tested = bind_some (clause_at terminal.Where tests_at listed.0.1) (λ w. Some (Distinct named.0.0 listed.0.0 w.0, w.1)) (c, rest) listed.2 in
+    let p = pair_is (Distinct named.0.0 listed.0.0 tested.0.0) c tested.0.1 rest tested.2 in
+    let where_ : List Token = tests_clause terminal.Where tested.0.0 in
+    let names = names_sound on_read.0 listed.0.0 listed.0.1 listed.1 in
+    let inner : on_read.0 ≡ (names_words listed.0.0 ++ where_) ++ tested.0.1 =
+    joined (names_words listed.0.0) where_ on_read.0 listed.0.1 tested.0.1 names.0 (clause_sound terminal.Where terminal.And tests_at test_words tests_sound listed.0.1 tested.0.0 tested.0.1 tested.1) in
+    let worded : Fixed terminal.Distinct ∷ ts ≡ phrase (Distinct named.0.0 listed.0.0 tested.0.0) ++ tested.0.1 =
+    ap (λ (l : List Token). Fixed terminal.Distinct ∷ l) (name_sound ts named.0.0 named.0.1 named.1 ∙ ap (λ (l : List Token). Name named.0.0 ∷ l) (skip_sound terminal.On named.0.1 on_read.0 on_read.1 ∙ ap (λ (l : List Token). Fixed terminal.On ∷ l) inner)) in
+    (worded ∙ ap (λ (v : Command). phrase v ++ tested.0.1) p.0 ∙ ap (λ (l : List Token). phrase c ++ l) p.1, ap grammatical (sym p.0) ∙ names.1)
 
 behind_sound : (first : Terminal) → SoundForm first (form_behind first)
 unfolding form_behind SoundForm phrase row_words
@@ -314,6 +284,7 @@ behind_sound terminal.Upsert ts c rest e = valued_sound terminal.Upsert Upsert (
 behind_sound terminal.Delete ts c rest e = valued_sound terminal.Delete Delete (λ t values. refl) (λ t values. refl) ts c rest e
 behind_sound terminal.Show ts c rest e = named_sound terminal.Show Show (λ t. refl) (λ t. refl) ts c rest e
 behind_sound terminal.Group ts c rest e = group_sound ts c rest e
+behind_sound terminal.Distinct ts c rest e = distinct_sound ts c rest e
 behind_sound _ ts c rest e = absurd cc
 
 form_sound : (ts : List Token) (c : Command) (rest : List Token) → form_at ts ≡ Some (c, rest) → (ts ≡ phrase c ++ rest) × (grammatical c ≡ true)
@@ -328,11 +299,6 @@ ended_sound : (c d : Command) (ts : List Token) → ended (c, ts) ≡ Some d →
 unfolding ended
 ended_sound c d [] e = (some_is c d e, refl)
 ended_sound c d (t ∷ ts) e = absurd cc
-
-both : (a b : Bool) → a ≡ true → b ≡ true → a && b ≡ true
-both true true p q = refl
-both true false p q = absurd cc
-both false b p q = absurd cc
 
 -- what is read from all of the tokens is said by them
 pub command_sound : (ts : List Token) (c : Command) → command_of ts ≡ Some c → SaysTokens (Some ts) c

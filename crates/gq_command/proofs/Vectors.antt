@@ -10,14 +10,18 @@ use Rattle.gq_row.specs.declared.value.Value.TheVariants as value
 use Rattle.gq_token.specs.declared.token.Terminal.TheVariants as terminal
 use Rattle.gq_token.specs.declared.token.Token.{Token}
 use Rattle.gq_token.specs.declared.token.Token.TheVariants.{Fixed, Name, Number, Text}
-use Rattle.gq_command.specs.declared.command.Aggregate.TheVariants.{CountAll}
+use Rattle.gq_clause.specs.declared.aggregate.Aggregate.TheVariants.{CountAll, Count, CountDistinct, Sum, Min, Max}
+use Rattle.gq_clause.specs.declared.condition.Operand.TheVariants as operand
+use Rattle.gq_row.specs.declared.comparison.Comparison.TheVariants as comparison
+use Rattle.gq_clause.specs.declared.condition.Test.TheVariants.{Compare, IsNull, IsNotNull}
+use Rattle.gq_clause.specs.Reading.{name_at, in_parentheses, items_within, literal_at, clause_at, aggregate_at, aggregate_behind, aggregate_within, counted_at, operand_at, comparison_at, null_test_behind, test_at}
 use Rattle.gq_command.specs.declared.command.Command.{Command}
 use Rattle.gq_command.specs.declared.command.Command.TheVariants.{Create, Drop, Load, Upsert, Delete, Show, Group, Distinct}
 use Rattle.gq_command.specs.declared.command.Payload.TheVariants as payload
 use Rattle.gq_command.specs.declared.reader.Item.TheVariants as item
 use Rattle.gq_command.specs.Commands.{Bytes, phrase, is_command, fits}
 use Rattle.gq_command.specs.Items.{ReadsAs}
-use Rattle.gq_command.specs.Reading.{command_of, form_at, form_behind, name_at, row_at, in_parentheses, items_within, literal_at, ended}
+use Rattle.gq_command.specs.Reading.{command_of, form_at, form_behind, group_at, conditions_behind, distinct_at, exists_at, exists_behind, row_at, ended}
 use Rattle.gq_token.specs.Lexing.{tokens, lexed, tokens_within, token_at, word_at, word, sign_at, digits_at, name_in_quotes, text_in_quotes}
 use Rattle.gq_command.specs.Lines.{Says}
 use Rattle.gq_script.specs.Script.{Plain, Loading, items, entries_by}
@@ -68,6 +72,34 @@ group_line : Says (codes "group s by city show count(*)") (Group (codes "s") (co
 unfolding phrase lexed tokens_within token_at word_at word sign_at digits_at name_in_quotes text_in_quotes
 group_line = said (codes "group s by city show count(*)") _ refl refl refl
 
+each_aggregate : Says (codes "group s by city show count(*), count(id), count(distinct id), sum(id), min(id), max(id)") (Group (codes "s") (codes "city" ∷ []) (CountAll ∷ Count (codes "id") ∷ CountDistinct (codes "id") ∷ Sum (codes "id") ∷ Min (codes "id") ∷ Max (codes "id") ∷ []) [] None [])
+unfolding phrase lexed tokens_within token_at word_at word sign_at digits_at name_in_quotes text_in_quotes
+each_aggregate = said (codes "group s by city show count(*), count(id), count(distinct id), sum(id), min(id), max(id)") _ refl refl refl
+
+whole_table : Says (codes "group s show sum(id)") (Group (codes "s") [] (Sum (codes "id") ∷ []) [] None [])
+unfolding phrase lexed tokens_within token_at word_at word sign_at digits_at name_in_quotes text_in_quotes
+whole_table = said (codes "group s show sum(id)") _ refl refl refl
+
+repeated_aggregate : Says (codes "GROUP s SHOW Max(id), MAX(id)") (Group (codes "s") [] (Max (codes "id") ∷ Max (codes "id") ∷ []) [] None [])
+unfolding phrase lexed tokens_within token_at word_at word sign_at digits_at name_in_quotes text_in_quotes
+repeated_aggregate = said (codes "GROUP s SHOW Max(id), MAX(id)") _ refl refl refl
+
+conditions : Says (codes "group a by n show count(*) where x > 3 and city is not null not exists u (k) = (k) having sum(x) <= 0") (Group (codes "a") (codes "n" ∷ []) (CountAll ∷ []) (Compare (operand.Column (codes "x")) comparison.Greater (operand.Literal (value.Int (pos 3))) ∷ IsNotNull (operand.Column (codes "city")) ∷ []) (Some (record { negated = true; table = codes "u"; theirs = codes "k" ∷ []; ours = codes "k" ∷ [] })) (Compare (operand.Aggregate (Sum (codes "x"))) comparison.LessEqual (operand.Literal (value.Int (pos 0))) ∷ []))
+unfolding phrase lexed tokens_within token_at word_at word sign_at digits_at name_in_quotes text_in_quotes
+conditions = said (codes "group a by n show count(*) where x > 3 and city is not null not exists u (k) = (k) having sum(x) <= 0") _ refl refl refl
+
+exists_alone : Says (codes "group a show count(*) exists u (c2, d2) = (c1, d1)") (Group (codes "a") [] (CountAll ∷ []) [] (Some (record { negated = false; table = codes "u"; theirs = codes "c2" ∷ codes "d2" ∷ []; ours = codes "c1" ∷ codes "d1" ∷ [] })) [])
+unfolding phrase lexed tokens_within token_at word_at word sign_at digits_at name_in_quotes text_in_quotes
+exists_alone = said (codes "group a show count(*) exists u (c2, d2) = (c1, d1)") _ refl refl refl
+
+distinct_line : Says (codes "distinct s on city where id <> 7") (Distinct (codes "s") (codes "city" ∷ []) (Compare (operand.Column (codes "id")) comparison.NotEqual (operand.Literal (value.Int (pos 7))) ∷ []))
+unfolding phrase lexed tokens_within token_at word_at word sign_at digits_at name_in_quotes text_in_quotes
+distinct_line = said (codes "distinct s on city where id <> 7") _ refl refl refl
+
+two_literals : Says (codes "distinct s on a where 1 = 'a' and 2 is null and null is null") (Distinct (codes "s") (codes "a" ∷ []) (Compare (operand.Literal (value.Int (pos 1))) comparison.Equal (operand.Literal (value.Text (codes "a"))) ∷ IsNull (operand.Literal (value.Int (pos 2))) ∷ IsNull (operand.Literal value.Null) ∷ []))
+unfolding phrase lexed tokens_within token_at word_at word sign_at digits_at name_in_quotes text_in_quotes
+two_literals = said (codes "distinct s on a where 1 = 'a' and 2 is null and null is null") _ refl refl refl
+
 drop_line : Says (codes "DROP " ++ (34 ∷ codes "s" ++ 34 ∷ [])) (Drop (codes "s"))
 unfolding phrase lexed tokens_within token_at word_at word sign_at digits_at name_in_quotes text_in_quotes
 drop_line = said (codes "DROP " ++ (34 ∷ codes "s" ++ 34 ∷ [])) _ refl refl refl
@@ -117,9 +149,85 @@ values_shown : (c : Command) → Says (codes "show s (1)") c → ⊥
 unfolding lexed tokens_within token_at word_at word sign_at digits_at name_in_quotes text_in_quotes command_of form_at form_behind name_at row_at in_parentheses items_within literal_at ended
 values_shown = unsaid (codes "show s (1)") _ refl refl refl
 
--- forms that come later say nothing yet
-not_yet : is_command (Distinct (codes "s") (codes "a" ∷ []) []) ≡ false
-not_yet = refl
+nothing_shown : (c : Command) → Says (codes "group s by a show") c → ⊥
+unfolding lexed tokens_within token_at word_at word sign_at digits_at name_in_quotes text_in_quotes command_of form_at form_behind group_at conditions_behind exists_at clause_at aggregate_at aggregate_behind aggregate_within counted_at name_at in_parentheses items_within ended
+nothing_shown = unsaid (codes "group s by a show") _ refl refl refl
+
+nothing_counted : (c : Command) → Says (codes "group s show count()") c → ⊥
+unfolding lexed tokens_within token_at word_at word sign_at digits_at name_in_quotes text_in_quotes command_of form_at form_behind group_at conditions_behind exists_at clause_at aggregate_at aggregate_behind aggregate_within counted_at name_at in_parentheses items_within ended
+nothing_counted = unsaid (codes "group s show count()") _ refl refl refl
+
+rows_summed : (c : Command) → Says (codes "group s show sum(*)") c → ⊥
+unfolding lexed tokens_within token_at word_at word sign_at digits_at name_in_quotes text_in_quotes command_of form_at form_behind group_at conditions_behind exists_at clause_at aggregate_at aggregate_behind aggregate_within counted_at name_at in_parentheses items_within ended
+rows_summed = unsaid (codes "group s show sum(*)") _ refl refl refl
+
+different_summed : (c : Command) → Says (codes "group s show sum(distinct a)") c → ⊥
+unfolding lexed tokens_within token_at word_at word sign_at digits_at name_in_quotes text_in_quotes command_of form_at form_behind group_at conditions_behind exists_at clause_at aggregate_at aggregate_behind aggregate_within counted_at name_at in_parentheses items_within ended
+different_summed = unsaid (codes "group s show sum(distinct a)") _ refl refl refl
+
+comma_at_the_end : (c : Command) → Says (codes "group s show count(*),") c → ⊥
+unfolding lexed tokens_within token_at word_at word sign_at digits_at name_in_quotes text_in_quotes command_of form_at form_behind group_at conditions_behind exists_at clause_at aggregate_at aggregate_behind aggregate_within counted_at name_at in_parentheses items_within ended
+comma_at_the_end = unsaid (codes "group s show count(*),") _ refl refl refl
+
+no_columns_behind_by : (c : Command) → Says (codes "group s by show count(*)") c → ⊥
+unfolding lexed tokens_within token_at word_at word sign_at digits_at name_in_quotes text_in_quotes command_of form_at form_behind group_at conditions_behind exists_at clause_at aggregate_at aggregate_behind aggregate_within counted_at name_at in_parentheses items_within ended
+no_columns_behind_by = unsaid (codes "group s by show count(*)") _ refl refl refl
+
+column_twice_behind_by : (c : Command) → Says (codes "group s by a, a show count(*)") c → ⊥
+unfolding lexed tokens_within token_at word_at word sign_at digits_at name_in_quotes text_in_quotes command_of form_at form_behind group_at conditions_behind exists_at clause_at aggregate_at aggregate_behind aggregate_within counted_at name_at in_parentheses items_within ended
+column_twice_behind_by = unsaid (codes "group s by a, a show count(*)") _ refl refl refl
+
+aggregate_where : (c : Command) → Says (codes "group s show count(*) where sum(a) > 0") c → ⊥
+unfolding lexed tokens_within token_at word_at word sign_at digits_at name_in_quotes text_in_quotes command_of form_at form_behind group_at conditions_behind distinct_at exists_at exists_behind clause_at aggregate_at aggregate_behind aggregate_within counted_at operand_at comparison_at null_test_behind test_at name_at in_parentheses items_within ended
+aggregate_where = unsaid (codes "group s show count(*) where sum(a) > 0") _ refl refl refl
+
+aggregate_in_distinct : (c : Command) → Says (codes "distinct s on a where count(*) = 1") c → ⊥
+unfolding lexed tokens_within token_at word_at word sign_at digits_at name_in_quotes text_in_quotes command_of form_at form_behind group_at conditions_behind distinct_at exists_at exists_behind clause_at aggregate_at aggregate_behind aggregate_within counted_at operand_at comparison_at null_test_behind test_at name_at in_parentheses items_within ended
+aggregate_in_distinct = unsaid (codes "distinct s on a where count(*) = 1") _ refl refl refl
+
+lists_of_two_lengths : (c : Command) → Says (codes "group s show count(*) exists u (a, b) = (c)") c → ⊥
+unfolding lexed tokens_within token_at word_at word sign_at digits_at name_in_quotes text_in_quotes command_of form_at form_behind group_at conditions_behind distinct_at exists_at exists_behind clause_at aggregate_at aggregate_behind aggregate_within counted_at operand_at comparison_at null_test_behind test_at name_at in_parentheses items_within ended
+lists_of_two_lengths = unsaid (codes "group s show count(*) exists u (a, b) = (c)") _ refl refl refl
+
+nothing_in_exists : (c : Command) → Says (codes "group s show count(*) exists u () = ()") c → ⊥
+unfolding lexed tokens_within token_at word_at word sign_at digits_at name_in_quotes text_in_quotes command_of form_at form_behind group_at conditions_behind distinct_at exists_at exists_behind clause_at aggregate_at aggregate_behind aggregate_within counted_at operand_at comparison_at null_test_behind test_at name_at in_parentheses items_within ended
+nothing_in_exists = unsaid (codes "group s show count(*) exists u () = ()") _ refl refl refl
+
+column_twice_behind_on : (c : Command) → Says (codes "distinct s on a, a") c → ⊥
+unfolding lexed tokens_within token_at word_at word sign_at digits_at name_in_quotes text_in_quotes command_of form_at form_behind group_at conditions_behind distinct_at exists_at exists_behind clause_at aggregate_at aggregate_behind aggregate_within counted_at operand_at comparison_at null_test_behind test_at name_at in_parentheses items_within ended
+column_twice_behind_on = unsaid (codes "distinct s on a, a") _ refl refl refl
+
+no_columns_behind_on : (c : Command) → Says (codes "distinct s") c → ⊥
+unfolding lexed tokens_within token_at word_at word sign_at digits_at name_in_quotes text_in_quotes command_of form_at form_behind group_at conditions_behind distinct_at exists_at exists_behind clause_at aggregate_at aggregate_behind aggregate_within counted_at operand_at comparison_at null_test_behind test_at name_at in_parentheses items_within ended
+no_columns_behind_on = unsaid (codes "distinct s") _ refl refl refl
+
+nothing_tested : (c : Command) → Says (codes "group s show count(*) where") c → ⊥
+unfolding lexed tokens_within token_at word_at word sign_at digits_at name_in_quotes text_in_quotes command_of form_at form_behind group_at conditions_behind distinct_at exists_at exists_behind clause_at aggregate_at aggregate_behind aggregate_within counted_at operand_at comparison_at null_test_behind test_at name_at in_parentheses items_within ended
+nothing_tested = unsaid (codes "group s show count(*) where") _ refl refl refl
+
+one_side : (c : Command) → Says (codes "distinct s on a where a =") c → ⊥
+unfolding lexed tokens_within token_at word_at word sign_at digits_at name_in_quotes text_in_quotes command_of form_at form_behind group_at conditions_behind distinct_at exists_at exists_behind clause_at aggregate_at aggregate_behind aggregate_within counted_at operand_at comparison_at null_test_behind test_at name_at in_parentheses items_within ended
+one_side = unsaid (codes "distinct s on a where a =") _ refl refl refl
+
+nothing_behind_and : (c : Command) → Says (codes "distinct s on a where a = 1 and") c → ⊥
+unfolding lexed tokens_within token_at word_at word sign_at digits_at name_in_quotes text_in_quotes command_of form_at form_behind group_at conditions_behind distinct_at exists_at exists_behind clause_at aggregate_at aggregate_behind aggregate_within counted_at operand_at comparison_at null_test_behind test_at name_at in_parentheses items_within ended
+nothing_behind_and = unsaid (codes "distinct s on a where a = 1 and") _ refl refl refl
+
+is_a_value : (c : Command) → Says (codes "distinct s on a where a is 1") c → ⊥
+unfolding lexed tokens_within token_at word_at word sign_at digits_at name_in_quotes text_in_quotes command_of form_at form_behind group_at conditions_behind distinct_at exists_at exists_behind clause_at aggregate_at aggregate_behind aggregate_within counted_at operand_at comparison_at null_test_behind test_at name_at in_parentheses items_within ended
+is_a_value = unsaid (codes "distinct s on a where a is 1") _ refl refl refl
+
+having_before_where : (c : Command) → Says (codes "group s show count(*) having a = 1 where a = 1") c → ⊥
+unfolding lexed tokens_within token_at word_at word sign_at digits_at name_in_quotes text_in_quotes command_of form_at form_behind group_at conditions_behind distinct_at exists_at exists_behind clause_at aggregate_at aggregate_behind aggregate_within counted_at operand_at comparison_at null_test_behind test_at name_at in_parentheses items_within ended
+having_before_where = unsaid (codes "group s show count(*) having a = 1 where a = 1") _ refl refl refl
+
+not_alone : (c : Command) → Says (codes "group s show count(*) not") c → ⊥
+unfolding lexed tokens_within token_at word_at word sign_at digits_at name_in_quotes text_in_quotes command_of form_at form_behind group_at conditions_behind distinct_at exists_at exists_behind clause_at aggregate_at aggregate_behind aggregate_within counted_at operand_at comparison_at null_test_behind test_at name_at in_parentheses items_within ended
+not_alone = unsaid (codes "group s show count(*) not") _ refl refl refl
+
+distinct_having : (c : Command) → Says (codes "distinct s on a having a = 1") c → ⊥
+unfolding lexed tokens_within token_at word_at word sign_at digits_at name_in_quotes text_in_quotes command_of form_at form_behind group_at conditions_behind distinct_at exists_at exists_behind clause_at aggregate_at aggregate_behind aggregate_within counted_at operand_at comparison_at null_test_behind test_at name_at in_parentheses items_within ended
+distinct_having = unsaid (codes "distinct s on a having a = 1") _ refl refl refl
 
 -- tokens
 
@@ -170,6 +278,26 @@ long_name = refl
 
 name_at_limit : fits GREATEST (Create (codes "aaaaaaaaaaaaaaaaaaaaaaaaaaaaaaaaaaaaaaaaaaaaaaaaaaaaaaaaaaaaaaa") (record { name = codes "a"; kind = kind.Int } ∷ []) []) ≡ true
 name_at_limit = refl
+
+-- eight aggregates are within the limits, nine are not, and the name of a column counts as each name does
+eight_shown : fits GREATEST (Group (codes "s") [] (CountAll ∷ CountAll ∷ CountAll ∷ CountAll ∷ CountAll ∷ CountAll ∷ CountAll ∷ CountAll ∷ []) [] None []) ≡ true
+eight_shown = refl
+
+nine_shown : fits GREATEST (Group (codes "s") [] (CountAll ∷ CountAll ∷ CountAll ∷ CountAll ∷ CountAll ∷ CountAll ∷ CountAll ∷ CountAll ∷ CountAll ∷ []) [] None []) ≡ false
+nine_shown = refl
+
+long_column : fits GREATEST (Group (codes "s") [] (Min (codes "aaaaaaaaaaaaaaaaaaaaaaaaaaaaaaaaaaaaaaaaaaaaaaaaaaaaaaaaaaaaaaaa") ∷ []) [] None []) ≡ false
+long_column = refl
+
+-- names and texts count wherever they stand
+long_in_having : fits GREATEST (Group (codes "s") [] (CountAll ∷ []) [] None (IsNull (operand.Aggregate (Min (codes "aaaaaaaaaaaaaaaaaaaaaaaaaaaaaaaaaaaaaaaaaaaaaaaaaaaaaaaaaaaaaaaa"))) ∷ [])) ≡ false
+long_in_having = refl
+
+long_in_exists : fits GREATEST (Group (codes "s") [] (CountAll ∷ []) [] (Some (record { negated = true; table = codes "u"; theirs = codes "aaaaaaaaaaaaaaaaaaaaaaaaaaaaaaaaaaaaaaaaaaaaaaaaaaaaaaaaaaaaaaaa" ∷ []; ours = codes "a" ∷ [] })) []) ≡ false
+long_in_exists = refl
+
+text_past_the_limit : fits (record GREATEST { text = 2 }) (Distinct (codes "s") (codes "a" ∷ []) (Compare (operand.Column (codes "a")) comparison.Less (operand.Literal (value.Text (codes "abc"))) ∷ [])) ≡ false
+text_past_the_limit = refl
 
 -- a byte-order mark, a blank line, a comment, LF and CR LF, and a last line without an end
 mixed : items GREATEST (239 ∷ 187 ∷ 191 ∷ 32 ∷ 9 ∷ 13 ∷ 10 ∷ (codes "-- note" ++ (10 ∷ (codes " show s" ++ (13 ∷ 10 ∷ 45 ∷ 10 ∷ codes "load s"))))) ≡ Plain (codes " show s") ∷ Plain (codes "-") ∷ Loading (codes "load s") None ∷ []

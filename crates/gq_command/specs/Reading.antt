@@ -1,5 +1,5 @@
--- Reading tokens from left to right.
-use Rattle.std.specs.Prelude.{ℕ, zero, suc, List, [], ◌∷◌, length, Option, Some, None, if◌then◌else◌}
+-- Reading commands from tokens, from left to right.
+use Rattle.std.specs.Prelude.{Bool, true, false, List, [], ◌∷◌, Option, Some, None, if◌then◌else◌}
 use Rattle.gq_token.specs.declared.token.Terminal.{Terminal}
 use Rattle.gq_token.specs.declared.token.Terminal.TheVariants as terminal
 use Rattle.gq_row.specs.declared.schema.Kind.{Kind}
@@ -9,28 +9,15 @@ use Rattle.gq_token.specs.Queue.{skip, column_comma}
 use Rattle.gq_token.specs.Tokens.{same}
 use Rattle.gq_token.specs.declared.token.Token.{Token}
 use Rattle.gq_token.specs.declared.token.Token.TheVariants.{Fixed, Name, Number, Text}
+use Rattle.gq_clause.specs.Reading.{name_at, items_at, names_at, literals_at, in_parentheses, clause_at, aggregates_at, tests_at}
+use Rattle.gq_clause.specs.declared.aggregate.Aggregate.{Aggregate}
 use Rattle.gq_command.specs.Commands.{Bytes, keeps_rules}
 use Rattle.gq_command.specs.declared.command.Command.{Command}
-use Rattle.gq_command.specs.declared.command.Command.TheVariants.{Create, Drop, Load, Upsert, Delete, Show, Group}
+use Rattle.gq_command.specs.declared.command.Command.TheVariants.{Create, Drop, Load, Upsert, Delete, Show, Group, Distinct}
+use Rattle.gq_command.specs.declared.command.Exists.{Exists}
 use Rattle.gq_command.specs.declared.command.Payload.TheVariants as payload
-use Rattle.gq_command.specs.declared.command.Aggregate.TheVariants.{CountAll}
 use Rattle.gq_row.specs.declared.value.Value.{Value}
-use Rattle.gq_row.specs.declared.value.Value.TheVariants as value
 use Rattle.gq_row.specs.declared.schema.Column.{Column}
-
-unfoldable pub name_at : List Token → Option (Bytes × List Token)
-name_at [] = None
-name_at (Fixed u ∷ rest) = None
-name_at (Name n ∷ rest) = Some (n, rest)
-name_at (Number z ∷ rest) = None
-name_at (Text s ∷ rest) = None
-
-unfoldable pub literal_at : List Token → Option (Value × List Token)
-literal_at [] = None
-literal_at (Fixed u ∷ rest) = if same u terminal.Null then Some (value.Null, rest) else None
-literal_at (Name n ∷ rest) = None
-literal_at (Number z ∷ rest) = Some (value.Int z, rest)
-literal_at (Text s ∷ rest) = Some (value.Text s, rest)
 
 unfoldable pub kind_at : List Token → Option (Kind × List Token)
 kind_at [] = None
@@ -45,29 +32,8 @@ column_at ts = do
   kind ← kind_at name.1
   Some (record { name = name.0; kind = kind.0 }, kind.1)
 
--- items with separators between them, as far as they go, at most n
-unfoldable pub items_within : {A : Type 0} → (List Token → Option (A × List Token)) → (List Token → Option (List Token)) → ℕ → List Token → Option (List A × List Token)
-items_within item next zero ts = None
-items_within item next (suc n) ts = item ts >>= λ x. elim (next x.1) [ None ↦ Some (x.0 ∷ [], x.1) | Some after ↦ items_within item next n after >>= λ y. Some (x.0 ∷ y.0, y.1) ]
-
-abbrev pub items_at : {A : Type 0} → (List Token → Option (A × List Token)) → (List Token → Option (List Token)) → List Token → Option (List A × List Token)
-items_at item next ts = items_within item next (length ts) ts
-
-abbrev pub names_at : List Token → Option (List Bytes × List Token)
-names_at ts = items_at name_at (skip terminal.Comma) ts
-
-abbrev pub literals_at : List Token → Option (List Value × List Token)
-literals_at ts = items_at literal_at (skip terminal.Comma) ts
-
 abbrev pub columns_at : List Token → Option (List Column × List Token)
 columns_at ts = items_at column_at column_comma ts
-
-unfoldable pub in_parentheses : {A : Type 0} → (List Token → Option (A × List Token)) → List Token → Option (A × List Token)
-in_parentheses inner ts = do
-  opened ← skip terminal.Open ts
-  x ← inner opened
-  closed ← skip terminal.Close x.1
-  Some (x.0, closed)
 
 -- the key behind a comma, or none
 unfoldable pub key_at : List Token → Option (List Bytes × List Token)
@@ -90,17 +56,48 @@ create_at ts = do
   closed ← skip terminal.Close key.1
   Some (Create table.0 columns.0 key.0, closed)
 
+-- what stands behind `exists`
+unfoldable pub exists_behind : Bool → List Token → Option (Exists × List Token)
+exists_behind negated ts = do
+  table ← name_at ts
+  theirs ← in_parentheses names_at table.1
+  equal ← skip terminal.Equal theirs.1
+  ours ← in_parentheses names_at equal
+  Some (record { negated = negated; table = table.0; theirs = theirs.0; ours = ours.0 }, ours.1)
+
+abbrev pub with_exists : Option (Exists × List Token) → Option (Option Exists × List Token)
+with_exists read = read >>= λ e. Some (Some e.0, e.1)
+
+-- `exists` or `not exists`, or none where neither leads
+unfoldable pub exists_at : List Token → Option (Option Exists × List Token)
+exists_at ts = elim (skip terminal.Not ts) [
+  | None ↦ elim (skip terminal.Exists ts) [ None ↦ Some (None, ts) | Some after ↦ with_exists (exists_behind false after) ]
+  | Some after ↦ skip terminal.Exists after >>= λ rest. with_exists (exists_behind true rest)
+]
+
+-- the conditions behind what is shown, and with them the whole grouping
+unfoldable pub conditions_behind : Bytes → List Bytes → List Aggregate → List Token → Option (Command × List Token)
+conditions_behind table by shown ts = do
+  tests ← clause_at terminal.Where tests_at ts
+  exists ← exists_at tests.1
+  having ← clause_at terminal.Having tests_at exists.1
+  Some (Group table by shown tests.0 exists.0 having.0, having.1)
+
 unfoldable pub group_at : List Token → Option (Command × List Token)
 group_at ts = do
   table ← name_at ts
-  by ← skip terminal.By table.1
-  names ← names_at by
-  shown ← skip terminal.Show names.1
-  counted ← skip terminal.Count shown
-  opened ← skip terminal.Open counted
-  star ← skip terminal.Star opened
-  closed ← skip terminal.Close star
-  Some (Group table.0 names.0 (CountAll ∷ []) [] None [], closed)
+  by ← clause_at terminal.By names_at table.1
+  show ← skip terminal.Show by.1
+  shown ← aggregates_at show
+  conditions_behind table.0 by.0 shown.0 shown.1
+
+unfoldable pub distinct_at : List Token → Option (Command × List Token)
+distinct_at ts = do
+  table ← name_at ts
+  on ← skip terminal.On table.1
+  names ← names_at on
+  tests ← clause_at terminal.Where tests_at names.1
+  Some (Distinct table.0 names.0 tests.0, tests.1)
 
 -- the form that begins with the word, behind it
 unfoldable pub form_behind : Terminal → List Token → Option (Command × List Token)
@@ -121,6 +118,7 @@ form_behind terminal.Show ts = do
   table ← name_at ts
   Some (Show table.0, table.1)
 form_behind terminal.Group ts = group_at ts
+form_behind terminal.Distinct ts = distinct_at ts
 form_behind _ ts = None
 
 unfoldable pub form_at : List Token → Option (Command × List Token)

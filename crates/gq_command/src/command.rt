@@ -1,52 +1,6 @@
 //! Commands, as data.
-use gq_row::{Column, Row, Sequence, Text, Value};
-
-/// What is computed of a group.
-#[derive(Debug, Drop)]
-pub enum Aggregate {
-    /// `count(*)`: the number of rows.
-    CountAll,
-    /// `count(x)`: the number of rows where x isn't null.
-    Count(Text),
-    /// `count(distinct x)`: the number of different values of x that aren't null.
-    CountDistinct(Text),
-    /// `sum(x)`
-    Sum(Text),
-    /// `min(x)`
-    Min(Text),
-    /// `max(x)`
-    Max(Text),
-}
-
-/// What a test compares.
-#[derive(Debug, Drop)]
-pub enum Operand {
-    /// A column, by its name.
-    Column(Text),
-    Literal(Value),
-    Aggregate(Aggregate),
-}
-
-/// How a test compares: `=`, `<>`, `<`, `<=`, `>` or `>=`.
-#[derive(Clone, Copy, Debug, PartialEq, Eq)]
-pub enum Comparison {
-    Equal,
-    NotEqual,
-    Less,
-    LessEqual,
-    Greater,
-    GreaterEqual,
-}
-
-/// A condition on one row.
-#[derive(Debug, Drop)]
-pub enum Test {
-    Compare(Operand, Comparison, Operand),
-    /// `x is null`
-    IsNull(Operand),
-    /// `x is not null`
-    IsNotNull(Operand),
-}
+use gq_clause::{Aggregate, Test};
+use gq_row::{Column, Row, Sequence, Text};
 
 /// `exists table (theirs) = (ours)`: whether a row of the other table has the values of this
 /// table's row, column by column.

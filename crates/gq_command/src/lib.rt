@@ -12,16 +12,26 @@
 //! repeat, square brackets are optional:
 //!
 //! ```text
-//! command = "create" name "(" column { "," column } [ "," "key" "(" names ")" ] ")"
-//!         | "drop" name
-//!         | "load" name
-//!         | "upsert" name "(" literal { "," literal } ")"
-//!         | "delete" name "(" literal { "," literal } ")"
-//!         | "show" name
-//!         | "group" name "by" names "show" "count" "(" "*" ")"
-//! column  = name ( "int" | "text" )
-//! names   = name { "," name }
-//! literal = int | string | "null"
+//! command   = "create" name "(" column { "," column } [ "," "key" "(" names ")" ] ")"
+//!           | "drop" name
+//!           | "load" name
+//!           | "upsert" name "(" literal { "," literal } ")"
+//!           | "delete" name "(" literal { "," literal } ")"
+//!           | "show" name
+//!           | "group" name [ "by" names ] "show" aggregate { "," aggregate }
+//!             [ "where" tests ]
+//!             [ [ "not" ] "exists" name "(" names ")" "=" "(" names ")" ]
+//!             [ "having" tests ]
+//!           | "distinct" name "on" names [ "where" tests ]
+//! column    = name ( "int" | "text" )
+//! names     = name { "," name }
+//! literal   = int | string | "null"
+//! aggregate = "count" "(" ( "*" | [ "distinct" ] name ) ")"
+//!           | ( "sum" | "min" | "max" ) "(" name ")"
+//! tests     = test { "and" test }
+//! test      = operand sign operand | operand "is" [ "not" ] "null"
+//! sign      = "=" | "<>" | "<" | "<=" | ">" | ">="
+//! operand   = name | literal | aggregate
 //! ```
 //!
 //! Keywords are in any ASCII case, and reserved: none is a bare name. A bare name is an ASCII
@@ -29,9 +39,9 @@
 //! double quotes and isn't empty, a string in single quotes; a quote in either is doubled. Names
 //! are the same where their bytes are, quoted or not. An int is an optional `+` or `-` directly
 //! before its digits, within 64 bits, with no letter, digit or underscore right behind it. No name
-//! stands twice among the columns of a table, in a key, or behind `by`. `distinct` and the other parts
-//! of `group` have their places in [`Command`] and in the grammar of `specs/`; no line says one of
-//! them yet.
+//! stands twice among the columns of a table, in a key, or behind `by` or `on`; what is shown may
+//! repeat. An aggregate is an operand behind `having` alone, and the two lists of `exists` are of one
+//! length.
 //!
 //! The one contract above this crate: [`CommandReader::next`] gives the items of a reader's bytes
 //! in order, in whatever pieces the bytes come. A command is one that its line says, within the
@@ -49,7 +59,8 @@ mod lines;
 mod parsing;
 mod reader;
 
-pub use command::{Aggregate, Command, Comparison, Exists, Operand, Payload, Test};
+pub use command::{Command, Exists, Payload};
+pub use gq_clause::{Aggregate, Comparison, Operand, Test};
 pub use gq_script::ReadFault;
 pub use lines::{LineRefusal, parse_line};
 pub use reader::{CommandReader, Item};

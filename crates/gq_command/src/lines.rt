@@ -1,13 +1,14 @@
 //! Lines as commands.
-ghost use Rattle.std.specs.Prelude.{true, false, ◌≡◌, ◌&&◌, ◌↔◌, ◌<◌, IfOk, IsErrOf, length};
+ghost use Rattle.std.specs.Prelude.{true, false, ◌≡◌, ◌&&◌, ◌↔◌, ◌<◌, IfOk, IsErrOf, length, nat_le};
 ghost use Rattle.std.specs.List.{list_all};
-ghost use Rattle.gq_command.specs.Commands.{is_command, fits, is_at_most, literal_texts};
+ghost use Rattle.gq_command.specs.Commands.{aggregate_names, exists_fits, fits, is_at_most, literal_texts, test_fits};
 ghost use Rattle.gq_command.specs.Lines.{command_on, Says};
 ghost use Rattle.gq_token.specs.Results.{Gives};
 
-use crate::command::Command;
+use crate::command::{Command, Exists};
 use crate::parsing::command_in;
-use gq_row::{Bounds, Column, Limits, Row, Text, Value};
+use gq_clause::{Aggregate, Test, aggregates_fit, names_fit, tests_fit, values_fit};
+use gq_row::{Bounds, Column, Limits, Row, Sequence, Text};
 use gq_token::{ParseError, lex};
 use std::alloc::Global;
 use thiserror::Error;
@@ -43,31 +44,10 @@ fn parse(alloc: Global, line: &[u8]) -> Result<Command, ParseError>
     }
 }
 
-fn names_fit(names: &[Text], most: usize) -> bool
-    ensures { result ≡ list_all (is_at_most most) names.now }
-{
-    names.iter().all(|name| name.len() <= most)
-}
-
 fn columns_fit(columns: &[Column], most: usize) -> bool
     ensures { result ≡ list_all (λ c. is_at_most most c.name) columns.now }
 {
     columns.iter().all(|column| column.name.len() <= most)
-}
-
-fn value_fits(value: &Value, most: usize) -> bool
-    ensures { result ≡ list_all (is_at_most most) (literal_texts value.now) }
-{
-    match value {
-        Value::Text(text) => text.len() <= most,
-        Value::Null | Value::Int(_) => true,
-    }
-}
-
-fn values_fit(values: &[Value], most: usize) -> bool
-    ensures { result ≡ list_all (λ v. list_all (is_at_most most) (literal_texts v)) values.now }
-{
-    values.iter().all(|value| value_fits(value, most))
 }
 
 /// Whether a table's name and the literals of a row are within the limits of a line.
@@ -77,9 +57,76 @@ fn row_fits(table: &Text, row: &Row, bounds: &Bounds) -> bool
     table.len() <= bounds.name && values_fit(row.cells(), bounds.text)
 }
 
-/// Whether a command that a line says is within the limits of a line.
+/// Whether the names of an `exists` have at most so many bytes, where there is one.
+fn exists_fits(exists: &Option<Exists>, most: usize) -> bool
+    ensures { result ≡ exists_fits most exists.now }
+{
+    match exists {
+        Some(exists) => {
+            exists.table.len() <= most
+                && names_fit(exists.theirs.as_slice(), most)
+                && names_fit(exists.ours.as_slice(), most)
+        }
+        None => true,
+    }
+}
+
+/// Whether the names of a grouping, its conditions aside, and what it shows, are within the limits of
+/// a line.
+fn groups_fit(
+    table: &Text,
+    by: &Sequence<Text>,
+    shown: &Sequence<Aggregate>,
+    bounds: &Bounds,
+) -> bool
+    ensures { result ≡ (is_at_most bounds.now.name table.now && (list_all (is_at_most bounds.now.name) by.now && (list_all (λ a. list_all (is_at_most bounds.now.name) (aggregate_names a)) shown.now && nat_le (length shown.now) bounds.now.aggregates))) }
+{
+    table.len() <= bounds.name
+        && names_fit(by.as_slice(), bounds.name)
+        && aggregates_fit(shown.as_slice(), bounds.name)
+        && shown.len() <= bounds.aggregates
+}
+
+/// Whether the conditions of a grouping are within the limits of a line.
+fn conditions_fit(
+    tests: &Sequence<Test>,
+    exists: &Option<Exists>,
+    having: &Sequence<Test>,
+    bounds: &Bounds,
+) -> bool
+    ensures { result ≡ (list_all (test_fits bounds.now) tests.now && (exists_fits bounds.now.name exists.now && list_all (test_fits bounds.now) having.now)) }
+{
+    tests_fit(tests.as_slice(), bounds)
+        && exists_fits(exists, bounds.name)
+        && tests_fit(having.as_slice(), bounds)
+}
+
+/// Whether a grouping is within the limits of a line.
+fn group_fits(
+    table: &Text,
+    by: &Sequence<Text>,
+    shown: &Sequence<Aggregate>,
+    tests: &Sequence<Test>,
+    exists: &Option<Exists>,
+    having: &Sequence<Test>,
+    bounds: &Bounds,
+) -> bool
+    ensures { result ≡ ((is_at_most bounds.now.name table.now && (list_all (is_at_most bounds.now.name) by.now && (list_all (λ a. list_all (is_at_most bounds.now.name) (aggregate_names a)) shown.now && nat_le (length shown.now) bounds.now.aggregates))) && (list_all (test_fits bounds.now) tests.now && (exists_fits bounds.now.name exists.now && list_all (test_fits bounds.now) having.now))) }
+{
+    groups_fit(table, by, shown, bounds) && conditions_fit(tests, exists, having, bounds)
+}
+
+/// Whether a `distinct` is within the limits of a line.
+fn distinct_fits(table: &Text, on: &Sequence<Text>, tests: &Sequence<Test>, bounds: &Bounds) -> bool
+    ensures { result ≡ (is_at_most bounds.now.name table.now && (list_all (is_at_most bounds.now.name) on.now && list_all (test_fits bounds.now) tests.now)) }
+{
+    table.len() <= bounds.name
+        && names_fit(on.as_slice(), bounds.name)
+        && tests_fit(tests.as_slice(), bounds)
+}
+
+/// Whether a command is within the limits of a line.
 fn fits(command: &Command, bounds: &Bounds) -> bool
-    requires { is_command command.now ≡ true }
     ensures { result ≡ fits bounds.now command.now }
 {
     match command {
@@ -102,14 +149,11 @@ fn fits(command: &Command, bounds: &Bounds) -> bool
             table,
             by,
             shown,
-            ..
-        } => {
-            table.len() <= bounds.name
-                && names_fit(by.as_slice(), bounds.name)
-                && shown.len() <= bounds.aggregates
-        }
-        // No line says one yet.
-        Command::Distinct { .. } => true,
+            tests,
+            exists,
+            having,
+        } => group_fits(table, by, shown, tests, exists, having, bounds),
+        Command::Distinct { table, on, tests } => distinct_fits(table, on, tests, bounds),
     }
 }
 

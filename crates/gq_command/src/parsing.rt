@@ -1,53 +1,22 @@
 //! Tokens as commands: one function for each rule of the grammar, which takes the tokens that it
 //! reads from the front of those that are left.
-ghost use Rattle.std.specs.Prelude.{◌≡◌, IfOk, IfErr, None, [], ◌∷◌, bytes_eq};
+ghost use Rattle.std.specs.Prelude.{◌≡◌, IfOk, IfErr, bytes_eq};
+ghost use Rattle.std.specs.List.{list_all};
 ghost use Rattle.gq_row.specs.Repeats.{no_repeats};
-ghost use Rattle.gq_command.specs.Commands.{column_names, keeps_rules};
+ghost use Rattle.gq_command.specs.Commands.{column_names, is_row_test, keeps_rules, same_length};
 ghost use Rattle.gq_token.specs.Results.{Gives};
-ghost use Rattle.gq_token.specs.Queue.{skip, column_comma};
-ghost use Rattle.gq_command.specs.Reading.{name_at, literal_at, kind_at, column_at, names_at, literals_at, columns_at, key_at, row_at, create_at, group_at, form_behind, form_at, command_of};
-ghost use Rattle.gq_command.specs.declared.command.Aggregate.TheVariants.{CountAll};
-ghost use Rattle.gq_command.specs.declared.command.Command.TheVariants.{Group};
+ghost use Rattle.gq_command.specs.Reading.{kind_at, column_at, columns_at, key_at, row_at, create_at, exists_behind, exists_at, group_at, distinct_at, form_behind, form_at, command_of};
 ghost use Rattle.gq_token.specs.declared.parse_error.ParseError.TheVariants.{Memory};
 
-use crate::command::{Aggregate, Command, Payload};
-use gq_row::{Column, Kind, Row, Sequence, Text, Value};
+use crate::command::{Command, Exists, Payload};
+use gq_clause::{
+    Test, aggregates_of, enclosed_literals, enclosed_names, expect, name_of, names_behind,
+    names_of, tests_behind,
+};
+use gq_row::{Column, Kind, Row, Sequence, Text};
 use gq_token::{ParseError, Terminal, Token, Tokens};
 use std::alloc::Global;
 use std::collections::BTreeSet;
-
-/// Passes this word or sign, which must be the first token.
-fn expect(tokens: &mut Tokens, terminal: Terminal) -> Result<(), ParseError>
-    ensures { Gives (λ _. tokens.new) result (skip terminal tokens.old) }
-{
-    if tokens.skip(terminal) {
-        Ok(())
-    } else {
-        Err(ParseError::Syntax)
-    }
-}
-
-#[tactic(auto, unfolding(crate::specs::Reading::name_at))]
-fn name_of(tokens: &mut Tokens) -> Result<Text, ParseError>
-    ensures { Gives (λ name. (name, tokens.new)) result (name_at tokens.old) }
-{
-    match tokens.take() {
-        Some(Token::Name(name)) => Ok(name),
-        _ => Err(ParseError::Syntax),
-    }
-}
-
-#[tactic(auto, unfolding(crate::specs::Reading::literal_at))]
-fn literal_of(tokens: &mut Tokens) -> Result<Value, ParseError>
-    ensures { Gives (λ value. (value, tokens.new)) result (literal_at tokens.old) }
-{
-    match tokens.take() {
-        Some(Token::Fixed(Terminal::Null)) => Ok(Value::Null),
-        Some(Token::Number(number)) => Ok(Value::Int(number)),
-        Some(Token::Text(text)) => Ok(Value::Text(text)),
-        _ => Err(ParseError::Syntax),
-    }
-}
 
 #[tactic(auto, unfolding(crate::specs::Reading::kind_at))]
 fn kind_of(tokens: &mut Tokens) -> Result<Kind, ParseError>
@@ -71,34 +40,6 @@ fn column_of(tokens: &mut Tokens) -> Result<Column, ParseError>
     Ok(Column { name, kind })
 }
 
-fn names_of(alloc: Global, tokens: &mut Tokens) -> Result<Vec<Text>, ParseError>
-    ensures { Gives (λ names. (names.items, tokens.new)) result (names_at tokens.old) }
-{
-    let mut names = Vec::new(alloc);
-    for _ in 0..tokens.len() {
-        let name = name_of(tokens)?;
-        names.push(name)?;
-        if !tokens.skip(Terminal::Comma) {
-            return Ok(names);
-        }
-    }
-    Err(ParseError::Syntax)
-}
-
-fn literals_of(alloc: Global, tokens: &mut Tokens) -> Result<Vec<Value>, ParseError>
-    ensures { Gives (λ values. (values.items, tokens.new)) result (literals_at tokens.old) }
-{
-    let mut values = Vec::new(alloc);
-    for _ in 0..tokens.len() {
-        let value = literal_of(tokens)?;
-        values.push(value)?;
-        if !tokens.skip(Terminal::Comma) {
-            return Ok(values);
-        }
-    }
-    Err(ParseError::Syntax)
-}
-
 fn columns_of(alloc: Global, tokens: &mut Tokens) -> Result<Vec<Column>, ParseError>
     ensures { Gives (λ columns. (columns.items, tokens.new)) result (columns_at tokens.old) }
 {
@@ -113,7 +54,7 @@ fn columns_of(alloc: Global, tokens: &mut Tokens) -> Result<Vec<Column>, ParseEr
     Err(ParseError::Syntax)
 }
 
-#[tactic(auto, unfolding(crate::specs::Reading::key_at, crate::specs::Reading::in_parentheses))]
+#[tactic(auto, unfolding(crate::specs::Reading::key_at))]
 fn key_of(alloc: Global, tokens: &mut Tokens) -> Result<Vec<Text>, ParseError>
     ensures { Gives (λ key. (key.items, tokens.new)) result (key_at tokens.old) }
 {
@@ -121,10 +62,7 @@ fn key_of(alloc: Global, tokens: &mut Tokens) -> Result<Vec<Text>, ParseError>
         return Ok(Vec::new(alloc));
     }
     expect(tokens, Terminal::Key)?;
-    expect(tokens, Terminal::Open)?;
-    let names = names_of(alloc, tokens)?;
-    expect(tokens, Terminal::Close)?;
-    Ok(names)
+    enclosed_names(alloc, tokens)
 }
 
 #[tactic(auto, unfolding(crate::specs::Reading::create_at))]
@@ -144,46 +82,80 @@ fn create_of(alloc: Global, tokens: &mut Tokens) -> Result<Command, ParseError>
 }
 
 /// A table's name, and the literals of a row.
-#[tactic(auto, unfolding(crate::specs::Reading::row_at, crate::specs::Reading::in_parentheses))]
+#[tactic(auto, unfolding(crate::specs::Reading::row_at))]
 fn row_of(alloc: Global, tokens: &mut Tokens) -> Result<(Text, Row), ParseError>
     ensures { Gives (λ row. (row, tokens.new)) result (row_at tokens.old) }
 {
     let table = name_of(tokens)?;
-    expect(tokens, Terminal::Open)?;
-    let values = literals_of(alloc, tokens)?;
-    expect(tokens, Terminal::Close)?;
+    let values = enclosed_literals(alloc, tokens)?;
     Ok((table, Row::new(values)))
 }
 
-#[tactic(auto, unfolding(crate::specs::Reading::group_at))]
+/// What stands behind `exists`.
+#[tactic(auto, unfolding(crate::specs::Reading::exists_behind))]
+fn exists_behind(alloc: Global, negated: bool, tokens: &mut Tokens) -> Result<Exists, ParseError>
+    ensures { Gives (λ exists. (exists, tokens.new)) result (exists_behind negated tokens.old) }
+{
+    let table = name_of(tokens)?;
+    let theirs = enclosed_names(alloc, tokens)?;
+    expect(tokens, Terminal::Equal)?;
+    let ours = enclosed_names(alloc, tokens)?;
+    Ok(Exists {
+        negated,
+        table,
+        theirs: Sequence::new(theirs),
+        ours: Sequence::new(ours),
+    })
+}
+
+/// `exists` or `not exists`, or none where neither leads.
+#[tactic(auto, unfolding(crate::specs::Reading::exists_at))]
+fn exists_of(alloc: Global, tokens: &mut Tokens) -> Result<Option<Exists>, ParseError>
+    ensures { Gives (λ exists. (exists, tokens.new)) result (exists_at tokens.old) }
+{
+    if tokens.skip(Terminal::Not) {
+        expect(tokens, Terminal::Exists)?;
+        return Ok(Some(exists_behind(alloc, true, tokens)?));
+    }
+    if tokens.skip(Terminal::Exists) {
+        return Ok(Some(exists_behind(alloc, false, tokens)?));
+    }
+    Ok(None)
+}
+
+#[tactic(auto, unfolding(crate::specs::Reading::group_at, crate::specs::Reading::conditions_behind))]
 fn group_of(alloc: Global, tokens: &mut Tokens) -> Result<Command, ParseError>
     ensures { Gives (λ command. (command, tokens.new)) result (group_at tokens.old) }
 {
     let table = name_of(tokens)?;
-    expect(tokens, Terminal::By)?;
-    let by = names_of(alloc, tokens)?;
+    let by = names_behind(alloc, Terminal::By, tokens)?;
     expect(tokens, Terminal::Show)?;
-    expect(tokens, Terminal::Count)?;
-    expect(tokens, Terminal::Open)?;
-    expect(tokens, Terminal::Star)?;
-    expect(tokens, Terminal::Close)?;
-    counted(alloc, table, by)
-}
-
-/// `group table by names show count(*)`.
-fn counted(alloc: Global, table: Text, by: Vec<Text>) -> Result<Command, ParseError>
-    ensures ok { IfOk result (λ c. c ≡ Group table by.items (CountAll ∷ []) [] None []) }
-    ensures err { IfErr result (λ e. e ≡ Memory) }
-{
-    let mut shown = Vec::new(alloc);
-    shown.push(Aggregate::CountAll)?;
+    let shown = aggregates_of(alloc, tokens)?;
+    let tests = tests_behind(alloc, Terminal::Where, tokens)?;
+    let exists = exists_of(alloc, tokens)?;
+    let having = tests_behind(alloc, Terminal::Having, tokens)?;
     Ok(Command::Group {
         table,
         by: Sequence::new(by),
         shown: Sequence::new(shown),
-        tests: Sequence::new(Vec::new(alloc)),
-        exists: None,
-        having: Sequence::new(Vec::new(alloc)),
+        tests: Sequence::new(tests),
+        exists,
+        having: Sequence::new(having),
+    })
+}
+
+#[tactic(auto, unfolding(crate::specs::Reading::distinct_at))]
+fn distinct_of(alloc: Global, tokens: &mut Tokens) -> Result<Command, ParseError>
+    ensures { Gives (λ command. (command, tokens.new)) result (distinct_at tokens.old) }
+{
+    let table = name_of(tokens)?;
+    expect(tokens, Terminal::On)?;
+    let on = names_of(alloc, tokens)?;
+    let tests = tests_behind(alloc, Terminal::Where, tokens)?;
+    Ok(Command::Distinct {
+        table,
+        on: Sequence::new(on),
+        tests: Sequence::new(tests),
     })
 }
 
@@ -213,6 +185,7 @@ fn form_behind(alloc: Global, first: Terminal, tokens: &mut Tokens) -> Result<Co
             table: name_of(tokens)?,
         }),
         Terminal::Group => group_of(alloc, tokens),
+        Terminal::Distinct => distinct_of(alloc, tokens),
         _ => Err(ParseError::Syntax),
     }
 }
@@ -255,6 +228,23 @@ fn columns_differ(alloc: Global, columns: &[Column]) -> Result<bool, ParseError>
     Ok(true)
 }
 
+/// Whether no aggregate stands in these tests.
+fn are_row_tests(tests: &[Test]) -> bool
+    ensures { result ≡ list_all is_row_test tests.now }
+{
+    tests.iter().all(|test| test.is_of_row())
+}
+
+/// Whether the two lists of an `exists` are of one length, where there is one.
+fn same_length(exists: &Option<Exists>) -> bool
+    ensures { result ≡ same_length exists.now }
+{
+    match exists {
+        Some(exists) => exists.theirs.len() == exists.ours.len(),
+        None => true,
+    }
+}
+
 /// Whether a command keeps the rules beside the grammar.
 fn keeps_rules(alloc: Global, command: &Command) -> Result<bool, ParseError>
     ensures ok { IfOk result (λ kept. kept ≡ keeps_rules command.now) }
@@ -265,14 +255,19 @@ fn keeps_rules(alloc: Global, command: &Command) -> Result<bool, ParseError>
             columns_differ(alloc, columns.as_slice())? && names_differ(alloc, key.as_slice())?,
         ),
         Command::Load { payload, .. } => Ok(matches!(payload, Payload::Open)),
-        Command::Group { by, exists, .. } => {
-            let same_length = match exists {
-                Some(exists) => exists.theirs.len() == exists.ours.len(),
-                None => true,
-            };
-            Ok(names_differ(alloc, by.as_slice())? && same_length)
+        Command::Group {
+            by,
+            tests,
+            exists,
+            ..
+        } => Ok(
+            names_differ(alloc, by.as_slice())?
+                && are_row_tests(tests.as_slice())
+                && same_length(exists),
+        ),
+        Command::Distinct { on, tests, .. } => {
+            Ok(names_differ(alloc, on.as_slice())? && are_row_tests(tests.as_slice()))
         }
-        Command::Distinct { on, .. } => names_differ(alloc, on.as_slice()),
         Command::Drop { .. }
         | Command::Upsert { .. }
         | Command::Delete { .. }

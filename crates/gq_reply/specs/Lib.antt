@@ -1,5 +1,6 @@
 -- definitions for readers
 pub mod Replies
 pub mod Refusals
+pub mod Outcomes
 -- contracts of single functions
 pub mod Records

@@ -1,7 +1,7 @@
 use Rattle.std.proofs.Common.{sym, subst, ◌∙◌}
 use Rattle.gq_token.specs.Results.{Fails}
 use Rattle.gq_command.specs.Lines.{command_on}
-use Rattle.gq_command.proofs.Line.{line_sound, line_command, none_said}
+use Rattle.gq_command.proofs.Line.{line_sound, none_said}
 use Rattle.gq_command.proofs.lines.parse_line.Goals as goal
 
 pub returns-in-Err-Syntax-clause-syntax : goal.returns-in-Err-Syntax-clause-syntax
@@ -12,6 +12,3 @@ returns-then-fits-clause-said c = line_sound c.args.line.now c.in-Ok.command c.i
 
 pub returns-else-fits-clause-limit : goal.returns-else-fits-clause-limit
 returns-else-fits-clause-limit c = λ _. (c.in-Ok.command, line_sound c.args.line.now c.in-Ok.command c.in-Ok.ensures, sym c.fits.ensures ∙ c.if-fits.false)
-
-pub fits-requires : goal.fits-requires
-fits-requires c = line_command c.args.line.now c.in-Ok.command c.in-Ok.ensures

@@ -1,8 +1,9 @@
 use Rattle.std.proofs.Common.{◌≡◌, ◌++◌, ◌∷◌, ◌<◌, ◌≤◌, [], length, arith}
 use Rattle.std.proofs.lemmas.Result.{err_from_is_err_and}
 use Rattle.gq_token.specs.Queue.{column_comma}
-use Rattle.gq_command.specs.Reading.{items_at, column_at}
-use Rattle.gq_command.proofs.Loop.{goes_on, stops, fails, runs_out}
+use Rattle.gq_clause.specs.Reading.{items_at}
+use Rattle.gq_command.specs.Reading.{column_at}
+use Rattle.gq_clause.proofs.Loop.{goes_on, stops, fails, runs_out}
 use Rattle.gq_command.proofs.parsing.columns_of.Goals as goal
 
 pub returns-in_err-column : goal.returns-in_err-column

@@ -1,8 +1,8 @@
 use Rattle.std.proofs.Common.{◌≡◌, ◌∙◌, sym, true, false, subst}
 use Rattle.gq_script.specs.Script.{Loading, content, is_skipped, takes_payload}
 use Rattle.gq_script.specs.Gathering.{TookLine}
-use Rattle.gq_command.specs.Items.{IsReadAs}
-use Rattle.gq_command.proofs.Loaded.{loaded}
+use Rattle.gq_command.specs.Items.{IsReadAs, IsReady}
+use Rattle.gq_command.proofs.Loaded.{loaded, ready_with}
 use Rattle.gq_command.proofs.Passing.{passed_line, passed_to, passed_load, passed_all}
 use Rattle.gq_command.proofs.reader.next_item.Goals as goal
 
@@ -51,3 +51,8 @@ returns-then-not-is_skipped-clause-counted g c =
     let q : takes_payload l (content t.raw) ≡ true = sym (c.takes_payload-loads.ensures l (content t.raw) t.gathers) ∙ c.if-not-loads.false in
     (passed_load l c.args.source.now c.loop.source c.take_line.new.source c.take_payload.new.source c.in-Some.line t c.in_ok-kept.kept c.with_payload.result c.loop.invariant e q c.in_ok-kept.ensures.taken
     (λ told s. subst (IsReadAs l (Loading (content t.raw) told)) (sym c.with_payload.ensures) (loaded l (content t.raw) told c.payload_of.result c.item_of-item.result q (c.item_of-item.ensures.reads (content t.raw) t.gathers e) (c.payload_of.ensures l.payload told s)))).1
+
+pub returns-then-not-is_skipped-clause-ready : goal.returns-then-not-is_skipped-clause-ready
+returns-then-not-is_skipped-clause-ready g c =
+    let b = c.args.limits.now.bounds in
+    subst (IsReady b) (sym c.with_payload.ensures) (ready_with b c.payload_of.result c.item_of-item.result c.item_of-item.ensures.ready)

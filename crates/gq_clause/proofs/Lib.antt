@@ -1,0 +1,5 @@
+pub mod Again
+pub mod Agrees
+pub mod Loop
+pub mod Sound
+pub mod Within

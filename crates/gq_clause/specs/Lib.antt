@@ -1,0 +1,4 @@
+pub mod Agreeing
+pub mod Reading
+pub mod Within
+pub mod Words

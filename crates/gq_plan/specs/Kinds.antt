@@ -1,0 +1,72 @@
+-- Which kinds go together.
+use Rattle.std.specs.Prelude.{ℕ, Bool, true, false, List, ◌++◌, map, slice_get, Option, Some, None}
+use Rattle.std.specs.List.{list_all}
+use Rattle.std.specs.Cmp.Lexicographic.{pointwise}
+use Rattle.gq_row.specs.declared.value.Value.{Value}
+use Rattle.gq_row.specs.declared.value.Value.TheVariants as value
+use Rattle.gq_row.specs.declared.schema.Column.{Column as TableColumn}
+use Rattle.gq_row.specs.declared.schema.Kind.{Kind}
+use Rattle.gq_row.specs.declared.schema.Kind.TheVariants.{Int, Text}
+use Rattle.gq_agg.specs.declared.kind.AggKind.TheVariants.{CountAll, Count, Sum, Min, Max}
+use Rattle.gq_query.specs.declared.shown.Shown.{Shown}
+use Rattle.gq_query.specs.declared.shown.Shown.TheVariants.{Aggregate, CountDistinct}
+use Rattle.gq_query.specs.Asking.{kind_at}
+use Rattle.gq_select.specs.declared.condition.Operand.{Operand}
+use Rattle.gq_select.specs.declared.condition.Operand.TheVariants.{Column, Literal}
+use Rattle.gq_select.specs.declared.condition.Test.{Test}
+use Rattle.gq_select.specs.declared.condition.Test.TheVariants.{Compare, IsNull, IsNotNull}
+use Rattle.gq_select.specs.declared.matching.Matching.{Matching}
+
+abbrev pub same_kind : Kind → Kind → Bool
+same_kind Int Int = true
+same_kind Int Text = false
+same_kind Text Int = false
+same_kind Text Text = true
+
+-- the kind of a value; null has none
+abbrev pub kind_of : Value → Option Kind
+kind_of value.Null = None
+kind_of (value.Int n) = Some Int
+kind_of (value.Text t) = Some Text
+
+-- the kind of an operand in rows whose values have these kinds
+abbrev pub operand_kind : List Kind → Operand → Option Kind
+operand_kind kinds (Column place) = slice_get kinds place
+operand_kind kinds (Literal v) = kind_of v
+
+-- what has no kind goes with both
+abbrev pub agrees : Option Kind → Option Kind → Bool
+agrees None b = true
+agrees (Some a) None = true
+agrees (Some a) (Some b) = same_kind a b
+
+-- what a test compares agrees in kind
+abbrev pub test_fits : List Kind → Test → Bool
+test_fits kinds (Compare a comparison b) = agrees (operand_kind kinds a) (operand_kind kinds b)
+test_fits kinds (IsNull a) = true
+test_fits kinds (IsNotNull a) = true
+
+abbrev pub tests_fit : List Kind → List Test → Bool
+tests_fit kinds tests = list_all (test_fits kinds) tests
+
+-- the kinds of a row of the table
+abbrev pub kinds_of : List TableColumn → List Kind
+kinds_of columns = map (λ (c : TableColumn). c.kind) columns
+
+-- the kind of what is shown: a least and a greatest value are of their column's kind, counts and sums are numbers
+abbrev pub shown_kind : List TableColumn → Shown → Kind
+shown_kind columns (Aggregate CountAll column) = Int
+shown_kind columns (Aggregate Count column) = Int
+shown_kind columns (Aggregate Sum column) = Int
+shown_kind columns (Aggregate Min column) = kind_at columns column
+shown_kind columns (Aggregate Max column) = kind_at columns column
+shown_kind columns (CountDistinct column) = Int
+
+-- the kinds of a result row: those of the `by` columns, and then of what is shown
+abbrev pub result_kinds : List TableColumn → List ℕ → List Shown → List Kind
+result_kinds columns by shown = map (kind_at columns) by ++ map (shown_kind columns) shown
+
+-- the columns of an `exists` are of the same kinds, one by one
+abbrev pub matching_fits : List TableColumn → List TableColumn → Option Matching → Bool
+matching_fits columns others None = true
+matching_fits columns others (Some m) = pointwise same_kind (map (kind_at others) m.theirs) (map (kind_at columns) m.ours)

@@ -1,0 +1,14 @@
+//! What a `group` asks, by names.
+use gq_clause::{Aggregate, Test};
+use gq_command::Exists;
+use gq_row::{Sequence, Text};
+
+/// The clauses of a `group`, as its line says them.
+#[derive(Debug, Drop)]
+pub struct GroupClauses {
+    pub by: Sequence<Text>,
+    pub shown: Sequence<Aggregate>,
+    pub tests: Sequence<Test>,
+    pub exists: Option<Exists>,
+    pub having: Sequence<Test>,
+}

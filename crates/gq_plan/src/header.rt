@@ -1,0 +1,57 @@
+//! The headers of replies.
+ghost use Rattle.std.specs.Prelude.{◌≡◌, IfOk};
+ghost use Rattle.gq_command.specs.Commands.{column_names};
+ghost use Rattle.gq_plan.specs.Headers.{called, group_header, text_of};
+
+use gq_clause::Aggregate;
+use gq_row::{Column, Sequence, Text};
+use std::alloc::{AllocError, Global};
+
+/// The names of some columns.
+pub fn names_of(alloc: Global, columns: &[Column]) -> Result<Sequence<Text>, AllocError>
+    ensures { IfOk result (λ names. names ≡ column_names columns.now) }
+{
+    let mut names = Vec::with_capacity(alloc, columns.len())?;
+    for column in columns {
+        names.push(column.name.copy(alloc)?)?;
+    }
+    Ok(Sequence::new(names))
+}
+
+/// The names of the `by` columns, and then the texts of the aggregates.
+pub fn header_of(
+    alloc: Global,
+    by: Sequence<Text>,
+    aggregates: &[Aggregate],
+) -> Result<Sequence<Text>, AllocError>
+    ensures { IfOk result (λ header. header ≡ group_header by aggregates.now) }
+{
+    let mut names = by.into_vec();
+    for aggregate in aggregates {
+        names.push(text_of(alloc, aggregate)?)?;
+    }
+    Ok(Sequence::new(names))
+}
+
+fn text_of(alloc: Global, aggregate: &Aggregate) -> Result<Text, AllocError>
+    ensures { IfOk result (λ text. text ≡ text_of aggregate.now) }
+{
+    match aggregate {
+        Aggregate::CountAll => Ok(Text::new(String::from_str(alloc, "count(*)")?)),
+        Aggregate::Count(column) => called(alloc, "count(", column),
+        Aggregate::CountDistinct(column) => called(alloc, "count(distinct ", column),
+        Aggregate::Sum(column) => called(alloc, "sum(", column),
+        Aggregate::Min(column) => called(alloc, "min(", column),
+        Aggregate::Max(column) => called(alloc, "max(", column),
+    }
+}
+
+// A word with a column's name in parentheses behind it.
+fn called(alloc: Global, word: &str, column: &Text) -> Result<Text, AllocError>
+    ensures { IfOk result (λ text. text ≡ called word.now column.now) }
+{
+    let mut text = String::from_str(alloc, word)?;
+    text.push_str(column.as_str())?;
+    text.push(')')?;
+    Ok(Text::new(text))
+}

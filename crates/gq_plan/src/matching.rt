@@ -1,0 +1,38 @@
+//! The columns of an `exists`.
+ghost use Rattle.std.specs.Prelude.{◌≡◌, ◌⊎◌, Ok, Err, IfOk, IfErr};
+ghost use Rattle.gq_reply.specs.Refusals.{unnumbered};
+ghost use Rattle.gq_reply.specs.declared.refusal.Refusal.TheVariants.{Memory};
+ghost use Rattle.gq_query.specs.Asking.{CanMatch};
+ghost use Rattle.gq_plan.specs.Plans.{matching_named};
+
+use gq_command::Exists;
+use gq_reply::{Refusal, Refused};
+use gq_row::{Column, find_positions};
+use gq_select::Matching;
+use std::alloc::Global;
+
+/// The positions for the names of an `exists`, if there is one: NoColumn where one is no column's of
+/// its table.
+pub fn find_matching(
+    alloc: Global,
+    columns: &[Column],
+    others: &[Column],
+    exists: &Option<Exists>,
+) -> Result<Option<Matching>, Refused>
+    ensures told { IfOk result (λ matching.
+        matching_named columns.now others.now exists.now ≡ Ok matching) }
+    ensures refused { IfErr result (λ why. (why ≡ unnumbered Memory)
+        ⊎ (matching_named columns.now others.now exists.now ≡ Err why)) }
+    ensures within { IfOk result (CanMatch columns.now others.now) }
+{
+    let Some(exists) = exists else {
+        return Ok(None);
+    };
+    let theirs = find_positions(alloc, others, exists.theirs.as_slice())?.ok_or(Refusal::NoColumn)?;
+    let ours = find_positions(alloc, columns, exists.ours.as_slice())?.ok_or(Refusal::NoColumn)?;
+    Ok(Some(Matching {
+        negated: exists.negated,
+        theirs,
+        ours,
+    }))
+}

@@ -1,0 +1,44 @@
+//! What is shown of groups, by the names of columns.
+ghost use Rattle.std.specs.Prelude.{◌≡◌, IfOk};
+ghost use Rattle.gq_plan.specs.Places.{all_shown, shown_of};
+
+use gq_agg::AggKind;
+use gq_clause::Aggregate;
+use gq_query::Shown;
+use gq_row::{Schema, Sequence};
+use std::alloc::{AllocError, Global};
+
+/// What the aggregates are of the columns: None where a name is no column's.
+pub fn find_shown(
+    alloc: Global,
+    schema: &Schema,
+    aggregates: &[Aggregate],
+) -> Result<Option<Sequence<Shown>>, AllocError>
+    ensures { IfOk result (λ shown. shown ≡ all_shown schema.now.columns aggregates.now) }
+{
+    let mut all = Vec::with_capacity(alloc, aggregates.len())?;
+    for aggregate in aggregates {
+        let Some(shown) = shown_of(schema, aggregate) else {
+            return Ok(None);
+        };
+        all.push(shown)?;
+    }
+    Ok(Some(Sequence::new(all)))
+}
+
+fn shown_of(schema: &Schema, aggregate: &Aggregate) -> Option<Shown>
+    ensures { result ≡ shown_of schema.now.columns aggregate.now }
+{
+    let (kind, column) = match aggregate {
+        Aggregate::CountAll => return Some(Shown::Aggregate(AggKind::CountAll, 0)),
+        Aggregate::CountDistinct(column) => {
+            return schema.find(column.as_str()).map(Shown::CountDistinct);
+        }
+        Aggregate::Count(column) => (AggKind::Count, column),
+        Aggregate::Sum(column) => (AggKind::Sum, column),
+        Aggregate::Min(column) => (AggKind::Min, column),
+        Aggregate::Max(column) => (AggKind::Max, column),
+    };
+    let position = schema.find(column.as_str())?;
+    Some(Shown::Aggregate(kind, position))
+}

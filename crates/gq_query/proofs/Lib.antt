@@ -1,0 +1,5 @@
+pub mod Joined
+pub mod KeepingLemmas
+pub mod OrderingLemmas
+pub mod Placing
+pub mod Unseen

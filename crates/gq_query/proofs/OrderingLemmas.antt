@@ -1,0 +1,39 @@
+-- Rows compared and sorted.
+use Rattle.std.proofs.Common.{◌≡◌, ℕ, List, [], ◌∷◌, ap, Ordering, IsTrue}
+use Rattle.std.specs.Prelude.{Result, Ok, Err, OnOk}
+use Rattle.std.specs.List.Sorted.{IsSortedByKey, IsSortedByClosure}
+use Rattle.std.specs.Fn.{Called}
+use Rattle.std.specs.Ordering.{is_lt}
+use denote.Param.Members.{Mut}
+use denote.Ref.{Bor}
+use Rattle.std.proofs.lemmas.List.Sorted.{ranks_by}
+use Rattle.std.proofs.lemmas.Fn.{always_returns_same}
+use Rattle.gq_row.specs.declared.value.Value.{Value}
+use Rattle.gq_row.specs.Laws.{IsArranged}
+use Rattle.gq_row.specs.Order.{compare_keys}
+use Rattle.gq_row.specs.Ordered.{in_order}
+use Rattle.gq_row.specs.Rows.{key_of}
+use Rattle.gq_row.specs.Tables.{PlainTable, keys_differ}
+use Rattle.gq_row.proofs.ArrangeLemmas.{in_order-alone, in_order-alone_by_row}
+use Rattle.gq_row.proofs.OrderLemmas.{keys_total}
+use Rattle.gq_table.specs.Standing.{IsStanding}
+use Rattle.gq_query.specs.Answers.{ordered_by, rows_shown}
+
+pub on_ok : {X E : Type 0} {P Q : Type 0} (r : Result X E) → (P → Q) → OnOk r P → OnOk r Q
+on_ok (Ok x) f h = f h
+on_ok (Err e) f h = h
+
+-- what a sort by a closure that compares by a key ensures
+pub sorted_by : {X F : Type 0} {g : Mut F (Bor X × (Bor X × Unit {0})) Ordering} {f : F} (key : X → List Value) (xs : List X) → IsSortedByClosure g f xs
+    → ((a : Bor X × (Bor X × Unit {0})) (r : Ordering) (f' : F) → Called g f a r f' → (r ≡ compare_keys (key a.0.now) (key a.1.0.now)) × (f' ≡ f)) → IsSortedByKey key compare_keys xs
+sorted_by {g = g} {f = f} key xs up h =
+    up (λ x y. is_lt (compare_keys (key x) (key y))) (ranks_by keys_total key)
+    (always_returns_same g (λ a r. is_lt r ≡ is_lt (compare_keys (key a.0.now) (key a.1.0.now))) f (λ a r f' k. (ap is_lt (h a r f' k).0, (h a r f' k).1)))
+
+-- the rows of a table, sorted, are those that a `show` gives
+pub shown : (table : PlainTable) (sorted : List (List Value)) → IsStanding table → IsArranged (ordered_by table.heading.key) table.rows sorted → sorted ≡ rows_shown table
+shown table sorted standing arranged = chosen table.heading.key standing.keyed arranged
+  where
+    chosen : (key : List ℕ) → IsTrue (keys_differ key table.rows) → IsArranged (ordered_by key) table.rows sorted → sorted ≡ in_order (ordered_by key) table.rows
+    chosen [] differ arranged = in_order-alone_by_row table.rows sorted arranged
+    chosen (column ∷ columns) differ arranged = in_order-alone (key_of (column ∷ columns)) table.rows sorted differ arranged

@@ -1,0 +1,108 @@
+-- The order of a table's rows is unseen.
+use Rattle.std.proofs.Common.{◌≡◌, ◌++◌, ◌&&◌, not, filter, None, ℕ, pos, List, [], ◌∷◌, map, refl, sym, ap, subst, ◌∙◌, IsTrue, Some}
+use Rattle.std.specs.List.{list_any}
+use Rattle.std.specs.Prelude.{IsPermutation, if◌then◌else◌, Option, option_map}
+use Rattle.std.proofs.lemmas.List.Sorted.{IsPermutation-refl, IsPermutation-map, length_permutation, list_any-IsPermutation}
+use Rattle.gq_row.specs.declared.value.Value.{Value}
+use Rattle.gq_row.specs.declared.value.Value.TheVariants.{Int}
+use Rattle.gq_row.specs.Fitting.{is_null}
+use Rattle.gq_row.specs.Headings.{Heading}
+use Rattle.gq_row.specs.Order.{same_key}
+use Rattle.gq_row.specs.Ordered.{in_order}
+use Rattle.gq_row.specs.Repeats.{no_repeats}
+use Rattle.gq_row.specs.Rows.{cell, key_of}
+use Rattle.gq_row.specs.Sameness.{same_value_equiv}
+use Rattle.gq_row.specs.Tables.{keys, keys_differ, of_key}
+use Rattle.gq_row.proofs.ArrangeLemmas.{in_order-same_rows, in_order-same_rows_by_row}
+use Rattle.gq_row.proofs.DistinctLemmas.{no_repeats-without}
+use Rattle.gq_row.proofs.MovedLemmas.{IsPermutation-filter, IsPermutation-without_repeats, keys-permutation, of_key-permutation}
+use Rattle.gq_row.proofs.OrderLemmas.{same_key_equiv, same_key_exact, same_value_exact}
+use Rattle.gq_agg.specs.Values.{present, different}
+use Rattle.gq_agg.proofs.Unseen.{order_unseen}
+use Rattle.gq_group.specs.Groups.{keys_of, column_of}
+use Rattle.gq_query.specs.declared.shown.Shown.{Shown}
+use Rattle.gq_query.specs.declared.shown.Shown.TheVariants.{Aggregate, CountDistinct}
+use Rattle.gq_select.specs.declared.condition.Test.{Test}
+use Rattle.gq_select.specs.declared.matching.Matching.{Matching}
+use Rattle.gq_select.specs.Truths.{keeps}
+use Rattle.gq_query.specs.Answers.{shown_value, all_of, has_match, rows_kept, result_row, answer, answer_having, distinct_keys, ordered_by}
+use Rattle.gq_query.specs.Laws.{OrderIsUnseen}
+
+pub map_itself : {X : Type 0} (xs : List X) → map (λ x. x) xs ≡ xs
+map_itself [] = refl
+map_itself (x ∷ xs) = ap (λ l. x ∷ l) (map_itself xs)
+
+-- no two of the keys are the same
+pub keys_apart : (by : List ℕ) (rows : List (List Value)) → IsTrue (no_repeats same_key (keys_of by rows))
+keys_apart [] rows = refl
+keys_apart (c ∷ cs) rows = no_repeats-without same_key (map (key_of (c ∷ cs)) rows)
+
+pub keys_told : (by : List ℕ) (rows : List (List Value)) → IsTrue (no_repeats same_key (map (λ key. key) (keys_of by rows)))
+keys_told by rows = subst (λ ks. IsTrue (no_repeats same_key ks)) (sym (map_itself (keys_of by rows))) (keys_apart by rows)
+
+keys_moved : (by : List ℕ) (xs ys : List (List Value)) → IsPermutation xs ys → IsPermutation (keys_of by xs) (keys_of by ys)
+keys_moved [] xs ys moved = IsPermutation-refl ([] ∷ [])
+keys_moved (c ∷ cs) xs ys moved = keys-permutation (c ∷ cs) xs ys moved
+
+keys_ordered : (by : List ℕ) (xs ys : List (List Value)) → IsPermutation xs ys → in_order (λ key. key) (keys_of by xs) ≡ in_order (λ key. key) (keys_of by ys)
+keys_ordered by xs ys moved = sym (in_order-same_rows (λ key. key) (keys_of by xs) (keys_of by ys) (keys_told by xs) (keys_moved by xs ys moved))
+
+different_moved : (xs ys : List Value) → IsPermutation xs ys → different xs ≡ different ys
+different_moved xs ys moved =
+    sym (length_permutation _ _ (IsPermutation-without_repeats same_value_equiv same_value_exact (present xs) (present ys)
+    (IsPermutation-filter same_value_equiv same_value_exact (λ v. not (is_null v)) xs ys moved)))
+
+-- what is shown of the same rows in another order
+shown_moved : (s : Shown) (xs ys : List (List Value)) → IsPermutation xs ys → shown_value s xs ≡ shown_value s ys
+shown_moved (Aggregate kind column) xs ys moved = order_unseen kind (column_of column xs) (column_of column ys) (IsPermutation-map (λ row. cell row column) xs ys moved)
+shown_moved (CountDistinct column) xs ys moved = ap (λ n. Some (Int (pos n))) (different_moved (column_of column xs) (column_of column ys) (IsPermutation-map (λ row. cell row column) xs ys moved))
+
+values_moved : (shown : List Shown) (xs ys : List (List Value)) → IsPermutation xs ys → map (λ s. shown_value s xs) shown ≡ map (λ s. shown_value s ys) shown
+values_moved [] xs ys moved = refl
+values_moved (s ∷ shown) xs ys moved = λ i. shown_moved s xs ys moved i ∷ values_moved shown xs ys moved i
+
+rows_moved : (by : List ℕ) (shown : List Shown) (xs ys ks : List (List Value)) → IsPermutation xs ys → map (result_row by shown xs) ks ≡ map (result_row by shown ys) ks
+rows_moved by shown xs ys [] moved = refl
+rows_moved by shown xs ys (k ∷ ks) moved = λ i.
+    option_map (λ values. k ++ values) (all_of (values_moved shown (of_key by xs k) (of_key by ys k) (of_key-permutation by xs ys k moved) i)) ∷ rows_moved by shown xs ys ks moved i
+
+pub answer_moved : (by : List ℕ) (shown : List Shown) (xs ys : List (List Value)) → IsPermutation xs ys → answer by shown xs ≡ answer by shown ys
+answer_moved by shown xs ys moved =
+    ap all_of (rows_moved by shown xs ys (in_order (λ key. key) (keys_of by xs)) moved)
+    ∙ ap (λ ks. all_of (map (result_row by shown ys) ks)) (keys_ordered by xs ys moved)
+
+-- a row's match among other rows in another order
+match_moved : (m : Option Matching) (us vs : List (List Value)) (row : List Value) → IsPermutation us vs → has_match m us row ≡ has_match m vs row
+match_moved None us vs row moved = refl
+match_moved (Some m) us vs row moved =
+    let key : List Value = key_of m.ours row in
+    ap (λ b. if m.negated then not (not (list_any is_null key) && b) else (not (list_any is_null key) && b))
+    (list_any-IsPermutation (λ other. same_key (key_of m.theirs other) key) us vs moved)
+
+-- the rows that a query is about, where both tables are in another order
+kept_moved : (tests : List Test) (m : Option Matching) (us vs xs ys : List (List Value)) → IsPermutation us vs → IsPermutation xs ys → IsPermutation (rows_kept tests m us xs) (rows_kept tests m vs ys)
+kept_moved tests m us vs xs ys others moved =
+    subst (IsPermutation (rows_kept tests m us xs)) (λ i. filter (λ row. keeps tests row && match_moved m us vs row others i) ys)
+    (IsPermutation-filter same_key_equiv same_key_exact (λ row. keeps tests row && has_match m us row) xs ys moved)
+
+having_moved : (by : List ℕ) (shown : List Shown) (having : List Test) (xs ys : List (List Value)) → IsPermutation xs ys → answer_having by shown having xs ≡ answer_having by shown having ys
+having_moved by shown having xs ys moved = ap (option_map (filter (keeps having))) (answer_moved by shown xs ys moved)
+
+-- no two of the different keys are the same
+pub different_told : (on : List ℕ) (rows : List (List Value)) → IsTrue (no_repeats same_key (map (λ key. key) (keys on rows)))
+different_told on rows = subst (λ ks. IsTrue (no_repeats same_key ks)) (sym (map_itself (keys on rows))) (no_repeats-without same_key (map (key_of on) rows))
+
+distinct_moved : (on : List ℕ) (xs ys : List (List Value)) → IsPermutation xs ys → distinct_keys on xs ≡ distinct_keys on ys
+distinct_moved on xs ys moved = sym (in_order-same_rows (λ key. key) (keys on xs) (keys on ys) (different_told on xs) (keys-permutation on xs ys moved))
+
+-- the rows shown of the same rows in another order
+listed_moved : (key : List ℕ) (xs ys : List (List Value)) → IsTrue (keys_differ key xs) → IsPermutation xs ys → in_order (ordered_by key) xs ≡ in_order (ordered_by key) ys
+listed_moved [] xs ys differ moved = sym (in_order-same_rows_by_row xs ys moved)
+listed_moved (column ∷ columns) xs ys differ moved = sym (in_order-same_rows (key_of (column ∷ columns)) xs ys differ moved)
+
+pub order_is_unseen : OrderIsUnseen
+order_is_unseen = record {
+  grouped = λ by shown having tests m us vs xs ys others moved. having_moved by shown having (rows_kept tests m us xs) (rows_kept tests m vs ys) (kept_moved tests m us vs xs ys others moved);
+  told_apart = λ on tests m us vs xs ys others moved. distinct_moved on (rows_kept tests m us xs) (rows_kept tests m vs ys) (kept_moved tests m us vs xs ys others moved);
+  listed = λ s t heading differ moved. listed_moved s.heading.key s.rows t.rows differ moved ∙ ap (λ (h : Heading). in_order (ordered_by h.key) t.rows) heading;
+}

@@ -1,0 +1,26 @@
+use Rattle.std.proofs.Common.{◌≡◌, ◌∙◌, map, sym, subst, rules, IsTrue, IsPermutation, true}
+use Rattle.std.specs.List.{list_all}
+use Rattle.gq_group.specs.Groups.{groups, answered, out_of_range}
+use Rattle.gq_query.specs.Asking.{can_take}
+use Rattle.gq_query.specs.Keeping.{kept_rows}
+use Rattle.gq_query.proofs.Joined.{can_take_aggs, no_answer, groups_shown}
+use Rattle.gq_query.proofs.query.Query.aggregates.Goals as goal
+
+pub groups_of-requires-clause-aggs : goal.groups_of-requires-clause-aggs
+groups_of-requires-clause-aggs g c =
+    let columns = c.args.self.now.table.now.heading.columns in
+    subst (λ l. IsTrue (list_all (can_take columns) l)) (sym (c.as_slice.ensures.value ∙ c.in-Ok.ensures)) (can_take_aggs columns c.args.shown.now c.requires.shown)
+
+pub returns-in_err-groups-clause-overflow : goal.returns-in_err-groups-clause-overflow
+returns-in_err-groups-clause-overflow g c = λ h e.
+    let by = c.args.self.now.by.now in
+    let rows = kept_rows c.args.self.now in
+    no_answer by c.args.shown.now rows (subst (λ l. out_of_range (record { by = by; aggs = l }) rows ≡ true) (c.as_slice.ensures.value ∙ c.in-Ok.ensures) (c.in_err-groups.ensures.overflow h (search rules)))
+
+pub returns-clause-groups : goal.returns-clause-groups
+returns-clause-groups g c = λ h.
+    let by = c.args.self.now.by.now in
+    let rows = kept_rows c.args.self.now in
+    groups_shown by c.args.shown.now rows c.in_ok-groups.groups.items c.sort_groups.new.groups.items
+    (subst (λ l. IsPermutation (groups (record { by = by; aggs = l }) rows) (map answered c.in_ok-groups.groups.items)) (c.as_slice.ensures.value ∙ c.in-Ok.ensures) (c.in_ok-groups.ensures.groups h))
+    c.in-Ok-sort_groups.ensures.moved c.in-Ok-sort_groups.ensures.ascending

@@ -1,0 +1,62 @@
+use Rattle.std.proofs.Common.{◌≡◌, ◌∙◌, [], filter, map, sym, ap, subst, rules, refl, IsPermutation}
+use Rattle.std.specs.Prelude.{option_copied}
+use Rattle.std.specs.List.{list_any}
+use Rattle.gq_row.specs.Fitting.{fits_columns}
+use Rattle.gq_row.specs.Rows.{key_of}
+use Rattle.gq_group.specs.Groups.{Spec, OneWidth, groups, answered, is_none, all_fit}
+use Rattle.gq_group.proofs.Widths.{one_width-cells}
+use Rattle.gq_query.specs.Cells.{columns_used, placed}
+use Rattle.gq_query.specs.Keeping.{is_kept, kept_rows, ours_of}
+use Rattle.gq_query.proofs.KeepingLemmas.{all_kept, source_ready}
+use Rattle.gq_query.proofs.Placing.{used_within, all_fit_placed, groups_placed}
+use Rattle.gq_query.proofs.query.Query.groups_of.Goals as goal
+
+pub group-requires-clause-source : goal.group-requires-clause-source
+group-requires-clause-source g c =
+    let spec : Spec = record { by = c.args.self.now.by.now; aggs = c.args.aggs.now } in
+    let table = c.args.self.now.table.now in
+    let used : c.as_slice-2.result.now ≡ columns_used spec = c.as_slice-2.ensures.value ∙ c.in-Ok.ensures in
+    source_ready table.heading.columns (columns_used spec) (ours_of (option_copied c.args.self.now.kept.now.matching)) c.as_slice-2.result.now table.rows c.rows.result
+    c.rows.ensures.rows used c.rows.ensures.standing.fitting (used_within table.heading.columns spec c.requires.columns.by c.requires.aggs) c.requires.columns.ours
+
+pub group-requires-clause-rows : goal.group-requires-clause-rows
+group-requires-clause-rows g c = λ h rows e.
+    let spec : Spec = record { by = c.args.self.now.by.now; aggs = c.args.aggs.now } in
+    let table = c.args.self.now.table.now in
+    let keep = is_kept c.args.self.now.kept.now in
+    let used : c.as_slice-2.result.now ≡ columns_used spec = c.as_slice-2.ensures.value ∙ c.in-Ok.ensures in
+    let asked : c.in-Ok-place_spec.spec ≡ placed (columns_used spec) spec = c.in-Ok-place_spec.ensures ∙ ap (λ u. placed u spec) (c.as_slice.ensures.value ∙ c.in-Ok.ensures) in
+    let given : rows ≡ map (key_of (columns_used spec)) (filter keep table.rows) = e ∙ (λ i. map (key_of (used i)) (filter keep (c.rows.ensures.rows i))) in
+    let fit = all_kept (fits_columns table.heading.columns) keep table.rows c.rows.ensures.standing.fitting in
+    (λ i. all_fit (asked i) (given i)) ∙ all_fit_placed table.heading.columns spec (filter keep table.rows) fit c.requires.aggs
+
+pub group-requires-clause-widths : goal.group-requires-clause-widths
+group-requires-clause-widths g c = λ h rows e.
+    let keep = is_kept c.args.self.now.kept.now in
+    subst OneWidth (sym e) (one_width-cells c.as_slice-2.result.now (filter keep c.rows.result))
+
+pub returns-in_err-group-clause-overflow : goal.returns-in_err-group-clause-overflow
+returns-in_err-group-clause-overflow g c = λ h e.
+    let spec : Spec = record { by = c.args.self.now.by.now; aggs = c.args.aggs.now } in
+    let rows = kept_rows c.args.self.now in
+    let keep = is_kept c.args.self.now.kept.now in
+    let given = map (key_of c.as_slice-2.result.now) (filter keep c.rows.result) in
+    let used : c.as_slice-2.result.now ≡ columns_used spec = c.as_slice-2.ensures.value ∙ c.in-Ok.ensures in
+    let asked : c.in-Ok-place_spec.spec ≡ placed (columns_used spec) spec = c.in-Ok-place_spec.ensures ∙ ap (λ u. placed u spec) (c.as_slice.ensures.value ∙ c.in-Ok.ensures) in
+    let same : groups c.in-Ok-place_spec.spec given ≡ groups spec rows
+    = (λ i. groups (asked i) (map (key_of (used i)) (filter keep (c.rows.ensures.rows i)))) ∙ groups_placed spec rows in
+    sym (ap (list_any (λ g. list_any is_none g.1)) same) ∙ c.in_err-group.ensures.overflow h (search rules) given refl
+
+pub returns-clause-groups : goal.returns-clause-groups
+returns-clause-groups g c = λ h.
+    let spec : Spec = record { by = c.args.self.now.by.now; aggs = c.args.aggs.now } in
+    let rows = kept_rows c.args.self.now in
+    let keep = is_kept c.args.self.now.kept.now in
+    let given = map (key_of c.as_slice-2.result.now) (filter keep c.rows.result) in
+    let used : c.as_slice-2.result.now ≡ columns_used spec = c.as_slice-2.ensures.value ∙ c.in-Ok.ensures in
+    let asked : c.in-Ok-place_spec.spec ≡ placed (columns_used spec) spec = c.in-Ok-place_spec.ensures ∙ ap (λ u. placed u spec) (c.as_slice.ensures.value ∙ c.in-Ok.ensures) in
+    let same : groups c.in-Ok-place_spec.spec given ≡ groups spec rows
+    = (λ i. groups (asked i) (map (key_of (used i)) (filter keep (c.rows.ensures.rows i)))) ∙ groups_placed spec rows in
+    let pushed = c.in_ok-group.ensures.groups h given refl [] (sym c.new-sink.ensures) in
+    let all : c.into_vec.result.items ≡ pushed.0 = c.into_vec.ensures ∙ sym pushed.2 in
+    subst (λ l. IsPermutation (groups spec rows) (map answered l)) (sym all) (subst (λ gs. IsPermutation gs (map answered pushed.0)) same pushed.1)

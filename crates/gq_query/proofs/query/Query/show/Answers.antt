@@ -1,0 +1,13 @@
+use Rattle.std.proofs.Common.{◌≡◌, ◌∙◌, length, ap, subst, arith}
+use Rattle.gq_query.specs.Joining.{AreShown, so_far}
+use Rattle.gq_query.specs.Keeping.{kept_rows}
+use Rattle.gq_query.proofs.Joined.{so_far_all}
+use Rattle.gq_query.proofs.query.Query.show.Goals as goal
+
+pub returns-clause-groups : goal.returns-clause-groups
+returns-clause-groups g c = λ h.
+    let by = c.args.self.now.by.now in
+    let rows = kept_rows c.args.self.now in
+    let shown = c.args.shown.now in
+    let end : c.shown.place ≡ length shown = omega arith in
+    subst (λ l. AreShown by l rows c.shown.groups.items) (ap (λ n. so_far n shown) end ∙ so_far_all shown) (c.shown.invariant.groups h)

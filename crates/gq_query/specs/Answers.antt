@@ -1,0 +1,60 @@
+-- The rows that a query gives.
+use Rattle.std.specs.Prelude.{◌&&◌, ℕ, pos, Bool, true, List, [], ◌∷◌, ◌++◌, map, filter, Option, None, Some, option_map, option_and_then}
+use Rattle.gq_row.specs.declared.value.Value.{Value}
+use Rattle.gq_row.specs.declared.value.Value.TheVariants.{Int}
+use Rattle.gq_row.specs.Ordered.{in_order}
+use Rattle.gq_row.specs.Rows.{key_of}
+use Rattle.gq_row.specs.Tables.{PlainTable, keys, of_key}
+use Rattle.gq_agg.specs.Aggregates.{aggregate}
+use Rattle.gq_agg.specs.Values.{different}
+use Rattle.gq_group.specs.Groups.{keys_of, column_of}
+use Rattle.gq_select.specs.declared.condition.Test.{Test}
+use Rattle.gq_select.specs.declared.matching.Matching.{Matching}
+use Rattle.gq_select.specs.Matches.{is_matched}
+use Rattle.gq_select.specs.Truths.{keeps}
+use Rattle.gq_query.specs.declared.shown.Shown.{Shown}
+use Rattle.gq_query.specs.declared.shown.Shown.TheVariants.{Aggregate, CountDistinct}
+
+-- whether a row has the match that is asked for among other rows, if one is
+abbrev pub has_match : Option Matching → List (List Value) → List Value → Bool
+has_match None others row = true
+has_match (Some matching) others row = is_matched matching others row
+
+-- the rows that a query is about: those that its condition keeps and that have the match
+abbrev pub rows_kept : List Test → Option Matching → List (List Value) → List (List Value) → List (List Value)
+rows_kept tests matching others rows = filter (λ row. keeps tests row && has_match matching others row) rows
+
+-- what is shown of a group's rows; there is nothing of a sum that is out of range
+abbrev pub shown_value : Shown → List (List Value) → Option Value
+shown_value (Aggregate kind column) rows = aggregate kind (column_of column rows)
+shown_value (CountDistinct column) rows = Some (Int (pos (different (column_of column rows))))
+
+-- all of some, or none where one of them is none
+abbrev pub all_of : {X : Type 0} → List (Option X) → Option (List X)
+all_of [] = Some []
+all_of (o ∷ os) = option_and_then (λ x. option_map (λ xs. x ∷ xs) (all_of os)) o
+
+-- a result row: the key, and then what is shown of the rows that have it
+abbrev pub result_row : List ℕ → List Shown → List (List Value) → List Value → Option (List Value)
+result_row by shown rows key = option_map (λ values. key ++ values) (all_of (map (λ s. shown_value s (of_key by rows key)) shown))
+
+-- the result rows of a `group`: one for each different key, in the order of the keys; none where some sum is out of range
+abbrev pub answer : List ℕ → List Shown → List (List Value) → Option (List (List Value))
+answer by shown rows = all_of (map (result_row by shown rows) (in_order (λ key. key) (keys_of by rows)))
+
+-- of these the rows that `having` keeps: it is asked of finished rows, and where some sum is out of range there are none, whatever it says
+abbrev pub answer_having : List ℕ → List Shown → List Test → List (List Value) → Option (List (List Value))
+answer_having by shown having rows = option_map (filter (keeps having)) (answer by shown rows)
+
+-- the result rows of a `distinct`: the different keys in some columns, in order; null is one key value
+abbrev pub distinct_keys : List ℕ → List (List Value) → List (List Value)
+distinct_keys on rows = in_order (λ key. key) (keys on rows)
+
+-- what the rows of a table are ordered by: their keys, or all of their values where there is no key
+abbrev pub ordered_by : List ℕ → List Value → List Value
+ordered_by [] row = row
+ordered_by (column ∷ columns) row = key_of (column ∷ columns) row
+
+-- the result rows of a `show`: all rows, in that order
+abbrev pub rows_shown : PlainTable → List (List Value)
+rows_shown table = in_order (ordered_by table.heading.key) table.rows

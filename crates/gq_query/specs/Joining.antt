@@ -1,0 +1,42 @@
+-- Groups in the order of their keys, as what is shown of them is put together.
+use Rattle.std.specs.Prelude.{◌≡◌, ℕ, List, [], ◌∷◌, ◌++◌, map, take, drop, insert, slice_index_or, Option}
+use Rattle.gq_row.specs.declared.value.Value.{Value}
+use Rattle.gq_row.specs.declared.value.Value.TheVariants.{Null}
+use Rattle.gq_row.specs.Ordered.{in_order}
+use Rattle.gq_row.specs.Tables.{of_key}
+use Rattle.gq_group.specs.Groups.{Group, keys_of, answered}
+use Rattle.gq_query.specs.declared.shown.Shown.{Shown}
+use Rattle.gq_query.specs.declared.shown.Shown.TheVariants.{Aggregate, CountDistinct}
+use Rattle.gq_query.specs.Answers.{shown_value}
+
+-- a key, with what is shown of the rows that have it
+abbrev pub shown_of : List ℕ → List Shown → List (List Value) → List Value → List Value × List (Option Value)
+shown_of by shown rows key = (key, map (λ s. shown_value s (of_key by rows key)) shown)
+
+-- these are the groups of the rows in the order of their keys, with what is shown of each
+abbrev pub AreShown : List ℕ → List Shown → List (List Value) → List Group → Type 0
+AreShown by shown rows out = map answered out ≡ map (shown_of by shown rows) (in_order (λ key. key) (keys_of by rows))
+
+-- what is shown but for counts of different values
+abbrev pub aggregates_of : List Shown → List Shown
+aggregates_of [] = []
+aggregates_of (Aggregate kind column ∷ shown) = Aggregate kind column ∷ aggregates_of shown
+aggregates_of (CountDistinct column ∷ shown) = aggregates_of shown
+
+-- what is shown of the first ones, and the aggregates among the others
+abbrev pub so_far : ℕ → List Shown → List Shown
+so_far i shown = take i shown ++ aggregates_of (drop i shown)
+
+-- the one value of a count's group
+abbrev pub first_of : Group → Value
+first_of g = slice_index_or g.1 0 Null
+
+-- each count at a place among the values of its group
+abbrev pub joined : ℕ → List Group → List Group → List Group
+joined place [] counts = []
+joined place (g ∷ groups) [] = g ∷ groups
+joined place (g ∷ groups) (c ∷ counts) = (g.0, insert g.1 place (first_of c)) ∷ joined place groups counts
+
+-- the result row of a group
+abbrev pub row_of : Group → List Value
+row_of g = g.0 ++ g.1

@@ -1,0 +1,36 @@
+-- Rows that are kept, where the keys of the other rows are in a set.
+use Rattle.std.specs.Prelude.{◌<◌, ◌&&◌, ℕ, Bool, true, not, All, List, [], length, filter, Option, None, Some, option_copied, if◌then◌else◌}
+use Rattle.gq_row.specs.declared.value.Value.{Value}
+use Rattle.gq_row.specs.Rows.{key_of}
+use Rattle.gq_select.specs.declared.join.KeySet.{KeySet}
+use Rattle.gq_select.specs.declared.matching.Matching.{Matching}
+use Rattle.gq_select.specs.KeySets.{has}
+use Rattle.gq_select.specs.Truths.{keeps}
+use Rattle.gq_query.specs.declared.kept.Kept.{Kept}
+use Rattle.gq_query.specs.declared.query.Query.{Query}
+
+-- the columns that a match asks of a row
+abbrev pub ours_of : Option Matching → List ℕ
+ours_of None = []
+ours_of (Some matching) = matching.ours
+
+-- whether a row has the match that is asked for among the rows whose keys are in a set, if one is
+abbrev pub is_found : {H : Type 0} → Option Matching → KeySet H → List Value → Bool
+is_found None keys row = true
+is_found (Some matching) keys row = if matching.negated then not (has keys (key_of matching.ours row)) else has keys (key_of matching.ours row)
+
+abbrev pub is_kept : {H : Type 0} → Kept H → List Value → Bool
+is_kept kept row = keeps kept.condition.now.tests row && is_found (option_copied kept.matching) kept.keys.now row
+
+-- each of the rows has these columns
+abbrev pub AreLong : List ℕ → List (List Value) → Type 0
+AreLong columns rows = All (λ row. All (λ column. column < length row) columns) rows
+
+-- the rows of a query's table that are kept
+abbrev pub kept_rows : {H : Type 0} → Query H → List (List Value)
+kept_rows query = filter (is_kept query.kept.now) query.table.now.rows
+
+-- a query groups by columns of its table, and asks columns of it for a match
+pub record HasColumns {H : Type 0} (query : Query H) : Type 0 where
+  pub by : All (λ column. column < length query.table.now.heading.columns) query.by.now
+  pub ours : All (λ column. column < length query.table.now.heading.columns) (ours_of (option_copied query.kept.now.matching))

@@ -1,0 +1,11 @@
+-- definitions for readers
+pub mod Answers
+pub mod Asking
+pub mod Laws
+pub mod Selecting
+-- contracts of single functions
+pub mod Cells
+pub mod Fronts
+pub mod Joining
+pub mod Keeping
+pub mod Sources

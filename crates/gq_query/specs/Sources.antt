@@ -1,0 +1,9 @@
+-- What a source or a sink that owns no run says of its runs.
+use Rattle.std.specs.Prelude.{IsTrue, ℕ}
+use Rattle.std.proofs.lemmas.Bool.{false≢true}
+use Rattle.gq_spill.specs.Runs.{Runs}
+use Rattle.gq_query.specs.Asking.{no_runs}
+
+-- none of them is live, since there is none
+pub none_live : (runs : Runs) (run : ℕ) → IsTrue (no_runs run) → IsTrue (runs.live run)
+none_live runs run own = absurd (false≢true own)

@@ -1,0 +1,100 @@
+//! Which cells of a row are handed on to be grouped, and where each then stands.
+ghost use Rattle.std.specs.Prelude.{◌≡◌, fold, IfOk, OnOk, position, nat_eq};
+ghost use Rattle.gq_query.specs.Cells.{with_column, with_agg, columns_used, place_of, placed_columns, placed_aggs, aggs_of};
+
+use crate::shown::Shown;
+use gq_agg::AggKind;
+use std::alloc::{AllocError, Global};
+
+/// The columns that a grouping by columns and of aggregates needs, each once.
+pub fn columns_used(
+    alloc: Global,
+    by: &[usize],
+    aggs: &[(AggKind, usize)],
+) -> Result<Vec<usize>, AllocError>
+    ensures { IfOk result (λ columns. columns.items ≡
+        columns_used (record { by = by.now; aggs = aggs.now })) }
+{
+    let mut columns = Vec::new(alloc);
+    add_columns(&mut columns, by)?;
+    for agg in aggs {
+        if !matches!(agg.0, AggKind::CountAll) {
+            add_column(&mut columns, agg.1)?;
+        }
+    }
+    Ok(columns)
+}
+
+fn add_columns(columns: &mut Vec<usize>, more: &[usize]) -> Result<(), AllocError>
+    ensures { OnOk result (columns.new.items ≡ fold with_column columns.old.items more.now) }
+{
+    for column in more {
+        add_column(columns, *column)?;
+    }
+    Ok(())
+}
+
+fn add_column(columns: &mut Vec<usize>, column: usize) -> Result<(), AllocError>
+    ensures { OnOk result (columns.new.items ≡ with_column columns.old.items column) }
+{
+    if !columns.contains(&column) {
+        columns.push(column)?;
+    }
+    Ok(())
+}
+
+/// Where the cell of a column stands among the cells of these columns; it is one of them.
+pub fn place_of(columns: &[usize], column: usize) -> usize
+    ensures { result ≡ place_of columns.now column }
+{
+    find_column(columns, column).unwrap_or(0)
+}
+
+fn find_column(columns: &[usize], column: usize) -> Option<usize>
+    ensures { result ≡ position (λ other. nat_eq other column) columns.now }
+{
+    columns.iter().position(|other| *other == column)
+}
+
+/// Where the cells of some columns stand.
+pub fn place_columns(
+    alloc: Global,
+    columns: &[usize],
+    asked: &[usize],
+) -> Result<Vec<usize>, AllocError>
+    ensures { IfOk result (λ places. places.items ≡ placed_columns columns.now asked.now) }
+{
+    let mut places = Vec::with_capacity(alloc, asked.len())?;
+    for column in asked {
+        places.push(place_of(columns, *column))?;
+    }
+    Ok(places)
+}
+
+/// The same aggregates, of rows of the cells in these columns alone.
+pub fn place_aggs(
+    alloc: Global,
+    columns: &[usize],
+    asked: &[(AggKind, usize)],
+) -> Result<Vec<(AggKind, usize)>, AllocError>
+    ensures { IfOk result (λ aggs. aggs.items ≡ placed_aggs columns.now asked.now) }
+{
+    let mut aggs = Vec::with_capacity(alloc, asked.len())?;
+    for agg in asked {
+        aggs.push((agg.0, place_of(columns, agg.1)))?;
+    }
+    Ok(aggs)
+}
+
+/// The aggregates among what is shown, but for counts of different values.
+pub fn aggs_of(alloc: Global, shown: &[Shown]) -> Result<Vec<(AggKind, usize)>, AllocError>
+    ensures { IfOk result (λ aggs. aggs.items ≡ aggs_of shown.now) }
+{
+    let mut aggs = Vec::with_capacity(alloc, shown.len())?;
+    for asked in shown {
+        if let Shown::Aggregate(kind, column) = asked {
+            aggs.push((*kind, *column))?;
+        }
+    }
+    Ok(aggs)
+}

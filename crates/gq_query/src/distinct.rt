@@ -1,0 +1,67 @@
+//! The different keys of the rows that a query is about, in order.
+ghost use Rattle.std.specs.Prelude.{◌≡◌, ◌<◌, All, IsTrue, IfOk, IfErr, length, option_copied};
+ghost use Rattle.gq_group.specs.Access.{LeavesOthers, HasCause};
+ghost use Rattle.gq_query.specs.Answers.{distinct_keys};
+ghost use Rattle.gq_query.specs.Asking.{CanMatch, no_runs};
+ghost use Rattle.gq_query.specs.Selecting.{other_columns, rows_selected};
+
+use crate::group_list::rows_of;
+use crate::kept::Kept;
+use crate::ordering::sort_groups;
+use crate::query::Query;
+use crate::selection::{Selection, other_keys};
+use gq_group::{Budget, Refusal};
+use gq_row::{Key, Row, Sequence};
+use gq_spill::RunStore;
+use std::alloc::Global;
+use sw_probe::KeyHash;
+
+/// The result rows of a `distinct`: the different keys that the rows that are selected have in some
+/// columns, of which there is one at least, in ascending order. Null is one key value.
+///
+/// Refused with `Memory` for want of memory, `StoreFault` where the store failed, and `Damaged`
+/// where it did not read back what was written. Whatever comes of it, the store has the live runs
+/// that it had.
+pub fn distinct_rows<H: KeyHash<Key> + Copy, S: RunStore>(
+    alloc: Global,
+    hasher: H,
+    selection: &Selection<'_, '_, H>,
+    on: &[usize],
+    store: &mut S,
+    budget: Budget,
+) -> Result<Sequence<Row>, Refusal>
+    requires some { 0 < length on.now }
+    requires on { All (λ column. column < length selection.now.table.now.heading.columns) on.now }
+    requires matching { CanMatch selection.now.table.now.heading.columns
+        (other_columns (option_copied selection.now.others))
+        (option_copied selection.now.matching) }
+    ensures rows { IsTrue (S.runs store.old).honest →
+        IfOk result (λ rows. rows ≡ distinct_keys on.now (rows_selected selection.now)) }
+    ensures others { LeavesOthers no_runs no_runs (S.runs store.old) (S.runs store.new) }
+    ensures cause { IfErr result (λ e. HasCause e (S.runs store.old) (S.runs store.new)) }
+{
+    let Ok(keys) = other_keys(alloc, hasher, selection) else {
+        return Err(Refusal::Memory);
+    };
+    let kept = Kept {
+        condition: selection.condition,
+        matching: selection.matching,
+        keys: &keys,
+    };
+    let query = Query {
+        alloc,
+        hasher,
+        table: selection.table,
+        kept: &kept,
+        by: on,
+        budget,
+    };
+    let mut groups = query.keys(store)?;
+    let Ok(()) = sort_groups(&mut groups) else {
+        return Err(Refusal::Memory);
+    };
+    let Ok(rows) = rows_of(alloc, groups) else {
+        return Err(Refusal::Memory);
+    };
+    Ok(Sequence::new(rows))
+}

@@ -1,0 +1,225 @@
+//! The groups of the rows that a query is about, in order.
+ghost use Rattle.std.specs.Prelude.{◌≡◌, ◌+◌, ◌<◌, All, IsTrue, IfOk, OnOk, IfErr, IsErrOf, None, Some, filter, length, map, insert, option_copied, ◌∷◌, []};
+ghost use Rattle.std.specs.List.{list_all};
+ghost use Rattle.gq_group.specs.Access.{LeavesOthers, HasCause, GroupCause};
+ghost use Rattle.gq_select.specs.Truths.{keeps};
+ghost use Rattle.gq_query.specs.declared.shown.Shown.TheVariants.{CountDistinct as Different};
+ghost use Rattle.gq_query.specs.Answers.{answer, answer_having};
+ghost use Rattle.gq_query.specs.Asking.{CanMatch, can_show, no_runs};
+ghost use Rattle.gq_query.specs.Keeping.{HasColumns, kept_rows};
+ghost use Rattle.gq_query.specs.Joining.{AreShown, aggregates_of, so_far, first_of, joined};
+ghost use Rattle.gq_query.specs.Selecting.{other_columns, rows_selected};
+
+use crate::cells::aggs_of;
+use crate::group_list::{GroupValues, rows_of};
+use crate::kept::Kept;
+use crate::ordering::sort_groups;
+use crate::query::Query;
+use crate::selection::{Selection, other_keys};
+use crate::shown::Shown;
+use gq_group::{Budget, Refusal};
+use gq_row::{Key, Row, Sequence};
+use gq_select::{Condition, having};
+use gq_spill::RunStore;
+use std::alloc::{AllocError, Global};
+use sw_probe::KeyHash;
+
+/// By which columns rows are grouped, what is shown of each group, and which result rows are kept:
+/// those for which `having` is true, where a row's columns are the key's, and then what is shown.
+#[derive(Drop)]
+pub struct Grouping<'a> {
+    pub by: &'a [usize],
+    pub shown: &'a [Shown],
+    pub having: &'a Condition,
+}
+
+impl<'a, H: KeyHash<Key> + Copy> Query<'a, H> {
+    // The groups in the order of their keys, with the aggregates among what is shown.
+    fn aggregates<S: RunStore>(
+        &self,
+        shown: &[Shown],
+        store: &mut S,
+    ) -> Result<Vec<GroupValues>, Refusal>
+        requires columns { HasColumns self.now }
+        requires shown { IsTrue
+            (list_all (can_show self.now.table.now.heading.columns) shown.now) }
+        ensures groups { IsTrue (S.runs store.old).honest →
+            IfOk result (λ groups. AreShown self.now.by.now (aggregates_of shown.now)
+            (kept_rows self.now) groups.items) }
+        ensures overflow { IsTrue (S.runs store.old).honest → IsErrOf result Refusal.SumRange →
+            answer self.now.by.now shown.now (kept_rows self.now) ≡ None }
+        ensures others { LeavesOthers no_runs no_runs (S.runs store.old) (S.runs store.new) }
+        ensures cause { IfErr result (λ e. GroupCause e (S.runs store.old) (S.runs store.new)) }
+    {
+        let Ok(aggs) = aggs_of(self.alloc, shown) else {
+            return Err(Refusal::Memory);
+        };
+        let mut groups = self.groups_of(aggs.as_slice(), store)?;
+        let Ok(()) = sort_groups(&mut groups) else {
+            return Err(Refusal::Memory);
+        };
+        Ok(groups)
+    }
+
+    // The same in the order of the keys.
+    fn counts<S: RunStore>(&self, column: usize, store: &mut S) -> Result<Vec<GroupValues>, Refusal>
+        requires columns { HasColumns self.now }
+        requires column { column < length self.now.table.now.heading.columns }
+        ensures counts { IsTrue (S.runs store.old).honest →
+            IfOk result (λ counts. AreShown self.now.by.now (Different column ∷ [])
+            (kept_rows self.now) counts.items) }
+        ensures others { LeavesOthers no_runs no_runs (S.runs store.old) (S.runs store.new) }
+        ensures cause { IfErr result (λ e. HasCause e (S.runs store.old) (S.runs store.new)) }
+    {
+        let mut counts = self.counts_of(column, store)?;
+        let Ok(()) = sort_groups(&mut counts) else {
+            return Err(Refusal::Memory);
+        };
+        Ok(counts)
+    }
+
+    // Counts the different values that are shown next, if they are, for each group. The others
+    // have their values by then, up to that place, and then the aggregates.
+    fn show_next<S: RunStore>(
+        &self,
+        shown: &[Shown],
+        place: usize,
+        groups: &mut Vec<GroupValues>,
+        store: &mut S,
+    ) -> Result<(), Refusal>
+        requires columns { HasColumns self.now }
+        requires shown { IsTrue
+            (list_all (can_show self.now.table.now.heading.columns) shown.now) }
+        requires within { place < length shown.now }
+        requires groups { IsTrue (S.runs store.old).honest → AreShown self.now.by.now
+            (so_far place shown.now) (kept_rows self.now) groups.old.items }
+        ensures groups { IsTrue (S.runs store.old).honest →
+            OnOk result (AreShown self.now.by.now (so_far (place + 1) shown.now)
+            (kept_rows self.now) groups.new.items) }
+        ensures others { LeavesOthers no_runs no_runs (S.runs store.old) (S.runs store.new) }
+        ensures cause { IfErr result (λ e. HasCause e (S.runs store.old) (S.runs store.new)) }
+    {
+        let Shown::CountDistinct(column) = shown[place] else {
+            return Ok(());
+        };
+        let counts = self.counts(column, store)?;
+        if counts.len() != groups.len() {
+            return Err(Refusal::Damaged);
+        }
+        match join_counts(self.alloc, groups.as_mut_slice(), place, counts.as_slice()) {
+            Ok(()) => Ok(()),
+            Err(_) => Err(Refusal::Memory),
+        }
+    }
+
+    // The groups in the order of their keys, with what is shown of each.
+    fn show<S: RunStore>(&self, shown: &[Shown], store: &mut S) -> Result<Vec<GroupValues>, Refusal>
+        requires columns { HasColumns self.now }
+        requires shown { IsTrue
+            (list_all (can_show self.now.table.now.heading.columns) shown.now) }
+        ensures groups { IsTrue (S.runs store.old).honest →
+            IfOk result (λ groups. AreShown self.now.by.now shown.now
+            (kept_rows self.now) groups.items) }
+        ensures overflow { IsTrue (S.runs store.old).honest → IsErrOf result Refusal.SumRange →
+            answer self.now.by.now shown.now (kept_rows self.now) ≡ None }
+        ensures others { LeavesOthers no_runs no_runs (S.runs store.old) (S.runs store.new) }
+        ensures cause { IfErr result (λ e. GroupCause e (S.runs store.old) (S.runs store.new)) }
+    {
+        let mut groups = self.aggregates(shown, store)?;
+        'shown: for place in 0..shown.len() {
+            self.show_next(shown, place, &mut groups, store)?;
+        }
+        Ok(groups)
+    }
+}
+
+// Puts each count at a place among the values of its group.
+fn join_counts(
+    alloc: Global,
+    groups: &mut [GroupValues],
+    place: usize,
+    counts: &[GroupValues],
+) -> Result<(), AllocError>
+    requires { length groups.old ≡ length counts.now }
+    ensures { OnOk result (groups.new ≡ joined place groups.old counts.now) }
+{
+    'groups: for i in 0..counts.len() {
+        join_count(alloc, &mut groups[i], place, &counts[i])?;
+    }
+    Ok(())
+}
+
+fn join_count(
+    alloc: Global,
+    group: &mut GroupValues,
+    place: usize,
+    count: &GroupValues,
+) -> Result<(), AllocError>
+    ensures { OnOk result (group.new ≡
+        (group.old.0, insert group.old.1 place (first_of count.now))) }
+{
+    group.insert(place, count.first(alloc)?)
+}
+
+// The rows for which a condition is true.
+fn rows_having(rows: Vec<Row>, condition: &Condition) -> Vec<Row>
+    ensures { result.items ≡ filter (keeps condition.now.tests) rows.items }
+{
+    let mut rows = rows;
+    rows.retain(|row| having(condition, row));
+    rows
+}
+
+/// The result rows of a `group`: one for each different key that the rows that are selected have in
+/// some columns, in ascending order; in it the key's values, and then what is shown of the rows
+/// that have it. Of these rows `having` keeps those for which it is true, after all are finished.
+///
+/// Refused with `SumRange` where some sum is out of range, whatever `having` says, `Memory` for
+/// want of memory, `StoreFault` where the store failed, and `Damaged` where it did not read back
+/// what was written. Whatever comes of it, the store has the live runs that it had.
+pub fn group_rows<H: KeyHash<Key> + Copy, S: RunStore>(
+    alloc: Global,
+    hasher: H,
+    selection: &Selection<'_, '_, H>,
+    grouping: &Grouping<'_>,
+    store: &mut S,
+    budget: Budget,
+) -> Result<Sequence<Row>, Refusal>
+    requires by { All (λ column. column < length selection.now.table.now.heading.columns)
+        grouping.now.by.now }
+    requires shown { IsTrue (list_all (can_show selection.now.table.now.heading.columns)
+        grouping.now.shown.now) }
+    requires matching { CanMatch selection.now.table.now.heading.columns
+        (other_columns (option_copied selection.now.others))
+        (option_copied selection.now.matching) }
+    ensures rows { IsTrue (S.runs store.old).honest → IfOk result
+        (λ rows. answer_having grouping.now.by.now grouping.now.shown.now
+        grouping.now.having.now.tests (rows_selected selection.now) ≡ Some rows) }
+    ensures overflow { IsTrue (S.runs store.old).honest → IsErrOf result Refusal.SumRange →
+        answer_having grouping.now.by.now grouping.now.shown.now
+        grouping.now.having.now.tests (rows_selected selection.now) ≡ None }
+    ensures others { LeavesOthers no_runs no_runs (S.runs store.old) (S.runs store.new) }
+    ensures cause { IfErr result (λ e. GroupCause e (S.runs store.old) (S.runs store.new)) }
+{
+    let Ok(keys) = other_keys(alloc, hasher, selection) else {
+        return Err(Refusal::Memory);
+    };
+    let kept = Kept {
+        condition: selection.condition,
+        matching: selection.matching,
+        keys: &keys,
+    };
+    let query = Query {
+        alloc,
+        hasher,
+        table: selection.table,
+        kept: &kept,
+        by: grouping.by,
+        budget,
+    };
+    let groups = query.show(grouping.shown, store)?;
+    let Ok(rows) = rows_of(alloc, groups) else {
+        return Err(Refusal::Memory);
+    };
+    Ok(Sequence::new(rows_having(rows, grouping.having)))
+}

@@ -1,0 +1,48 @@
+//! Queries on tables: from a table's rows to the result rows, in the order in which they are shown.
+//!
+//! - A [`Selection`] says which rows of a table a query is about: those for which a condition is
+//!   true and which have a match among the rows of another table, or have none, as it asks.
+//! - [`group_rows`] gives a row for each different key that these rows have in some columns: the
+//!   key, and then what is [`Shown`] of the rows that have it. Of the finished rows it keeps those
+//!   for which `having` is true. [`distinct_rows`] gives the different keys alone.
+//! - [`show_rows`] gives all rows of a table.
+//!
+//! ```text
+//! let selection = Selection { table: &table, condition: &condition, matching: None, others: None };
+//! let shown = [Shown::Aggregate(AggKind::Sum, 1), Shown::CountDistinct(2)];
+//! let grouping = Grouping { by: &[0], shown: &shown, having: &having };
+//! let rows = group_rows(alloc, hasher, &selection, &grouping, &mut store, budget)?;
+//! ```
+//!
+//! A row that is not kept is passed over before a cell of it is copied. The keys of the other
+//! table's rows are put into a set once for each query, and each row is looked up there.
+//!
+//! # The contract above this crate
+//!
+//! Over an honest store the rows of [`group_rows`] and [`distinct_rows`] are `answer_having` and
+//! `distinct_keys` of `specs/Answers.antt`, of the `rows_kept` there: these speak of lists, filters
+//! and aggregates alone. `SumRange` is answered only where some sum is out of range, whatever
+//! `having` says. Over every store no run is left behind and none is touched that was there, and
+//! both refuse for a cause. The law in [`laws`] says that the order of rows is not seen, neither
+//! that of the table nor that of the other.
+#![tactic(auto)]
+
+mod cells;
+mod distinct;
+mod front;
+mod group_list;
+mod grouping;
+mod kept;
+pub mod laws;
+mod ordering;
+mod query;
+mod selection;
+mod showing;
+mod shown;
+mod table_rows;
+
+pub use distinct::distinct_rows;
+pub use grouping::{Grouping, group_rows};
+pub use selection::Selection;
+pub use showing::show_rows;
+pub use shown::Shown;

@@ -1,0 +1,71 @@
+//! Rows in the order in which queries give them.
+//!
+//! Each sort is by fronts first: these are made once, compared in place, and move each row once.
+//! What they leave is mostly in order, so that the sort by whole keys is one look over it; only among
+//! ties does it move rows again.
+ghost use Rattle.std.specs.Prelude.{◌≡◌, OnOk, IsPermutation};
+ghost use Rattle.std.specs.List.Sorted.{IsSortedByKey};
+ghost use Rattle.gq_group.specs.Groups.{Group};
+ghost use Rattle.gq_row.specs.Laws.{IsArranged};
+ghost use Rattle.gq_row.specs.Order.{compare_keys, compare_values};
+ghost use Rattle.gq_row.specs.Rows.{cell, key_of};
+ghost use Rattle.gq_query.specs.Answers.{ordered_by};
+
+use crate::front::front_in;
+use crate::group_list::GroupValues;
+use gq_row::{Row, Value, compare, compare_cells, compare_keys};
+use std::alloc::AllocError;
+use std::cmp::Ordering;
+
+/// Sorts rows by their values in some columns, or by all of their values where none are named.
+pub fn sort_rows(rows: &mut Vec<Row>, columns: &[usize]) -> Result<(), AllocError>
+    ensures { OnOk result (IsArranged (ordered_by columns.now) rows.old.items rows.new.items) }
+{
+    rows.sort_by_cached_key(|row| front_in(columns, row.cells()))?;
+    rows.sort_by(|a, b| compare_rows(columns, a.cells(), b.cells()))
+}
+
+/// Sorts groups by their keys.
+pub fn sort_groups(groups: &mut Vec<GroupValues>) -> Result<(), AllocError>
+    ensures moved { IsPermutation groups.old.items groups.new.items }
+    ensures ascending { OnOk result
+        (IsSortedByKey (λ (g : Group). g.0) compare_keys groups.new.items) }
+{
+    groups.sort_by_cached_key(|group| front_in(&[], group.key().cells()))?;
+    groups.sort_by(|a, b| compare_keys(a.key(), b.key()))
+}
+
+fn compare_rows(columns: &[usize], a: &[Value], b: &[Value]) -> Ordering
+    ensures { result ≡ compare_keys (ordered_by columns.now a.now) (ordered_by columns.now b.now) }
+{
+    if columns.is_empty() {
+        compare_cells(a, b)
+    } else {
+        compare_in(columns, a, b)
+    }
+}
+
+// The order of two rows by their values in some columns.
+fn compare_in(columns: &[usize], a: &[Value], b: &[Value]) -> Ordering
+    ensures { result ≡ compare_keys (key_of columns.now a.now) (key_of columns.now b.now) }
+{
+    for column in columns {
+        match compare_cell(*column, a, b) {
+            Ordering::Equal => {}
+            other => return other,
+        }
+    }
+    Ordering::Equal
+}
+
+// A row that is too short has null there.
+fn compare_cell(column: usize, a: &[Value], b: &[Value]) -> Ordering
+    ensures { result ≡ compare_values (cell a.now column) (cell b.now column) }
+{
+    match (a.get(column), b.get(column)) {
+        (Some(x), Some(y)) => compare(x, y),
+        (Some(x), None) => compare(x, &Value::Null),
+        (None, Some(y)) => compare(&Value::Null, y),
+        (None, None) => Ordering::Equal,
+    }
+}

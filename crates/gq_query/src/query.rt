@@ -1,0 +1,170 @@
+//! The rows that a query is about, grouped over a run store.
+ghost use Rattle.std.specs.Prelude.{◌≡◌, ◌<◌, true, IsTrue, IfOk, IfErr, IsErrOf, IsPermutation, length};
+ghost use Rattle.std.specs.List.{list_all};
+ghost use Rattle.gq_group.specs.Access.{LeavesOthers, HasCause, GroupCause};
+ghost use Rattle.gq_group.specs.Distinct.{distinct_groups};
+ghost use Rattle.gq_group.specs.Groups.{AreGroups, out_of_range};
+ghost use Rattle.gq_select.specs.Distinct.{bare_keys};
+ghost use Rattle.gq_query.specs.Asking.{can_take, no_runs};
+ghost use Rattle.gq_query.specs.Cells.{placed};
+ghost use Rattle.gq_query.specs.Keeping.{HasColumns, kept_rows};
+
+use crate::cells::{columns_used, place_aggs, place_columns, place_of};
+use crate::group_list::{GroupList, GroupValues};
+use crate::kept::Kept;
+use crate::table_rows::TableRows;
+use gq_agg::AggKind;
+use gq_group::{Budget, GroupSpec, Refusal, group, group_distinct};
+use gq_row::Key;
+use gq_select::distinct;
+use gq_spill::RunStore;
+use gq_table::Table;
+use std::alloc::{AllocError, Global};
+use sw_probe::KeyHash;
+
+/// What the groupings of one query have in common: the rows of a table that are kept, and the
+/// columns that they are grouped by.
+#[derive(Drop)]
+pub struct Query<'a, H: KeyHash<Key>> {
+    pub alloc: Global,
+    pub hasher: H,
+    pub table: &'a Table<H>,
+    pub kept: &'a Kept<'a, H>,
+    pub by: &'a [usize],
+    pub budget: Budget,
+}
+
+impl<'a, H: KeyHash<Key> + Copy> Query<'a, H> {
+    /// The groups of the rows that are kept, in some order, with these aggregates.
+    pub fn groups_of<S: RunStore>(
+        &self,
+        aggs: &[(AggKind, usize)],
+        store: &mut S,
+    ) -> Result<Vec<GroupValues>, Refusal>
+        requires columns { HasColumns self.now }
+        requires aggs { IsTrue (list_all (can_take self.now.table.now.heading.columns) aggs.now) }
+        ensures groups { IsTrue (S.runs store.old).honest →
+            IfOk result (λ groups. AreGroups (record { by = self.now.by.now; aggs = aggs.now })
+            (kept_rows self.now) groups.items) }
+        ensures overflow { IsTrue (S.runs store.old).honest → IsErrOf result Refusal.SumRange →
+            out_of_range (record { by = self.now.by.now; aggs = aggs.now })
+            (kept_rows self.now) ≡ true }
+        ensures others { LeavesOthers no_runs no_runs (S.runs store.old) (S.runs store.new) }
+        ensures cause { IfErr result (λ e. GroupCause e (S.runs store.old) (S.runs store.new)) }
+    {
+        let Ok(columns) = columns_used(self.alloc, self.by, aggs) else {
+            return Err(Refusal::Memory);
+        };
+        let Ok(spec) = place_spec(self.alloc, columns.as_slice(), self.by, aggs) else {
+            return Err(Refusal::Memory);
+        };
+        let mut source = TableRows {
+            alloc: self.alloc,
+            rows: self.table.rows(),
+            kept: self.kept,
+            columns: columns.as_slice(),
+        };
+        let mut sink = GroupList::new(self.alloc);
+        group(
+            self.alloc,
+            self.hasher,
+            &spec,
+            &mut source,
+            &mut sink,
+            store,
+            self.budget,
+        )?;
+        Ok(sink.into_vec())
+    }
+
+    /// How many different values the rows of each key have in a column, in some order.
+    pub fn counts_of<S: RunStore>(
+        &self,
+        column: usize,
+        store: &mut S,
+    ) -> Result<Vec<GroupValues>, Refusal>
+        requires columns { HasColumns self.now }
+        requires column { column < length self.now.table.now.heading.columns }
+        ensures counts { IsTrue (S.runs store.old).honest →
+            IfOk result (λ counts. IsPermutation
+            (distinct_groups self.now.by.now column (kept_rows self.now)) counts.items) }
+        ensures others { LeavesOthers no_runs no_runs (S.runs store.old) (S.runs store.new) }
+        ensures cause { IfErr result (λ e. HasCause e (S.runs store.old) (S.runs store.new)) }
+    {
+        let Ok(columns) = columns_used(self.alloc, self.by, &[(AggKind::Count, column)]) else {
+            return Err(Refusal::Memory);
+        };
+        let Ok(by) = place_columns(self.alloc, columns.as_slice(), self.by) else {
+            return Err(Refusal::Memory);
+        };
+        let place = place_of(columns.as_slice(), column);
+        let mut source = TableRows {
+            alloc: self.alloc,
+            rows: self.table.rows(),
+            kept: self.kept,
+            columns: columns.as_slice(),
+        };
+        let mut sink = GroupList::new(self.alloc);
+        group_distinct(
+            self.alloc,
+            self.hasher,
+            by.as_slice(),
+            place,
+            &mut source,
+            &mut sink,
+            store,
+            self.budget,
+        )?;
+        Ok(sink.into_vec())
+    }
+
+    /// The different keys of the rows that are kept, in some order, as groups of which nothing is
+    /// told but their keys.
+    pub fn keys<S: RunStore>(&self, store: &mut S) -> Result<Vec<GroupValues>, Refusal>
+        requires columns { HasColumns self.now }
+        requires some { 0 < length self.now.by.now }
+        ensures keys { IsTrue (S.runs store.old).honest → IfOk result
+            (λ keys. IsPermutation (bare_keys self.now.by.now (kept_rows self.now)) keys.items) }
+        ensures others { LeavesOthers no_runs no_runs (S.runs store.old) (S.runs store.new) }
+        ensures cause { IfErr result (λ e. HasCause e (S.runs store.old) (S.runs store.new)) }
+    {
+        let Ok(columns) = columns_used(self.alloc, self.by, &[]) else {
+            return Err(Refusal::Memory);
+        };
+        let Ok(by) = place_columns(self.alloc, columns.as_slice(), self.by) else {
+            return Err(Refusal::Memory);
+        };
+        let mut source = TableRows {
+            alloc: self.alloc,
+            rows: self.table.rows(),
+            kept: self.kept,
+            columns: columns.as_slice(),
+        };
+        let mut sink = GroupList::new(self.alloc);
+        distinct(
+            self.alloc,
+            self.hasher,
+            by,
+            &mut source,
+            &mut sink,
+            store,
+            self.budget,
+        )?;
+        Ok(sink.into_vec())
+    }
+}
+
+// The same grouping, of rows of the cells in some columns alone.
+fn place_spec(
+    alloc: Global,
+    columns: &[usize],
+    by: &[usize],
+    aggs: &[(AggKind, usize)],
+) -> Result<GroupSpec, AllocError>
+    ensures { IfOk result (λ spec. spec ≡
+        placed columns.now (record { by = by.now; aggs = aggs.now })) }
+{
+    let by = place_columns(alloc, columns, by)?;
+    let aggs = place_aggs(alloc, columns, aggs)?;
+    Ok(GroupSpec::new(by, aggs))
+}

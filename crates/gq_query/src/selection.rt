@@ -1,0 +1,63 @@
+//! The rows that a query is about.
+ghost use Rattle.std.specs.Prelude.{◌≡◌, ◌<◌, All, IfOk, Some, length, option_copied};
+ghost use Rattle.gq_select.specs.KeySets.{AreKeysOf};
+ghost use Rattle.gq_select.specs.declared.matching.Matching.{Matching as Match};
+ghost use Rattle.gq_query.specs.Asking.{CanMatch};
+ghost use Rattle.gq_query.specs.Selecting.{other_columns, other_rows};
+
+use gq_row::Key;
+use gq_select::{Condition, KeySet, Matching};
+use gq_table::Table;
+use std::alloc::{AllocError, Global};
+use sw_probe::KeyHash;
+
+/// Which rows of a table a query is about: those for which a condition is true and, where a match
+/// is asked for, which have it among the rows of another table, or with `negated` have none.
+/// Without another table there are no other rows.
+#[derive(Drop)]
+pub struct Selection<'t, 'q, H: KeyHash<Key>> {
+    pub table: &'t Table<H>,
+    pub condition: &'q Condition,
+    pub matching: Option<&'q Matching>,
+    pub others: Option<&'t Table<H>>,
+}
+
+/// The keys of the other rows in the columns that a match asks of them. Where none is asked for
+/// they are of no rows, and take no memory.
+pub fn other_keys<H: KeyHash<Key> + Copy>(
+    alloc: Global,
+    hasher: H,
+    selection: &Selection<'_, '_, H>,
+) -> Result<KeySet<H>, AllocError>
+    requires { CanMatch selection.now.table.now.heading.columns
+        (other_columns (option_copied selection.now.others))
+        (option_copied selection.now.matching) }
+    ensures { IfOk result (λ keys. (matching : Match) →
+        option_copied selection.now.matching ≡ Some matching →
+        AreKeysOf matching.theirs (other_rows (option_copied selection.now.others)) keys) }
+{
+    let Some(matching) = selection.matching else {
+        return Ok(KeySet::new(alloc, hasher));
+    };
+    let Some(others) = selection.others else {
+        return Ok(KeySet::new(alloc, hasher));
+    };
+    keys_of(alloc, hasher, others, matching.theirs.as_slice())
+}
+
+// The keys of a table's rows in some columns, but for those with null.
+fn keys_of<H: KeyHash<Key> + Copy>(
+    alloc: Global,
+    hasher: H,
+    table: &Table<H>,
+    columns: &[usize],
+) -> Result<KeySet<H>, AllocError>
+    requires { All (λ column. column < length table.now.heading.columns) columns.now }
+    ensures { IfOk result (AreKeysOf columns.now table.now.rows) }
+{
+    let mut keys = KeySet::new(alloc, hasher);
+    for row in table.rows() {
+        keys.add(row, columns)?;
+    }
+    Ok(keys)
+}

@@ -1,0 +1,73 @@
+//! The rows of a table that are kept, as a source.
+ghost use Rattle.std.specs.Prelude.{◌≡◌, ◌<◌, All, IfOk, length};
+ghost use Rattle.gq_row.specs.Rows.{key_of};
+
+use crate::kept::Kept;
+use gq_group::{Refusal, RowSource};
+use gq_row::{Key, Row};
+use gq_spill::RunStore;
+use gq_table::RowIter;
+use std::alloc::{AllocError, Global};
+use sw_probe::KeyHash;
+
+/// The rows of a table that are still to come. Of each that is kept it hands on the cells in some
+/// columns, one behind the other, and nothing else is copied.
+#[derive(Drop)]
+pub struct TableRows<'a, H: KeyHash<Key>> {
+    pub alloc: Global,
+    pub rows: RowIter<'a, H>,
+    pub kept: &'a Kept<'a, H>,
+    pub columns: &'a [usize],
+}
+
+// The row of a row's cells in some columns.
+fn cells_of(alloc: Global, row: &Row, columns: &[usize]) -> Result<Row, AllocError>
+    requires { All (λ column. column < length row.now) columns.now }
+    ensures { IfOk result (λ cells. cells ≡ key_of columns.now row.now) }
+{
+    let mut cells = Vec::with_capacity(alloc, columns.len())?;
+    for column in columns {
+        cells.push(row.cell(*column).copy(alloc)?)?;
+    }
+    Ok(Row::new(cells))
+}
+
+impl<'a, H: KeyHash<Key>, S: RunStore> RowSource<S> for TableRows<'a, H> {
+    ghost use Rattle.std.specs.Prelude.{◌≡◌, false, filter, length, map, option_copied, refl};
+    ghost use Rattle.gq_row.specs.Rows.{key_of};
+    ghost use Rattle.gq_query.specs.Asking.{no_runs};
+    ghost use Rattle.gq_query.specs.Keeping.{AreLong, is_kept, ours_of};
+    ghost use Rattle.gq_query.specs.Sources.{none_live};
+
+    ghost owns = { λ s. no_runs };
+
+    ghost is_ready = { λ s runs. AreLong s.columns.now s.rows ×
+        AreLong (ours_of (option_copied s.kept.now.matching)) s.rows };
+
+    ghost gives = { λ s runs rows.
+        rows ≡ map (key_of s.columns.now) (filter (is_kept s.kept.now) s.rows) };
+
+    ghost bound = { λ s. length s.rows };
+
+    ghost makes_runs = { false };
+
+    fn next(&mut self, store: &mut S) -> Result<Option<Row>, Refusal> {
+        let _ = store;
+        let Some(row) = self.kept.next_of(&mut self.rows) else {
+            return Ok(None);
+        };
+        match cells_of(self.alloc, row, self.columns) {
+            Ok(cells) => Ok(Some(cells)),
+            Err(_) => Err(Refusal::Memory),
+        }
+    }
+
+    ghost own_live = { λ s runs ready run own. none_live runs run own };
+
+    ghost has_rows = { λ s runs ready honest.
+        (map (key_of s.columns.now) (filter (is_kept s.kept.now) s.rows), refl) };
+
+    ghost stays_ready = { λ s old new kept ready. ready };
+
+    ghost keeps_rows = { λ s old new kept ready honest rows gives. gives };
+}

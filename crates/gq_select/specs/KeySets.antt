@@ -1,0 +1,16 @@
+-- Sets of the keys of rows.
+use Rattle.std.specs.Prelude.{◌≡◌, ℕ, Bool, List}
+use Rattle.std.specs.FinMap.{contains_key}
+use Rattle.sw_table.specs.Entries.{entries}
+use Rattle.gq_row.specs.declared.value.Value.{Value}
+use Rattle.gq_row.specs.Classes.{class_of}
+use Rattle.gq_select.specs.Matches.{is_key_among}
+use Rattle.gq_select.specs.declared.join.KeySet.{KeySet}
+
+-- whether a key is in a set
+abbrev pub has : {H : Type 0} → KeySet H → List Value → Bool
+has set key = contains_key (entries class_of set.keys) (class_of key)
+
+-- a set has the keys of these rows in some columns, but for those with null
+abbrev pub AreKeysOf : {H : Type 0} → List ℕ → List (List Value) → KeySet H → Type 0
+AreKeysOf columns rows set = (key : List Value) → has set key ≡ is_key_among columns rows key

@@ -1,0 +1,5 @@
+pub mod Distinct
+pub mod KeySets
+pub mod Laws
+pub mod Matches
+pub mod Truths

@@ -1,0 +1,71 @@
+-- The truth of conditions, as SQL has it.
+use Rattle.std.specs.Prelude.{◌||◌, Bool, true, false, not, List, map, if◌then◌else◌, Option, Some, None}
+use Rattle.std.specs.List.{list_any}
+use Rattle.gq_row.specs.declared.value.Value.{Value}
+use Rattle.gq_row.specs.declared.comparison.Comparison.{Comparison}
+use Rattle.gq_row.specs.Comparisons.{passes}
+use Rattle.gq_row.specs.Fitting.{is_null}
+use Rattle.gq_row.specs.Order.{compare_values}
+use Rattle.gq_row.specs.Rows.{cell}
+use Rattle.gq_select.specs.declared.condition.Operand.{Operand}
+use Rattle.gq_select.specs.declared.condition.Operand.TheVariants.{Column, Literal}
+use Rattle.gq_select.specs.declared.condition.Test.{Test}
+use Rattle.gq_select.specs.declared.condition.Test.TheVariants.{Compare, IsNull, IsNotNull}
+use Rattle.gq_select.specs.declared.truth.Truth.{Truth}
+use Rattle.gq_select.specs.declared.truth.Truth.TheVariants.{True, False, Unknown}
+
+-- true or false, where nothing is unknown
+abbrev pub decided : Bool → Truth
+decided true = True
+decided false = False
+
+-- which of the three a truth is
+abbrev pub is_true : Truth → Bool
+is_true True = true
+is_true False = false
+is_true Unknown = false
+
+abbrev pub is_false : Truth → Bool
+is_false True = false
+is_false False = true
+is_false Unknown = false
+
+abbrev pub is_unknown : Truth → Bool
+is_unknown True = false
+is_unknown False = false
+is_unknown Unknown = true
+
+-- an operand's value in a row
+abbrev pub value_of : Operand → List Value → Value
+value_of (Column column) row = cell row column
+value_of (Literal v) row = v
+
+-- a comparison is unknown where a compared value is null, and else as the order of values decides
+abbrev pub compared : Comparison → Value → Value → Truth
+compared comparison a b = if is_null a || is_null b then Unknown else decided (passes comparison (compare_values a b))
+
+-- the truth of a test in a row; whether a value is null is never unknown
+abbrev pub truth_of : Test → List Value → Truth
+truth_of (Compare a comparison b) row = compared comparison (value_of a row) (value_of b row)
+truth_of (IsNull a) row = decided (is_null (value_of a row))
+truth_of (IsNotNull a) row = decided (not (is_null (value_of a row)))
+
+-- `and` of several: false where one is false, else unknown where one is unknown, else true
+abbrev pub all_of : List Truth → Truth
+all_of truths = if list_any is_false truths then False else (if list_any is_unknown truths then Unknown else True)
+
+-- the truth of a condition in a row
+abbrev pub truth : List Test → List Value → Truth
+truth tests row = all_of (map (λ test. truth_of test row) tests)
+
+-- whether a test is true in a row
+abbrev pub is_true_in : List Value → Test → Bool
+is_true_in row test = is_true (truth_of test row)
+
+-- a condition keeps the rows in which it is true
+abbrev pub keeps : List Test → List Value → Bool
+keeps tests row = is_true (truth tests row)
+
+-- a value that is not null, or none
+abbrev pub known : Value → Option Value
+known v = if is_null v then None else Some v

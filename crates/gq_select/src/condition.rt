@@ -1,0 +1,123 @@
+//! Conditions on rows.
+ghost use Rattle.std.specs.Prelude.{◌≡◌};
+ghost use Rattle.std.specs.Option.{option_copied};
+ghost use Rattle.std.specs.List.{list_all};
+ghost use Rattle.gq_select.specs.Truths.{known, value_of, truth_of, truth, is_true_in, keeps};
+
+use crate::truth::Truth;
+use gq_row::{Comparison, Row, Sequence, Value, compare};
+
+/// What a test asks of.
+#[derive(Debug, Drop)]
+pub enum Operand {
+    /// The value of the row in the column at a position, counted from 0. Null where the row has no
+    /// such column.
+    Column(usize),
+    /// A value of its own, whatever the row.
+    Literal(Value),
+}
+
+/// A test of a row.
+#[derive(Debug, Drop)]
+pub enum Test {
+    Compare(Operand, Comparison, Operand),
+    /// `x is null`
+    IsNull(Operand),
+    /// `x is not null`
+    IsNotNull(Operand),
+}
+
+/// Tests that are joined by `and`. Without tests it is true.
+#[derive(Debug, Drop)]
+pub struct Condition {
+    pub tests: Sequence<Test>,
+}
+
+impl Operand {
+    // Its value in a row, or None where that is null.
+    #[inline]
+    fn known<'a>(&'a self, row: &'a Row) -> Option<&'a Value>
+        ensures { option_copied result ≡ known (value_of self.now row.now) }
+    {
+        let value = match self {
+            Operand::Column(column) => row.cells().get(*column)?,
+            Operand::Literal(value) => value,
+        };
+        if value.is_null() { None } else { Some(value) }
+    }
+}
+
+impl Test {
+    /// Its truth in a row. A comparison is unknown where one of its values is null, and else as the
+    /// order of values decides. Whether a value is null is never unknown.
+    #[inline]
+    pub fn truth(&self, row: &Row) -> Truth
+        ensures { result ≡ truth_of self.now row.now }
+    {
+        match self {
+            Test::Compare(a, comparison, b) => match (a.known(row), b.known(row)) {
+                (Some(a), Some(b)) => Truth::decided(comparison.passes(compare(a, b))),
+                _ => Truth::Unknown,
+            },
+            Test::IsNull(a) => Truth::decided(a.known(row).is_none()),
+            Test::IsNotNull(a) => Truth::decided(a.known(row).is_some()),
+        }
+    }
+
+    // Whether it is true in a row.
+    #[inline]
+    fn is_true(&self, row: &Row) -> bool
+        ensures { result ≡ is_true_in row.now self.now }
+    {
+        self.truth(row).is_true()
+    }
+}
+
+/// The truth of a condition in a row: false where a test is false, else unknown where one is
+/// unknown, else true.
+pub fn holds(condition: &Condition, row: &Row) -> Truth
+    ensures { result ≡ truth condition.now.tests row.now }
+{
+    let mut truth = Truth::True;
+    for test in condition.tests.as_slice() {
+        match test.truth(row) {
+            Truth::True => {}
+            Truth::False => return Truth::False,
+            Truth::Unknown => truth = Truth::Unknown,
+        }
+    }
+    truth
+}
+
+/// Whether a condition before grouping keeps a row: whether it is true there.
+#[inline]
+pub fn filter(condition: &Condition, row: &Row) -> bool
+    ensures { result ≡ keeps condition.now.tests row.now }
+{
+    is_true(condition, row)
+}
+
+/// Whether a condition on groups keeps one, by its result row, which is its key and its aggregates:
+/// whether it is true there.
+#[inline]
+pub fn having(condition: &Condition, group: &Row) -> bool
+    ensures { result ≡ keeps condition.now.tests group.now }
+{
+    is_true(condition, group)
+}
+
+// Whether it is true there.
+#[inline]
+fn is_true(condition: &Condition, row: &Row) -> bool
+    ensures { result ≡ keeps condition.now.tests row.now }
+{
+    all_true(condition.tests.as_slice(), row)
+}
+
+// Whether each test is true, up to the first that isn't.
+#[inline]
+fn all_true(tests: &[Test], row: &Row) -> bool
+    ensures { result ≡ list_all (is_true_in row.now) tests.now }
+{
+    tests.iter().all(|test| test.is_true(row))
+}

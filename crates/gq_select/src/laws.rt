@@ -1,0 +1,29 @@
+//! Laws: what the definitions come to, in the subject's own words. Each is the contract of a
+//! function that does nothing.
+ghost use Rattle.gq_select.specs.Laws.{AndIsOfTwo, TwoValuedWithoutNull, KeepsWhatIsTrue};
+ghost use Rattle.gq_select.specs.Laws.{ComparisonsAgree, NullHasNoMatch};
+
+/// Tests are joined as by SQL's table of `and`, two at a time.
+pub fn and_is_of_two()
+    ensures { AndIsOfTwo }
+{}
+
+/// A condition that compares no null is true or false.
+pub fn two_valued_without_null()
+    ensures { TwoValuedWithoutNull }
+{}
+
+/// A row is kept exactly where each test is true, and a comparison with null keeps none.
+pub fn keeps_what_is_true()
+    ensures { KeepsWhatIsTrue }
+{}
+
+/// Three comparisons are the opposites of the others, and equal values are those that are the same.
+pub fn comparisons_agree()
+    ensures { ComparisonsAgree }
+{}
+
+/// Null matches nothing, on either side; else a match is a row that has the key.
+pub fn null_has_no_match()
+    ensures { NullHasNoMatch }
+{}
