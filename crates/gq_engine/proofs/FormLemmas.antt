@@ -1,6 +1,6 @@
 -- The steps of drop, load and show, one after the other.
 use Rattle.std.proofs.Common.{◌≡◌, ◌⊎◌, inl, inr, ℕ, false, not, IsTrue, List, length, ap, ◌∙◌, Some, None}
-use Rattle.std.specs.Prelude.{Result, Ok, Err, remove}
+use Rattle.std.specs.Prelude.{Ok, Err, remove}
 use Rattle.gq_row.specs.declared.value.Value.{Value}
 use Rattle.gq_row.specs.declared.limits.Bounds.{Bounds}
 use Rattle.gq_row.specs.Tables.{PlainTable}
@@ -11,20 +11,13 @@ use Rattle.gq_reply.specs.declared.refusal.Refusal.TheVariants.{NoTable, Memory}
 use Rattle.gq_reply.specs.declared.refusal.Refused.{Refused}
 use Rattle.gq_reply.specs.declared.reply.Reply.TheVariants as reply
 use Rattle.gq_reply.specs.Refusals.{unnumbered}
-use Rattle.gq_engine.specs.Answers.{rows_shown}
+use Rattle.gq_query.specs.Answers.{rows_shown}
 use Rattle.gq_engine.specs.Databases.{Database, StandsAt, table_at, with_table, without_table, names_differ}
 use Rattle.gq_engine.specs.Loading.{bytes_told, is_lost, rows_told}
-use Rattle.gq_engine.specs.Outcomes.{◌>>=◌}
 use Rattle.gq_engine.specs.Refusing.{put_all_within}
 use Rattle.gq_engine.specs.Steps.{drop_table, with_rows, load_table, show_table}
 use Rattle.gq_engine.proofs.MapLemmas.{without_at}
-use Rattle.gq_engine.proofs.StepLemmas.{passes, finds, misses}
-
-pub gives : {A B : Type 0} (m : Result A Refused) (x : A) (f : A → Result B Refused) → m ≡ Ok x → (m >>= f) ≡ f x
-gives m x f e = ap (λ m. m >>= f) e
-
-pub stops : {A B : Type 0} (m : Result A Refused) (why : Refused) (f : A → Result B Refused) → m ≡ Err why → (m >>= f) ≡ Err why
-stops m why f e = ap (λ m. m >>= f) e
+use Rattle.gq_reply.proofs.StepLemmas.{passes, finds, misses, gives, stops}
 
 module _ (db : Database) (name : List ℕ) where
   pub drop_takes : (table : PlainTable) → table_at db name ≡ Some table → drop_table db name ≡ Ok (without_table db name, reply.Done 0)

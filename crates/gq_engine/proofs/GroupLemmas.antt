@@ -1,41 +1,117 @@
--- The different keys of rows, one row after the other.
-use Rattle.std.proofs.Common.{◌≡◌, ◌≤◌, ℕ, true, false, cond, List, [], ◌∷◌, ◌++◌, length, refl, sym, ap, ◌∙◌, arith, not, append_assoc}
-use Rattle.std.specs.List.{list_any}
-use Rattle.std.proofs.lemmas.List.Filters.{length-filter_both}
-use Rattle.std.proofs.lemmas.List.{append-nil}
+-- Groups and different values: what a plan comes to, and what its grouping.
+use Rattle.std.proofs.Common.{◌≡◌, ◌⊎◌, inl, inr, ◌<◌, ℕ, Bool, true, List, [], ◌∷◌, length, refl, sym, ap, subst, ◌∙◌, Option, Some, None, arith}
+use Rattle.std.specs.Prelude.{Result, Ok, Err}
+use Rattle.gq_row.specs.declared.limits.Bounds.{Bounds}
 use Rattle.gq_row.specs.declared.value.Value.{Value}
-use Rattle.gq_row.specs.Order.{same_key}
-use Rattle.gq_row.specs.Rows.{key_of}
-use Rattle.gq_row.specs.Tables.{keys, of_key}
-use Rattle.gq_row.proofs.TableLemmas.{keys-push}
+use Rattle.gq_row.specs.Tables.{PlainTable}
+use Rattle.gq_command.specs.Commands.{Bytes, is_command}
+use Rattle.gq_clause.specs.declared.condition.Test.{Test}
+use Rattle.gq_command.specs.declared.command.Command.TheVariants.{Group, Distinct}
+use Rattle.gq_reply.specs.declared.refusal.Refusal.TheVariants.{NoTable, SumRange, Memory}
+use Rattle.gq_reply.specs.declared.refusal.Refused.{Refused}
+use Rattle.gq_reply.specs.declared.reply.Reply.{Reply}
+use Rattle.gq_reply.specs.declared.reply.Reply.TheVariants as reply
+use Rattle.gq_reply.specs.Outcomes.{◌>>=◌, some_or}
+use Rattle.gq_reply.specs.Refusals.{unnumbered}
+use Rattle.gq_reply.proofs.StepLemmas.{finds, gives, misses, stops}
+use Rattle.gq_query.specs.Selecting.{other_columns}
+use Rattle.gq_plan.specs.declared.clauses.GroupClauses.{GroupClauses}
+use Rattle.gq_plan.specs.declared.plan.GroupPlan.{GroupPlan}
+use Rattle.gq_plan.specs.declared.plan.DistinctPlan.{DistinctPlan}
+use Rattle.gq_plan.specs.Headers.{group_header}
+use Rattle.gq_plan.specs.Plans.{distinct_plan, group_plan}
+use Rattle.gq_engine.specs.Databases.{Database, table_at}
+use Rattle.gq_engine.specs.Runs.{IsGrouped, FaultsHappened}
+use Rattle.gq_engine.specs.Serving.{Comes, ComesOver, Plainly, StoreFails, StoreLies, GroupsOver, reply_of}
+use Rattle.gq_engine.specs.Steps.{Outcome, distinct, group, keys_planned, other_in, rows_planned, settle}
+use Rattle.gq_engine.proofs.OrderLemmas.{same_tables}
+use Rattle.gq_engine.proofs.StepLemmas.{carries}
+use Rattle.gq_engine.proofs.StoreLemmas.{plain_faults}
 
--- the keys that are known, and those of further rows that are not
-abbrev pub keys_with : List ℕ → List (List Value) → List (List Value) → List (List Value)
-keys_with columns known [] = known
-keys_with columns known (row ∷ rows) = keys_with columns (cond (list_any (λ key. same_key (key_of columns row) key) known) known (known ++ key_of columns row ∷ [])) rows
+abbrev Rows : Type 0
+Rows = List (List Value)
 
-keys_with-more : (columns : List ℕ) (done rows : List (List Value)) → keys_with columns (keys columns done) rows ≡ keys columns (done ++ rows)
-keys_with-more columns done [] = ap (keys columns) (sym (append-nil done))
-keys_with-more columns done (row ∷ rows) =
-    ap (λ known. keys_with columns known rows) (sym (keys-push columns done row))
-    ∙ keys_with-more columns (done ++ row ∷ []) rows
-    ∙ ap (keys columns) (append_assoc done (row ∷ []) rows)
+ok≢err : {X E : Type 0} (x : X) (e : E) → ◌≡◌ {A = Result X E} (Ok x) (Err e) → ⊥
+ok≢err x e h = cc
 
--- one more row, whose key is known
-pub keys_with-known : (columns : List ℕ) (known all : List (List Value)) (row : List Value) (rest : List (List Value)) → all ≡ row ∷ rest → list_any (λ key. same_key (key_of columns row) key) known ≡ true
-    → keys_with columns known rest ≡ keys_with columns known all
-keys_with-known columns known all row rest e h =
-    sym (ap (keys_with columns known) e ∙ ap (λ b. keys_with columns (cond b known (known ++ key_of columns row ∷ [])) rest) h)
+-- steps that end in the rows of a grouping
+module _ (db : Database) (honest : Bool) (steps : Outcome) (due : List Bytes) (answer : Option Rows) (are : steps ≡ (some_or SumRange answer >>= λ rows. Ok (db, reply.Rows due rows))) where
+  -- they get as far as grouping
+  reached : IsGrouped (settle db steps).1
+  reached = subst (λ (s : Outcome). IsGrouped (settle db s).1) (sym are) (by-rows answer)
+    where
+      by-rows : (o : Option Rows) → IsGrouped (settle db (some_or SumRange o >>= λ rows. Ok (db, reply.Rows due rows))).1
+      by-rows None = refl
+      by-rows (Some rows) = tt
 
--- one more row, whose key is new
-pub keys_with-new : (columns : List ℕ) (known all : List (List Value)) (row : List Value) (rest : List (List Value)) → all ≡ row ∷ rest → list_any (λ key. same_key (key_of columns row) key) known ≡ false
-    → keys_with columns (known ++ key_of columns row ∷ []) rest ≡ keys_with columns known all
-keys_with-new columns known all row rest e h =
-    sym (ap (keys_with columns known) e ∙ ap (λ b. keys_with columns (cond b known (known ++ key_of columns row ∷ [])) rest) h)
+  pub shown_over : (header : List Bytes) (rows : Rows) → header ≡ due → GroupsOver honest (some_or SumRange answer) (Ok rows) → ComesOver true honest steps (Ok (reply.Rows header rows)) db db
+  shown_over header rows h (inl e) =
+      Plainly (carries steps (reply.Rows header rows) db db
+      (are ∙ gives (some_or SumRange answer) rows _ (sym e) ∙ ap (λ (l : List Bytes). Ok (db, reply.Rows l rows)) (sym h))
+      (same_tables db))
+  shown_over header rows h (inr (inl e)) = absurd (ok≢err rows _ e)
+  shown_over header rows h (inr (inr (inl e))) = absurd (ok≢err rows _ e)
+  shown_over header rows h (inr (inr (inr lied))) = StoreLies refl reached (same_tables db) lied
 
-pub keys_with-all : (columns : List ℕ) (rows : List (List Value)) → keys_with columns [] rows ≡ keys columns rows
-keys_with-all columns rows = keys_with-more columns [] rows
+  pub refused_over : (why : Refused) → GroupsOver honest (some_or SumRange answer) (Err why) → ComesOver true honest steps (Err why) db db
+  refused_over why (inl e) = Plainly (same_tables db, inr (are ∙ stops (some_or SumRange answer) why _ (sym e)))
+  refused_over why (inr (inl e)) = let it : why ≡ unnumbered Memory = cc in Plainly (same_tables db, inl it)
+  refused_over why (inr (inr (inl e))) = StoreFails refl reached (same_tables db) (ap told_as e)
+    where
+      told_as : Result Rows Refused → Result Reply Refused
+      told_as (Ok rows) = Ok (reply.Rows [] rows)
+      told_as (Err w) = Err w
+  refused_over why (inr (inr (inr lied))) = StoreLies refl reached (same_tables db) lied
 
--- no more rows have a key than there are
-pub few_of_key : (columns : List ℕ) (rows : List (List Value)) (key : List Value) → length (of_key columns rows key) ≤ length rows
-few_of_key columns rows key = omega (arith, length-filter_both (λ row. same_key (key_of columns row) key) (λ row. not (same_key (key_of columns row) key)) (λ row. refl) rows)
+module _ (db : Database) (name : Bytes) (clauses : GroupClauses) where
+  pub group_none : table_at db name ≡ None → group db name clauses ≡ Err (unnumbered NoTable)
+  group_none h = misses NoTable (table_at db name) _ h
+
+  module _ (table : PlainTable) (found : table_at db name ≡ Some table) where
+    pub group_alone : (why : Refused) → other_in db clauses.exists ≡ Err why → group db name clauses ≡ Err why
+    group_alone why h = finds NoTable (table_at db name) table _ found ∙ stops (other_in db clauses.exists) why _ h
+
+    module _ (other : Option PlainTable) (there : other_in db clauses.exists ≡ Ok other) where
+      group_unplanned : (why : Refused) → group_plan table.heading.columns (other_columns other) clauses ≡ Err why → group db name clauses ≡ Err why
+      group_unplanned why h =
+          finds NoTable (table_at db name) table _ found ∙ gives (other_in db clauses.exists) other _ there ∙ stops (group_plan table.heading.columns (other_columns other) clauses) why _ h
+
+      pub plan_comes : (why : Refused) → (why ≡ unnumbered Memory) ⊎ (group_plan table.heading.columns (other_columns other) clauses ≡ Err why) → Comes (group db name clauses) (Err why) db db
+      plan_comes why (inl e) = (same_tables db, inl e)
+      plan_comes why (inr e) = (same_tables db, inr (group_unplanned why e))
+
+      pub group_planned : (plan : GroupPlan) → group_plan table.heading.columns (other_columns other) clauses ≡ Ok plan
+          → group db name clauses ≡ (some_or SumRange (rows_planned plan table other) >>= λ rows. Ok (db, reply.Rows (group_header clauses.by clauses.shown) rows))
+      group_planned plan told =
+          finds NoTable (table_at db name) table _ found ∙ gives (other_in db clauses.exists) other _ there ∙ gives (group_plan table.heading.columns (other_columns other) clauses) plan _ told
+
+  -- as long as the store isn't asked, no failure of it is told
+  pub group_faults : (limits : Bounds) (result : Result Reply Refused) (failures : ℕ) → Comes (group db name clauses) result db db → FaultsHappened (reply_of result ∷ []) failures failures
+  group_faults limits result failures h = plain_faults limits db (Group name clauses.by clauses.shown clauses.tests clauses.exists clauses.having) result db failures failures h refl
+
+module _ (db : Database) (name : Bytes) (on : List Bytes) (tests : List Test) where
+  pub distinct_none : table_at db name ≡ None → distinct db name on tests ≡ Err (unnumbered NoTable)
+  distinct_none h = misses NoTable (table_at db name) _ h
+
+  module _ (table : PlainTable) (found : table_at db name ≡ Some table) where
+    distinct_unplanned : (why : Refused) → distinct_plan table.heading.columns on tests ≡ Err why → distinct db name on tests ≡ Err why
+    distinct_unplanned why h = finds NoTable (table_at db name) table _ found ∙ stops (distinct_plan table.heading.columns on tests) why _ h
+
+    pub distinct_comes : (why : Refused) → (why ≡ unnumbered Memory) ⊎ (distinct_plan table.heading.columns on tests ≡ Err why) → Comes (distinct db name on tests) (Err why) db db
+    distinct_comes why (inl e) = (same_tables db, inl e)
+    distinct_comes why (inr e) = (same_tables db, inr (distinct_unplanned why e))
+
+    pub distinct_planned : (plan : DistinctPlan) → distinct_plan table.heading.columns on tests ≡ Ok plan
+        → distinct db name on tests ≡ (some_or SumRange (Some (keys_planned plan table)) >>= λ rows. Ok (db, reply.Rows on rows))
+    distinct_planned plan told = finds NoTable (table_at db name) table _ found ∙ gives (distinct_plan table.heading.columns on tests) plan _ told
+
+  pub distinct_faults : (limits : Bounds) (result : Result Reply Refused) (failures : ℕ) → Comes (distinct db name on tests) result db db → FaultsHappened (reply_of result ∷ []) failures failures
+  distinct_faults limits result failures h = plain_faults limits db (Distinct name on tests) result db failures failures h refl
+
+  -- a line names a column
+  pub some_on : is_command (Distinct name on tests) ≡ true → 0 < length on
+  some_on h = by-names on h
+    where
+      by-names : (names : List Bytes) → is_command (Distinct name names tests) ≡ true → 0 < length names
+      by-names [] e = let none : ⊥ = cc in absurd none
+      by-names (n ∷ ns) e = omega arith

@@ -1,5 +1,5 @@
 -- The order of rows within tables is unseen.
-use Rattle.std.proofs.Common.{◌≡◌, ℕ, zero, set, inl, inr, Bool, true, false, cond, not, IsTrue, List, [], ◌∷◌, ◌++◌, length, map, refl, sym, ap, subst, ◌∙◌, Option, Some, None, IsPermutation, true≢false}
+use Rattle.std.proofs.Common.{◌≡◌, ℕ, zero, set, inl, inr, Bool, true, false, cond, not, IsTrue, List, [], ◌∷◌, ◌++◌, length, refl, sym, ap, subst, ◌∙◌, Option, Some, None, IsPermutation, true≢false}
 use Rattle.std.specs.Prelude.{bytes_eq, nat_lt, nat_le, is_some, suc, Result, Ok, Err, ◌⊎◌, if◌then◌else◌}
 use Rattle.std.specs.List.{list_any}
 use Rattle.std.proofs.lemmas.List.Sorted.{IsPermutation-refl, IsPermutation-sym, IsPermutation-trans, length_permutation, list_any-IsPermutation}
@@ -8,38 +8,43 @@ use Rattle.gq_row.specs.declared.schema.Column.{Column}
 use Rattle.gq_row.specs.declared.limits.Bounds.{Bounds}
 use Rattle.gq_row.specs.Headings.{Heading, positions_of}
 use Rattle.gq_row.specs.Order.{same_key}
-use Rattle.gq_row.specs.Ordered.{in_order}
-use Rattle.gq_row.specs.Repeats.{no_repeats}
 use Rattle.gq_row.specs.Rows.{cell, key_of}
-use Rattle.gq_row.specs.Tables.{PlainTable, keys_differ, put, put_all, delete, has_row, keys, of_key}
-use Rattle.gq_row.proofs.ArrangeLemmas.{in_order-alone, in_order-permutation, in_order-sorted, in_order-same_rows, in_order-same_rows_by_row}
-use Rattle.gq_row.proofs.DistinctLemmas.{no_repeats-without}
-use Rattle.gq_row.proofs.MovedLemmas.{IsPermutation-filter, keys-permutation, of_key-permutation, put-same_rows}
+use Rattle.gq_row.specs.Tables.{PlainTable, keys_differ, put, put_all, delete, has_row}
+use Rattle.gq_row.proofs.MovedLemmas.{IsPermutation-filter, put-same_rows}
 use Rattle.gq_row.proofs.OrderLemmas.{same_key_equiv, same_key_exact}
 use Rattle.gq_row.proofs.TableLemmas.{keys_differ-put}
 use Rattle.gq_table.proofs.StandingLemmas.{keys_differ-delete}
 use Rattle.gq_command.specs.Commands.{Bytes, column_names, some}
+use Rattle.gq_clause.specs.declared.condition.Test.{Test}
 use Rattle.gq_command.specs.declared.command.Command.{Command}
 use Rattle.gq_command.specs.declared.command.Command.TheVariants.{Create, Drop, Load, Upsert, Delete, Show, Group, Distinct}
+use Rattle.gq_command.specs.declared.command.Exists.{Exists}
 use Rattle.gq_command.specs.declared.command.Payload.{Payload}
 use Rattle.gq_command.specs.declared.command.Payload.TheVariants as payload
 use Rattle.gq_command.specs.declared.reader.Item.{Item}
 use Rattle.gq_command.specs.declared.reader.Item.TheVariants as item
 use Rattle.gq_reply.specs.declared.refusal.Refusal.{Refusal}
-use Rattle.gq_reply.specs.declared.refusal.Refusal.TheVariants.{TypeMismatch, NoKey, NullKey, Limit, TableExists, NoColumn, NoTable, Memory}
+use Rattle.gq_reply.specs.declared.refusal.Refusal.TheVariants.{TypeMismatch, NoKey, NullKey, Limit, TableExists, NoColumn, NoTable, SumRange, Memory}
 use Rattle.gq_reply.specs.declared.refusal.Refused.{Refused}
 use Rattle.gq_reply.specs.declared.reply.Reply.{Reply}
 use Rattle.gq_reply.specs.declared.reply.Reply.TheVariants as reply
-use Rattle.gq_engine.specs.Answers.{count_row, counted_groups, ordered_by, rows_shown}
+use Rattle.gq_query.specs.Answers.{rows_shown}
+use Rattle.gq_query.specs.Selecting.{other_columns, other_rows}
+use Rattle.gq_query.proofs.Unseen.{order_is_unseen}
+use Rattle.gq_plan.specs.declared.clauses.GroupClauses.{GroupClauses}
+use Rattle.gq_plan.specs.declared.plan.GroupPlan.{GroupPlan}
+use Rattle.gq_plan.specs.declared.plan.DistinctPlan.{DistinctPlan}
+use Rattle.gq_plan.specs.Headers.{group_header}
+use Rattle.gq_plan.specs.Plans.{distinct_plan, group_plan}
 use Rattle.gq_engine.specs.Databases.{Database, table_at, with_table, without_table, IsKeyed}
 use Rattle.gq_row.specs.Fitting.{fits_columns, is_null}
-use Rattle.gq_engine.specs.Outcomes.{◌>>=◌, some_or, true_or}
+use Rattle.gq_reply.specs.Outcomes.{◌>>=◌, some_or, true_or}
 use Rattle.gq_reply.specs.Refusals.{unnumbered, told, refused}
 use Rattle.gq_engine.specs.Loading.{is_lost, bytes_told, rows_told}
 use Rattle.gq_engine.specs.Refusing.{has_null_key, rows_with, put_within, put_all_within, fits_key}
 use Rattle.gq_engine.specs.Runs.{Setting, LegalAnswer, AsListsAnswer, WantsMemory, StoreFailed, StoreLied, SameTables, ReachesGrouping, IsGrouped, AnsweredAlike, AnsweredAsLists}
 use Rattle.gq_engine.specs.Serving.{CarriedOut, Comes, ComesSurely}
-use Rattle.gq_engine.specs.Steps.{Outcome, table_in, settle, outcome, step, create, drop_table, with_row, upsert, with_rows, load_table, delete_row, show_table, group_header, group}
+use Rattle.gq_engine.specs.Steps.{Outcome, table_in, settle, outcome, step, create, drop_table, with_row, upsert, with_rows, load_table, delete_row, show_table, group, distinct, other_in, rows_planned, keys_planned}
 use Rattle.gq_engine.specs.Orders.{StepsAlike, RunsAlike}
 
 -- ---- tables
@@ -50,39 +55,12 @@ Rows = List (List Value)
 abbrev table : Heading → Rows → PlainTable
 table h rows = record { heading = h; rows = rows }
 
-map_itself : {X : Type 0} (xs : List X) → map (λ x. x) xs ≡ xs
-map_itself [] = refl
-map_itself (x ∷ xs) = ap (λ l. x ∷ l) (map_itself xs)
-
--- the groups of the same rows in another order
-pub groups_alike : (by : List ℕ) (xs ys : Rows) → IsPermutation xs ys → counted_groups by xs ≡ counted_groups by ys
-groups_alike by xs ys moved =
-    (λ i. map (λ key. count_row key (counts key i)) (in_order (λ key. key) (keys by xs)))
-    ∙ ap (map (λ key. count_row key (length (of_key by ys key)))) ordered
-  where
-    counts : (key : List Value) → length (of_key by xs key) ≡ length (of_key by ys key)
-    counts key = sym (length_permutation _ _ (of_key-permutation by xs ys key moved))
-
-    differ : IsTrue (no_repeats same_key (map (λ key. key) (keys by ys)))
-    differ = subst (λ ks. IsTrue (no_repeats same_key ks)) (sym (map_itself (keys by ys))) (no_repeats-without same_key (map (key_of by) ys))
-
-    ordered : in_order (λ key. key) (keys by xs) ≡ in_order (λ key. key) (keys by ys)
-    ordered = in_order-alone (λ key. key) (keys by ys) (in_order (λ key. key) (keys by xs)) differ (record {
-      same_rows = IsPermutation-trans _ _ _ (IsPermutation-sym _ _ (keys-permutation by xs ys moved)) (in_order-permutation (λ key. key) (keys by xs));
-      ascending = in_order-sorted (λ key. key) (keys by xs);
-    })
-
--- the rows shown of the same rows in another order
-shown_alike : (key : List ℕ) (xs ys : Rows) → IsTrue (keys_differ key xs) → IsPermutation xs ys → in_order (ordered_by key) xs ≡ in_order (ordered_by key) ys
-shown_alike [] xs ys differ moved = sym (in_order-same_rows_by_row xs ys moved)
-shown_alike (column ∷ columns) xs ys differ moved = sym (in_order-same_rows (key_of (column ∷ columns)) xs ys differ moved)
-
 -- rows put into the same rows in another order
 put_all-same_rows : (key : List ℕ) (xs ys new : Rows) → IsTrue (keys_differ key xs) → IsPermutation xs ys → IsPermutation (put_all key xs new) (put_all key ys new)
 put_all-same_rows key xs ys [] differ moved = moved
 put_all-same_rows key xs ys (row ∷ new) differ moved = put_all-same_rows key (put key xs row) (put key ys row) new (keys_differ-put key xs row differ) (put-same_rows key xs ys row differ moved)
 
-keys_differ-put_all : (key : List ℕ) (xs new : Rows) → IsTrue (keys_differ key xs) → IsTrue (keys_differ key (put_all key xs new))
+pub keys_differ-put_all : (key : List ℕ) (xs new : Rows) → IsTrue (keys_differ key xs) → IsTrue (keys_differ key (put_all key xs new))
 keys_differ-put_all key xs [] differ = differ
 keys_differ-put_all key xs (row ∷ new) differ = keys_differ-put_all key (put key xs row) new (keys_differ-put key xs row differ)
 
@@ -264,6 +242,19 @@ delete_alike s t key h = record {
   keyed = keys_differ-delete s.heading.key s.rows key h.keyed;
 }
 
+-- the columns and the rows of a table, if there is one
+others_columns : (o p : Option PlainTable) → Alike o p → other_columns o ≡ other_columns p
+others_columns None None h = refl
+others_columns None (Some t) h = absurd h
+others_columns (Some s) None h = absurd h
+others_columns (Some s) (Some t) h = ap (λ (g : Heading). g.columns) h.heading
+
+others_rows : (o p : Option PlainTable) → Alike o p → IsPermutation (other_rows o) (other_rows p)
+others_rows None None h = IsPermutation-refl []
+others_rows None (Some t) h = absurd h
+others_rows (Some s) None h = absurd h
+others_rows (Some s) (Some t) h = h.rows
+
 -- databases that differ only in the order of rows, where no two rows of a table have the same key
 pub record AlikeTablesOf (a b : Database) : Type 0 where
   pub same : SameTables a b
@@ -359,17 +350,38 @@ module _ (limits : Bounds) (a b : Database) (k : IsKeyed a) (same : SameTables a
       then_alike AlikeTables Alikes (table_in a name) (table_in b name) _ _ (table_alike name)
       (λ s t h. record {
         reply = ap (λ (g : Heading). reply.Rows (column_names g.columns) (rows_shown s)) h.heading
-            ∙ ap (reply.Rows (column_names t.heading.columns)) (shown_alike s.heading.key s.rows t.rows h.keyed h.rows ∙ ap (λ (g : Heading). in_order (ordered_by g.key) t.rows) h.heading);
+            ∙ ap (reply.Rows (column_names t.heading.columns)) (order_is_unseen.listed s t h.heading h.keyed h.rows);
         same = same;
         keyed = k;
       })
 
-  group_alike : (name : List ℕ) (by : List (List ℕ)) → AlikeBy Alikes (group a name by) (group b name by)
-  group_alike name by =
+  other_alike : (exists : Option Exists) → AlikeBy Alike (other_in a exists) (other_in b exists)
+  other_alike None = tt
+  other_alike (Some exists) = then_alike AlikeTables Alike (table_in a exists.table) (table_in b exists.table) _ _ (table_alike exists.table) (λ s t h. h)
+
+  group_alike : (name : List ℕ) (clauses : GroupClauses) → AlikeBy Alikes (group a name clauses) (group b name clauses)
+  group_alike name clauses =
       then_alike AlikeTables Alikes (table_in a name) (table_in b name) _ _ (table_alike name)
-      (λ s t h. then_alike (λ (c d : List ℕ). c ≡ d) Alikes (some_or NoColumn (positions_of s.heading.columns by)) (some_or NoColumn (positions_of t.heading.columns by)) _ _
-      (some_alike NoColumn _ _ (ap (λ (g : Heading). positions_of g.columns by) h.heading))
-      (λ c d e. record { reply = ap (reply.Rows (group_header by)) (groups_alike c s.rows t.rows h.rows ∙ ap (λ l. counted_groups l t.rows) e); same = same; keyed = k }))
+      (λ s t h. then_alike Alike Alikes (other_in a clauses.exists) (other_in b clauses.exists) _ _ (other_alike clauses.exists)
+      (λ u v o. then_alike (λ (c d : GroupPlan). c ≡ d) Alikes (group_plan s.heading.columns (other_columns u) clauses) (group_plan t.heading.columns (other_columns v) clauses) _ _
+      (same_alike _ _ (ap (λ (g : Heading). group_plan g.columns (other_columns u) clauses) h.heading ∙ ap (λ (l : List Column). group_plan t.heading.columns l clauses) (others_columns u v o)))
+      (λ c d e. then_alike (λ (xs ys : Rows). xs ≡ ys) Alikes (some_or SumRange (rows_planned c s u)) (some_or SumRange (rows_planned d t v)) _ _
+      (some_alike SumRange _ _ (order_is_unseen.grouped c.by c.shown c.having.tests c.condition.tests c.matching (other_rows u) (other_rows v) s.rows t.rows (others_rows u v o) h.rows
+      ∙ ap (λ (k : GroupPlan). rows_planned k t v) e))
+      (λ xs ys f. record { reply = ap (reply.Rows (group_header clauses.by clauses.shown)) f; same = same; keyed = k }))))
+
+  distinct_alike : (name : List ℕ) (on : List Bytes) (tests : List Test) → AlikeBy Alikes (distinct a name on tests) (distinct b name on tests)
+  distinct_alike name on tests =
+      then_alike AlikeTables Alikes (table_in a name) (table_in b name) _ _ (table_alike name)
+      (λ s t h. then_alike (λ (c d : DistinctPlan). c ≡ d) Alikes (distinct_plan s.heading.columns on tests) (distinct_plan t.heading.columns on tests) _ _
+      (same_alike _ _ (ap (λ (g : Heading). distinct_plan g.columns on tests) h.heading))
+      (λ c d e. record {
+        reply = ap (reply.Rows on)
+            (order_is_unseen.told_apart c.on c.condition.tests None [] [] s.rows t.rows (IsPermutation-refl []) h.rows
+            ∙ ap (λ (k : DistinctPlan). keys_planned k t) e);
+        same = same;
+        keyed = k;
+      }))
 
   command_alike : (c : Command) → AlikeBy Alikes (outcome limits a c) (outcome limits b c)
   command_alike (Create name columns key) = create_alike name columns key
@@ -378,8 +390,8 @@ module _ (limits : Bounds) (a b : Database) (k : IsKeyed a) (same : SameTables a
   command_alike (Upsert name values) = upsert_alike name values
   command_alike (Delete name values) = deleted_alike name values
   command_alike (Show name) = show_alike name
-  command_alike (Group name by shown tests exists having) = group_alike name by
-  command_alike (Distinct name on tests) = refl
+  command_alike (Group name by shown tests exists having) = group_alike name (record { by = by; shown = shown; tests = tests; exists = exists; having = having })
+  command_alike (Distinct name on tests) = distinct_alike name on tests
 
   settled_alike : (p q : Outcome) → AlikeBy Alikes p q → Alikes (settle a p) (settle b q)
   settled_alike (Ok x) (Ok y) h = h

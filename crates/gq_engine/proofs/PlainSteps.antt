@@ -9,24 +9,31 @@ use Rattle.gq_row.specs.Tables.{PlainTable, put_all}
 use Rattle.gq_load.specs.Payloads.{load}
 use Rattle.gq_load.specs.declared.load_refusal.LoadRefusal.{LoadRefusal}
 use Rattle.gq_load.specs.declared.load_refusal.LoadRefusal.TheVariants as fault
-use Rattle.gq_command.specs.Commands.{some}
+use Rattle.gq_command.specs.Commands.{Bytes, some}
+use Rattle.gq_command.specs.declared.command.Exists.{Exists}
 use Rattle.gq_command.specs.declared.command.Payload.{Payload}
 use Rattle.gq_command.specs.declared.command.Payload.TheVariants as payload
+use Rattle.gq_clause.specs.declared.condition.Test.{Test}
 use Rattle.gq_command.specs.declared.command.Command.{Command}
 use Rattle.gq_command.specs.declared.command.Command.TheVariants.{Create, Drop, Load, Upsert, Delete, Show, Group, Distinct}
 use Rattle.gq_reply.specs.declared.refusal.Refusal.{Refusal}
-use Rattle.gq_reply.specs.declared.refusal.Refusal.TheVariants.{TypeMismatch, NoKey, NullKey, Limit, TableExists, NoColumn, NoTable, Memory}
+use Rattle.gq_reply.specs.declared.refusal.Refusal.TheVariants.{TypeMismatch, NoKey, NullKey, Limit, TableExists, NoColumn, NoTable, SumRange, Memory}
 use Rattle.gq_reply.specs.declared.refusal.Refused.{Refused}
 use Rattle.gq_reply.specs.declared.reply.Reply.{Reply}
+use Rattle.gq_query.specs.Selecting.{other_columns}
+use Rattle.gq_plan.specs.declared.clauses.GroupClauses.{GroupClauses}
+use Rattle.gq_plan.specs.Kinds.{kinds_of, tests_fit}
+use Rattle.gq_plan.specs.Places.{all_placed, all_shown, in_result, in_row}
+use Rattle.gq_plan.specs.Plans.{distinct_named, distinct_plan, group_fits, group_named, group_plan, matching_named}
 use Rattle.gq_engine.specs.Databases.{Database, table_at}
 use Rattle.std.specs.List.{list_any}
 use Rattle.gq_row.specs.Fitting.{fits_columns, is_null}
-use Rattle.gq_engine.specs.Outcomes.{◌>>=◌, some_or, true_or}
+use Rattle.gq_reply.specs.Outcomes.{◌>>=◌, some_or, true_or}
 use Rattle.gq_reply.specs.Refusals.{told, unnumbered}
 use Rattle.gq_engine.specs.Refusing.{has_null_key, rows_with, put_within, put_all_within, fits_key}
 use Rattle.gq_engine.specs.Loading.{is_lost, bytes_told, fault_refusal, refused_by, rows_told}
 use Rattle.gq_engine.specs.Runs.{is_store_fault}
-use Rattle.gq_engine.specs.Steps.{table_in, outcome, create, drop_table, with_row, upsert, with_rows, load_table, delete_row, show_table, group}
+use Rattle.gq_engine.specs.Steps.{table_in, outcome, create, drop_table, with_row, upsert, with_rows, load_table, delete_row, show_table, group, distinct, other_in, rows_planned}
 
 -- steps whose refusal is no failure of the run store
 abbrev Refuses : {X : Type 0} → (X → Bool) → Result X Refused → Type 0
@@ -115,10 +122,47 @@ module _ (limits : Bounds) (db : Database) where
   show_refuses : (name : List ℕ) → Refuses faulty (show_table db name)
   show_refuses name = then_refuses never faulty (table_in db name) _ (some_refuses NoTable _ refl) (λ _. refl)
 
-  group_refuses : (name : List ℕ) (by : List (List ℕ)) → Refuses faulty (group db name by)
-  group_refuses name by =
+  named_refuses : {X : Type 0} (o : Option X) → Refuses never (some_or NoColumn o)
+  named_refuses o = some_refuses NoColumn o refl
+
+  matching_refuses : (columns others : List Column) (exists : Option Exists) → Refuses never (matching_named columns others exists)
+  matching_refuses columns others None = refl
+  matching_refuses columns others (Some exists) =
+      then_refuses never never (some_or NoColumn (positions_of others exists.theirs)) _ (named_refuses _)
+      (λ theirs. then_refuses never never (some_or NoColumn (positions_of columns exists.ours)) _ (named_refuses _) (λ _. refl))
+
+  group_plan_refuses : (columns others : List Column) (clauses : GroupClauses) → Refuses never (group_plan columns others clauses)
+  group_plan_refuses columns others clauses =
+      then_refuses never never (group_named columns others clauses) _
+      (then_refuses never never (some_or NoColumn (positions_of columns clauses.by)) _ (named_refuses _)
+      (λ by. then_refuses never never (some_or NoColumn (all_shown columns clauses.shown)) _ (named_refuses _)
+      (λ shown. then_refuses never never (some_or NoColumn (all_placed (in_row columns) clauses.tests)) _ (named_refuses _)
+      (λ tests. then_refuses never never (matching_named columns others clauses.exists) _ (matching_refuses columns others clauses.exists)
+      (λ matching. then_refuses never never (some_or NoColumn (all_placed (in_result clauses.by clauses.shown) clauses.having)) _ (named_refuses _) (λ _. refl))))))
+      (λ plan. then_refuses never never (true_or TypeMismatch (group_fits columns others plan)) _ (test_refuses TypeMismatch _ refl) (λ _. refl))
+
+  other_refuses : (exists : Option Exists) → Refuses never (other_in db exists)
+  other_refuses None = refl
+  other_refuses (Some exists) = then_refuses never never (table_in db exists.table) _ (some_refuses NoTable _ refl) (λ _. refl)
+
+  group_refuses : (name : List ℕ) (clauses : GroupClauses) → Refuses faulty (group db name clauses)
+  group_refuses name clauses =
       then_refuses never faulty (table_in db name) _ (some_refuses NoTable _ refl)
-      (λ table. then_refuses never faulty (some_or NoColumn (positions_of table.heading.columns by)) _ (some_refuses NoColumn _ refl) (λ _. refl))
+      (λ table. then_refuses never faulty (other_in db clauses.exists) _ (other_refuses clauses.exists)
+      (λ other. then_refuses never faulty (group_plan table.heading.columns (other_columns other) clauses) _ (group_plan_refuses table.heading.columns (other_columns other) clauses)
+      (λ plan. then_refuses never faulty (some_or SumRange (rows_planned plan table other)) _ (some_refuses SumRange _ refl) (λ _. refl))))
+
+  distinct_plan_refuses : (columns : List Column) (on : List Bytes) (tests : List Test) → Refuses never (distinct_plan columns on tests)
+  distinct_plan_refuses columns on tests =
+      then_refuses never never (distinct_named columns on tests) _
+      (then_refuses never never (some_or NoColumn (positions_of columns on)) _ (named_refuses _)
+      (λ places. then_refuses never never (some_or NoColumn (all_placed (in_row columns) tests)) _ (named_refuses _) (λ _. refl)))
+      (λ plan. then_refuses never never (true_or TypeMismatch (tests_fit (kinds_of columns) plan.condition.tests)) _ (test_refuses TypeMismatch _ refl) (λ _. refl))
+
+  distinct_refuses : (name : List ℕ) (on : List Bytes) (tests : List Test) → Refuses faulty (distinct db name on tests)
+  distinct_refuses name on tests =
+      then_refuses never faulty (table_in db name) _ (some_refuses NoTable _ refl)
+      (λ table. then_refuses never faulty (distinct_plan table.heading.columns on tests) _ (distinct_plan_refuses table.heading.columns on tests) (λ _. refl))
 
   command_refuses : (c : Command) → Refuses faulty (outcome limits db c)
   command_refuses (Create name columns key) = create_refuses name columns key
@@ -127,8 +171,8 @@ module _ (limits : Bounds) (db : Database) where
   command_refuses (Upsert name values) = upsert_refuses name values
   command_refuses (Delete name values) = delete_refuses name values
   command_refuses (Show name) = show_refuses name
-  command_refuses (Group name by shown tests exists having) = group_refuses name by
-  command_refuses (Distinct name on tests) = refl
+  command_refuses (Group name by shown tests exists having) = group_refuses name (record { by = by; shown = shown; tests = tests; exists = exists; having = having })
+  command_refuses (Distinct name on tests) = distinct_refuses name on tests
 
   pub done_tells : (c : Command) (last : Database) (answer : Reply) → outcome limits db c ≡ Ok (last, answer) → is_store_fault answer ≡ false
   done_tells c last answer e = subst (Refuses faulty) e (command_refuses c)

@@ -18,8 +18,9 @@ use Rattle.gq_table.specs.declared.refusal.TableRefusal.{TableRefusal}
 use Rattle.gq_table.specs.declared.refusal.TableRefusal.TheVariants as untaken
 use Rattle.gq_table.specs.Changes.{IsPut, IsLoaded}
 use Rattle.gq_table.specs.Refusing.{row_refusal, load_refusal, WhyNotPut, WhyNotLoaded}
+use Rattle.gq_reply.proofs.StepLemmas.{finds}
 use Rattle.gq_engine.specs.Databases.{Database, IsKeyed, names_differ, table_at, with_table, without_table, StandsAt}
-use Rattle.gq_engine.specs.Outcomes.{◌>>=◌, true_or}
+use Rattle.gq_reply.specs.Outcomes.{◌>>=◌, true_or}
 use Rattle.gq_engine.specs.Refusing.{rows_with, put_within, put_all_within, fits_key, key_within, table_refusal}
 use Rattle.gq_engine.specs.Runs.{SameTables}
 use Rattle.gq_engine.specs.Serving.{Changes, Settles, Takes, HasRows, Deletes, deleted}
@@ -27,7 +28,6 @@ use Rattle.gq_engine.specs.Steps.{Outcome, table_in, delete_row, drop_table}
 use Rattle.gq_engine.proofs.FormLemmas.{dropped_at, drop_takes}
 use Rattle.gq_engine.proofs.MapLemmas.{differ_without}
 use Rattle.gq_engine.proofs.OrderLemmas.{same_tables, without_keyed}
-use Rattle.gq_engine.proofs.StepLemmas.{finds}
 
 abbrev Rows : Type 0
 Rows = List (List Value)

@@ -23,15 +23,15 @@ use Rattle.gq_reply.specs.declared.refusal.Refused.{Refused}
 use Rattle.gq_reply.specs.declared.reply.Reply.{Reply}
 use Rattle.gq_reply.specs.declared.reply.Reply.TheVariants as reply
 use Rattle.gq_reply.specs.Refusals.{unnumbered}
+use Rattle.gq_reply.proofs.StepLemmas.{gives, passes, fails, finds}
 use Rattle.gq_engine.specs.Databases.{Database, table_at, with_table}
 use Rattle.gq_engine.specs.Loading.{fault_refusal, refused_by}
 use Rattle.gq_engine.specs.Orders.{after_all, replies_to}
 use Rattle.gq_engine.specs.Refusing.{has_null_key, rows_with, put_within}
 use Rattle.gq_engine.specs.Steps.{Outcome, settle, step, load_table, with_row}
 use Rattle.gq_engine.specs.Upserting.{upserts, UpsertsOf, LoadIsUpserts}
-use Rattle.gq_engine.proofs.FormLemmas.{gives, load_none, load_faulty, load_refused, load_puts, rows_refused, rows_put}
+use Rattle.gq_engine.proofs.FormLemmas.{load_none, load_faulty, load_refused, load_puts, rows_refused, rows_put}
 use Rattle.gq_engine.proofs.MapLemmas.{itself, changed}
-use Rattle.gq_engine.proofs.StepLemmas.{passes, fails, finds}
 
 abbrev Rows : Type 0
 Rows = List (List Value)

@@ -14,10 +14,11 @@ use Rattle.gq_command.specs.declared.command.Command.{Command}
 use Rattle.gq_command.specs.declared.command.Command.TheVariants.{Create, Drop, Load, Upsert, Delete, Show, Group}
 use Rattle.gq_command.specs.declared.command.Payload.{Payload}
 use Rattle.gq_command.specs.declared.command.Payload.TheVariants as payload
-use Rattle.gq_command.specs.declared.command.Aggregate.TheVariants.{CountAll}
+use Rattle.gq_clause.specs.declared.aggregate.Aggregate.{Aggregate}
+use Rattle.gq_clause.specs.declared.aggregate.Aggregate.TheVariants.{CountAll, Count, CountDistinct, Sum, Min, Max}
 use Rattle.gq_command.specs.declared.reader.Item.TheVariants as item
 use Rattle.gq_command.specs.declared.lines.LineRefusal.TheVariants as line
-use Rattle.gq_reply.specs.declared.refusal.Refusal.TheVariants.{LineTooLong, NoTable, TableExists, NoColumn, TypeMismatch, NoKey, NullKey, Header, FieldCount, BadInt, BadText, Limit, Memory, LoadOpen}
+use Rattle.gq_reply.specs.declared.refusal.Refusal.TheVariants.{LineTooLong, NoTable, TableExists, NoColumn, TypeMismatch, NoKey, NullKey, Header, FieldCount, BadInt, BadText, SumRange, Limit, Memory, LoadOpen}
 use Rattle.gq_reply.specs.declared.reply.Reply.{Reply}
 use Rattle.gq_reply.specs.declared.reply.Reply.TheVariants as reply
 use Rattle.gq_engine.specs.Databases.{Database}
@@ -81,6 +82,27 @@ null_cities =
 
 nulls_are_one_group : answer GREATEST null_cities (group_s (codes "city" ∷ [])) ≡ reply.Rows (codes "city" ∷ codes "count(*)" ∷ []) ((Null ∷ Int (pos 3) ∷ []) ∷ (Text [] ∷ Int (pos 2) ∷ []) ∷ [])
 nulls_are_one_group = refl
+
+-- aggregates of groups, and of all rows
+abbrev aggregates_s : List (List ℕ) → List Aggregate → Command
+aggregates_s by shown = Group (codes "s") by shown [] None []
+
+no_rows_are_one_group : answer GREATEST empty_s (aggregates_s [] (CountAll ∷ Sum (codes "id") ∷ [])) ≡ reply.Rows (codes "count(*)" ∷ codes "sum(id)" ∷ []) ((Int (pos 0) ∷ Null ∷ []) ∷ [])
+no_rows_are_one_group = refl
+
+each_aggregate : answer GREATEST null_cities (aggregates_s (codes "city" ∷ []) (Sum (codes "id") ∷ CountDistinct (codes "city") ∷ Count (codes "city") ∷ Min (codes "id") ∷ Max (codes "id") ∷ []))
+    ≡ reply.Rows (codes "city" ∷ codes "sum(id)" ∷ codes "count(distinct city)" ∷ codes "count(city)" ∷ codes "min(id)" ∷ codes "max(id)" ∷ [])
+    ((Null ∷ Int (pos 6) ∷ Int (pos 0) ∷ Int (pos 0) ∷ Int (pos 1) ∷ Int (pos 3) ∷ []) ∷ (Text [] ∷ Int (pos 9) ∷ Int (pos 1) ∷ Int (pos 2) ∷ Int (pos 4) ∷ Int (pos 5) ∷ []) ∷ [])
+each_aggregate = refl
+
+sum_out_of_range : answer GREATEST (after GREATEST (after GREATEST empty_s (upsert_s (Int (pos 9223372036854775807)) Null)) (upsert_s (Int (pos 1)) Null)) (aggregates_s [] (Sum (codes "id") ∷ [])) ≡ refused SumRange
+sum_out_of_range = refl
+
+texts_are_not_summed : answer GREATEST empty_s (aggregates_s [] (Sum (codes "city") ∷ [])) ≡ refused TypeMismatch
+texts_are_not_summed = refl
+
+no_such_column_first : answer GREATEST empty_s (aggregates_s (codes "city" ∷ []) (Sum (codes "city") ∷ Min (codes "town") ∷ [])) ≡ refused NoColumn
+no_such_column_first = refl
 
 -- the refusals, each in its place
 no_table : answer GREATEST [] (group_s (codes "a" ∷ [])) ≡ refused NoTable

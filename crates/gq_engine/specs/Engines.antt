@@ -1,19 +1,21 @@
--- What a clause reads of an engine.
-use Rattle.std.specs.Prelude.{ℕ, true}
+-- What a clause reads of an engine; of its run store by what is known of stores of its type.
+use Rattle.std.specs.Prelude.{ℕ}
+use Rattle.gq_spill.specs.Runs.{Runs}
 use Rattle.gq_engine.specs.declared.engine.Engine.{Engine}
 use Rattle.gq_engine.specs.Databases.{Database}
 use Rattle.gq_engine.specs.Headline.{State}
 use Rattle.gq_engine.specs.Runs.{Setting}
 
-abbrev pub database : {H : Type 0} → Engine H → Database
+abbrev pub database : {H S : Type 0} → Engine H S → Database
 database engine = engine.catalog
 
--- an engine that keeps no runs has a store that never fails and never lies
-abbrev pub setting_of : {H : Type 0} → Engine H → Setting
-setting_of engine = record { limits = engine.limits.bounds; honest = true }
+-- its limits, and whether its store reads back what was written
+abbrev pub setting_of : {H S : Type 0} → (S → Runs) → Engine H S → Setting
+setting_of runs engine = record { limits = engine.limits.bounds; honest = (runs engine.store).honest }
 
-abbrev pub failures_of : {H : Type 0} → Engine H → ℕ
-failures_of engine = 0
+-- how often its store failed
+abbrev pub failures_of : {H S : Type 0} → (S → Runs) → Engine H S → ℕ
+failures_of runs engine = (runs engine.store).failures
 
-abbrev pub state_of : {H : Type 0} → Engine H → State
-state_of engine = record { database = database engine; failures = failures_of engine }
+abbrev pub state_of : {H S : Type 0} → (S → Runs) → Engine H S → State
+state_of runs engine = record { database = database engine; failures = failures_of runs engine }

@@ -1,14 +1,13 @@
 -- definitions for readers
 pub mod Databases
+pub mod Staging
 pub mod Steps
-pub mod Answers
 pub mod Runs
 pub mod Headline
 pub mod Orders
 pub mod Repeating
 pub mod Upserting
 -- and what they stand on
-pub mod Outcomes
 pub mod Loading
 pub mod Refusing
 pub mod Engines

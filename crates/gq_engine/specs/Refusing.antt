@@ -10,11 +10,13 @@ use Rattle.gq_row.specs.Tables.{PlainTable, put, put_all}
 use Rattle.gq_load.specs.Payloads.{kind_at}
 use Rattle.gq_command.specs.Commands.{some}
 use Rattle.gq_reply.specs.declared.refusal.Refusal.{Refusal}
-use Rattle.gq_reply.specs.declared.refusal.Refusal.TheVariants.{TypeMismatch, NoKey, NullKey, Limit, Memory}
+use Rattle.gq_reply.specs.declared.refusal.Refusal.TheVariants.{TypeMismatch, NoKey, NullKey, SumRange, Limit, Memory, StoreFault, Damaged}
 use Rattle.gq_reply.specs.declared.refusal.Refused.{Refused}
 use Rattle.gq_table.specs.declared.refusal.TableRefusal.{TableRefusal}
 use Rattle.gq_table.specs.declared.refusal.TableRefusal.TheVariants as untaken
-use Rattle.gq_engine.specs.Outcomes.{◌>>=◌, true_or}
+use Rattle.gq_group.specs.declared.refusal.Refusal.{Refusal as GroupRefusal}
+use Rattle.gq_group.specs.declared.refusal.Refusal.TheVariants as ungrouped
+use Rattle.gq_reply.specs.Outcomes.{◌>>=◌, true_or}
 
 -- whether a row has null in a key column
 abbrev pub has_null_key : PlainTable → List Value → Bool
@@ -58,3 +60,10 @@ table_refusal untaken.TypeMismatch = TypeMismatch
 table_refusal untaken.NullKey = NullKey
 table_refusal untaken.Limit = Limit
 table_refusal untaken.Memory = Memory
+
+-- a grouping's refusal, as that of a command
+abbrev pub group_refusal : GroupRefusal → Refusal
+group_refusal ungrouped.SumRange = SumRange
+group_refusal ungrouped.Memory = Memory
+group_refusal ungrouped.StoreFault = StoreFault
+group_refusal ungrouped.Damaged = Damaged

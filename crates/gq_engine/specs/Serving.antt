@@ -1,24 +1,24 @@
 -- What answering one item and writing its reply did.
-use Rattle.std.specs.Prelude.{◌≡◌, ◌⊎◌, Bool, List, ◌∷◌, [], Option, Result, Ok, Err, IsPermutation, if◌then◌else◌}
+use Rattle.std.specs.Prelude.{◌≡◌, ◌⊎◌, ℕ, Bool, true, false, List, ◌∷◌, [], Option, Result, Ok, Err, IsPermutation, if◌then◌else◌, count_by}
 use Rattle.std.specs.Io.KnownBytes.{Appends}
 use Rattle.gq_row.specs.declared.value.Value.{Value}
 use Rattle.gq_row.specs.Tables.{PlainTable, has_row}
 use Rattle.gq_table.specs.Changes.{IsDeleted}
 use Rattle.gq_command.specs.declared.reader.Item.{Item}
 use Rattle.gq_command.specs.Commands.{Bytes}
-use Rattle.gq_reply.specs.declared.refusal.Refusal.TheVariants.{Memory}
+use Rattle.gq_reply.specs.declared.refusal.Refusal.TheVariants.{Memory, StoreFault}
 use Rattle.gq_reply.specs.declared.refusal.Refused.{Refused}
 use Rattle.gq_reply.specs.declared.reply.Reply.{Reply}
 use Rattle.gq_reply.specs.declared.reply.Reply.TheVariants as reply
 use Rattle.gq_engine.specs.declared.sending.WriteFault.{WriteFault}
 use Rattle.gq_engine.specs.Databases.{Database}
 use Rattle.gq_engine.specs.Headline.{State}
-use Rattle.gq_reply.specs.Refusals.{unnumbered}
+use Rattle.gq_reply.specs.Refusals.{unnumbered, told}
 use Rattle.gq_reply.specs.Replies.{text}
-use Rattle.gq_engine.specs.Runs.{Setting, AnsweredAlike, SameTables, KeptUnlessDone, FaultsHappened}
+use Rattle.gq_engine.specs.Runs.{Setting, AnsweredAlike, IsGrouped, is_store_fault, SameTables, KeptUnlessDone, FaultsHappened}
 use Rattle.gq_engine.specs.Refusing.{key_within}
 use Rattle.gq_engine.specs.Sending.{AppendsFront}
-use Rattle.gq_engine.specs.Steps.{Outcome}
+use Rattle.gq_engine.specs.Steps.{Outcome, settle}
 
 -- the steps of a command came to this reply, and to tables that are these but for the order of rows
 pub record CarriedOut (steps : Outcome) (answer : Reply) (old new : Database) : Type 0 where
@@ -31,6 +31,26 @@ pub record CarriedOut (steps : Outcome) (answer : Reply) (old new : Database) : 
 abbrev pub Comes : Outcome → Result Reply Refused → Database → Database → Type 0
 Comes steps (Ok answer) old new = CarriedOut steps answer old new
 Comes steps (Err why) old new = SameTables old new × ((why ≡ unnumbered Memory) ⊎ (steps ≡ Err why))
+
+-- the reply that a command's result is told as
+abbrev pub reply_of : Result Reply Refused → Reply
+reply_of (Ok answer) = answer
+reply_of (Err why) = told why
+
+-- What a command did over a run store: as above; or, where it groups and its steps get as far as grouping, the store failed, or came to anything where it isn't honest. The last two leave the tables but for the order of rows.
+pub data ComesOver (grouping honest : Bool) (steps : Outcome) (result : Result Reply Refused) (old new : Database) : Type 0 where
+  Plainly : (plain : Comes steps result old new) → ComesOver grouping honest steps result old new
+  StoreFails : (groups : grouping ≡ true) (reached : IsGrouped (settle old steps).1) (same : SameTables old new) (fault : result ≡ Err (unnumbered StoreFault)) → ComesOver grouping honest steps result old new
+  StoreLies : (groups : grouping ≡ true) (reached : IsGrouped (settle old steps).1) (same : SameTables old new) (lied : honest ≡ false) → ComesOver grouping honest steps result old new
+
+-- What a grouping came to over a run store: what lists come to; or there was no memory; or the store failed; or, where it isn't honest, to anything.
+abbrev pub GroupsOver : {X : Type 0} → Bool → Result X Refused → Result X Refused → Type 0
+GroupsOver honest steps result = (result ≡ steps) ⊎ ((result ≡ Err (unnumbered Memory)) ⊎ ((result ≡ Err (unnumbered StoreFault)) ⊎ (honest ≡ false)))
+
+-- how many failures of the run store a result tells
+abbrev pub faults_in : {X : Type 0} → Result X Refused → ℕ
+faults_in (Ok x) = 0
+faults_in (Err why) = count_by is_store_fault (told why ∷ [])
 
 -- the same of a command that takes no memory
 abbrev pub ComesSurely : Outcome → Result Reply Refused → Database → Database → Type 0

@@ -1,5 +1,5 @@
 -- What one item of a script does to a database. A command is its steps in the order of refusals: the first that fails is its refusal.
-use Rattle.std.specs.Prelude.{ℕ, List, [], ◌∷◌, ◌++◌, length, not, nat_lt, is_some, codes, Result, Ok, Err, if◌then◌else◌}
+use Rattle.std.specs.Prelude.{ℕ, List, [], ◌∷◌, ◌++◌, length, not, nat_lt, is_some, Option, Some, None, Result, Ok, Err, if◌then◌else◌}
 use Rattle.std.specs.List.{list_any}
 use Rattle.gq_row.specs.declared.value.Value.{Value}
 use Rattle.gq_row.specs.declared.schema.Column.{Column}
@@ -7,24 +7,32 @@ use Rattle.gq_row.specs.declared.limits.Bounds.{Bounds}
 use Rattle.gq_row.specs.Fitting.{is_null}
 use Rattle.gq_row.specs.Headings.{positions_of}
 use Rattle.gq_row.specs.Tables.{PlainTable, delete, has_row}
-use Rattle.gq_command.specs.Commands.{column_names, some}
+use Rattle.gq_command.specs.Commands.{Bytes, column_names, some}
+use Rattle.gq_clause.specs.declared.condition.Test.{Test}
 use Rattle.gq_command.specs.declared.command.Command.{Command}
 use Rattle.gq_command.specs.declared.command.Command.TheVariants.{Create, Drop, Load, Upsert, Delete, Show, Group, Distinct}
+use Rattle.gq_command.specs.declared.command.Exists.{Exists}
 use Rattle.gq_command.specs.declared.command.Payload.{Payload}
 use Rattle.gq_command.specs.declared.lines.LineRefusal.{LineRefusal}
 use Rattle.gq_command.specs.declared.lines.LineRefusal.TheVariants as line
 use Rattle.gq_command.specs.declared.reader.Item.{Item}
 use Rattle.gq_command.specs.declared.reader.Item.TheVariants as item
 use Rattle.gq_reply.specs.declared.refusal.Refusal.{Refusal}
-use Rattle.gq_reply.specs.declared.refusal.Refusal.TheVariants.{Syntax, LineTooLong, NoTable, TableExists, NoColumn, TypeMismatch, NoKey, NullKey, Limit, Memory}
+use Rattle.gq_reply.specs.declared.refusal.Refusal.TheVariants.{Syntax, LineTooLong, NoTable, TableExists, NoColumn, TypeMismatch, NoKey, NullKey, SumRange, Limit, Memory}
 use Rattle.gq_reply.specs.declared.refusal.Refused.{Refused}
 use Rattle.gq_reply.specs.declared.reply.Reply.{Reply}
 use Rattle.gq_reply.specs.declared.reply.Reply.TheVariants as reply
-use Rattle.gq_engine.specs.Answers.{counted_groups, rows_shown}
+use Rattle.gq_query.specs.Answers.{answer_having, distinct_keys, rows_kept, rows_shown}
+use Rattle.gq_query.specs.Selecting.{other_columns, other_rows}
+use Rattle.gq_plan.specs.declared.clauses.GroupClauses.{GroupClauses}
+use Rattle.gq_plan.specs.declared.plan.GroupPlan.{GroupPlan}
+use Rattle.gq_plan.specs.declared.plan.DistinctPlan.{DistinctPlan}
+use Rattle.gq_plan.specs.Headers.{group_header}
+use Rattle.gq_plan.specs.Plans.{distinct_plan, group_plan}
 use Rattle.gq_engine.specs.Databases.{Database, table_at, with_table, without_table}
 use Rattle.gq_engine.specs.Loading.{is_lost, bytes_told, rows_told}
-use Rattle.gq_engine.specs.Outcomes.{◌>>=◌, some_or, true_or}
-use Rattle.gq_reply.specs.Refusals.{unnumbered, told, refused}
+use Rattle.gq_reply.specs.Outcomes.{◌>>=◌, some_or, true_or}
+use Rattle.gq_reply.specs.Refusals.{told, refused}
 use Rattle.gq_engine.specs.Refusing.{put_within, put_all_within, fits_key}
 
 -- what a command comes to: the database and the reply where it is carried out, or why it is refused
@@ -93,17 +101,38 @@ show_table db name = do
   table ← table_in db name
   Ok (db, reply.Rows (column_names table.heading.columns) (rows_shown table))
 
--- rows are grouped and counted
-abbrev pub group_header : List (List ℕ) → List (List ℕ)
-group_header by = by ++ codes "count(*)" ∷ []
+-- the table that an `exists` names, if there is one
+abbrev pub other_in : Database → Option Exists → Result (Option PlainTable) Refused
+other_in db None = Ok None
+other_in db (Some exists) = do
+  table ← table_in db exists.table
+  Ok (Some table)
 
-abbrev pub group : Database → List ℕ → List (List ℕ) → Outcome
-group db name by = do
+-- the result rows of a `group` by its plan, of the rows of its table that the condition keeps and that have the match among the rows of the other
+abbrev pub rows_planned : GroupPlan → PlainTable → Option PlainTable → Option (List (List Value))
+rows_planned plan table other = answer_having plan.by plan.shown plan.having.tests (rows_kept plan.condition.tests plan.matching (other_rows other) table.rows)
+
+-- rows are grouped, and aggregates of each group shown
+abbrev pub group : Database → List ℕ → GroupClauses → Outcome
+group db name clauses = do
   table ← table_in db name
-  columns ← some_or NoColumn (positions_of table.heading.columns by)
-  Ok (db, reply.Rows (group_header by) (counted_groups columns table.rows))
+  other ← other_in db clauses.exists
+  plan ← group_plan table.heading.columns (other_columns other) clauses
+  rows ← some_or SumRange (rows_planned plan table other)
+  Ok (db, reply.Rows (group_header clauses.by clauses.shown) rows)
 
--- a command; no line says a `distinct` yet
+-- the result rows of a `distinct` by its plan, of the rows of its table that the condition keeps
+abbrev pub keys_planned : DistinctPlan → PlainTable → List (List Value)
+keys_planned plan table = distinct_keys plan.on (rows_kept plan.condition.tests None [] table.rows)
+
+-- the different values in some columns are shown
+abbrev pub distinct : Database → List ℕ → List Bytes → List Test → Outcome
+distinct db name on tests = do
+  table ← table_in db name
+  plan ← distinct_plan table.heading.columns on tests
+  Ok (db, reply.Rows on (keys_planned plan table))
+
+-- a command
 abbrev pub outcome : Bounds → Database → Command → Outcome
 outcome bounds db (Create table columns key) = create bounds db table columns key
 outcome bounds db (Drop table) = drop_table db table
@@ -111,8 +140,8 @@ outcome bounds db (Load table payload) = load_table bounds db table payload
 outcome bounds db (Upsert table values) = upsert bounds db table values
 outcome bounds db (Delete table values) = delete_row db table values
 outcome bounds db (Show table) = show_table db table
-outcome bounds db (Group table by shown tests exists having) = group db table by
-outcome bounds db (Distinct table on tests) = Err (unnumbered Syntax)
+outcome bounds db (Group table by shown tests exists having) = group db table (record { by = by; shown = shown; tests = tests; exists = exists; having = having })
+outcome bounds db (Distinct table on tests) = distinct db table on tests
 
 -- a refusal is the reply, and leaves the database
 abbrev pub settle : Database → Outcome → Database × Reply

@@ -1,7 +1,5 @@
 //! The tables of a database, by their names.
-ghost use Rattle.std.specs.Prelude.{◌≡◌, ◌++◌, ◌∷◌, [], IsTrue, IfSome, OnOk, OnErr, length, option_copied, MatchOption, None};
-ghost use Rattle.std.specs.List.{list_all};
-ghost use Rattle.gq_row.specs.Fitting.{fits_columns};
+ghost use Rattle.std.specs.Prelude.{◌≡◌, ◌++◌, ◌∷◌, [], IfSome, OnOk, OnErr, length, option_copied, MatchOption, None};
 ghost use Rattle.gq_reply.specs.declared.reply.Reply.TheVariants.{Done};
 ghost use Rattle.gq_reply.specs.Refusals.{unnumbered};
 ghost use Rattle.gq_table.specs.Standing.{IsStanding};
@@ -12,7 +10,7 @@ ghost use Rattle.gq_engine.specs.Steps.{with_row, with_rows, delete_row, drop_ta
 
 use crate::keys::check_key;
 use gq_reply::{Refusal, Refused};
-use gq_row::{Key, Limits, Row, Schema, Sequence, Text, Value};
+use gq_row::{Key, Limits, Row, Schema, Text, Value};
 use gq_table::{Table, TableRefusal};
 use std::alloc::{AllocError, Global};
 use std::marker::Model;
@@ -79,15 +77,16 @@ impl<H: KeyHash<Key> + Copy> Catalog<H> {
         }
     }
 
-    /// Puts rows that fit it into the table of a name, one after the other: all or none.
-    pub fn load(&mut self, name: &str, rows: Sequence<Row>, limits: &Limits) -> Result<(), Refused>
+    /// Puts the rows of a table with the same columns and key into the table of a name, one after
+    /// the other: all or none.
+    pub fn load(&mut self, name: &str, staged: Table<H>, limits: &Limits) -> Result<(), Refused>
         requires { IfSome (table_at self.old name.now)
-            (λ table. IsTrue (list_all (fits_columns table.heading.columns) rows)) }
-        ensures { Changes (with_rows limits.now.bounds self.old name.now rows)
+            (λ table. staged.heading ≡ table.heading) }
+        ensures { Changes (with_rows limits.now.bounds self.old name.now staged.rows)
             result self.old self.new }
     {
         match find_table(self.tables.as_slice(), name) {
-            Some(i) => put_rows(&mut self.tables[i].1, rows, limits),
+            Some(i) => put_rows(&mut self.tables[i].1, staged, limits),
             None => Err(Refused::from(Refusal::NoTable)),
         }
     }
@@ -158,18 +157,19 @@ fn put_row<H: KeyHash<Key> + Copy>(
     }
 }
 
-// Puts rows that fit it into a table, or says why the table refuses them.
+// Puts the rows of a table with the same columns and key into another, or says why that refuses
+// them.
 fn put_rows<H: KeyHash<Key> + Copy>(
     table: &mut Table<H>,
-    rows: Sequence<Row>,
+    staged: Table<H>,
     limits: &Limits,
 ) -> Result<(), Refused>
-    requires { IsTrue (list_all (fits_columns table.old.heading.columns) rows) }
-    ensures takes { Takes (put_all_within limits.now.bounds table.old rows)
+    requires { staged.heading ≡ table.old.heading }
+    ensures takes { Takes (put_all_within limits.now.bounds table.old staged.rows)
         result table.old table.new }
     ensures standing { IsStanding table.new }
 {
-    let taken = table.load(rows, limits);
+    let taken = table.load(staged, limits);
     let _standing = table.rows();
     match taken {
         Ok(()) => Ok(()),

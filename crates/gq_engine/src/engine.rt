@@ -1,42 +1,54 @@
 //! The engine, and what each command does.
-ghost use Rattle.std.specs.Prelude.{◌≡◌, ◌++◌, ◌∷◌, [], codes, IfOk};
-ghost use Rattle.gq_engine.specs.Steps.{group_header};
+ghost use Rattle.std.specs.Prelude.{◌≡◌, ◌∷◌, []};
 
 use crate::catalog::Catalog;
-use crate::grouping::count_groups;
-use crate::payloads::{bytes_of, is_lost, rows_of};
-use crate::showing::{names_of, show_rows};
-use gq_command::{Command, Item, Payload};
+use crate::grouping::{columns_of, other_table, rows_different, rows_grouped};
+use crate::payloads::{bytes_of, is_lost, stage};
+use gq_command::{Command, Item, Payload, Test};
+use gq_group::Budget;
+use gq_plan::{GroupClauses, header_of, names_of, plan_distinct, plan_group};
+use gq_query::show_rows;
 use gq_reply::{Refusal, Refused, Reply};
 use gq_row::{Column, Key, Limits, Row, Schema, Sequence, Text, find_positions};
-use std::alloc::{AllocError, Global};
+use gq_spill::RunStore;
+use std::alloc::Global;
 use sw_probe::KeyHash;
 
-/// A database of tables, and what carries out commands on it. `H` hashes the keys of their rows.
+/// A database of tables, and what carries out commands on it. `H` hashes the keys of their rows. `S`
+/// is the run store of its groupings, and the budget how many groups one of them keeps in memory at
+/// once; the rows of others stand in runs of the store while it goes on.
 #[derive(Drop)]
-pub struct Engine<H: KeyHash<Key>> {
+pub struct Engine<H: KeyHash<Key>, S> {
     alloc: Global,
+    hasher: H,
     catalog: Catalog<H>,
+    store: S,
+    budget: Budget,
     limits: Limits,
 }
 
-impl<H: KeyHash<Key> + Copy> Engine<H> {
+impl<H: KeyHash<Key> + Copy, S: RunStore> Engine<H, S> {
     ghost use Rattle.std.specs.Prelude.{◌≡◌, ◌∷◌, [], true};
     ghost use Rattle.gq_command.specs.Commands.{is_command, as_said};
     ghost use Rattle.gq_engine.specs.Engines.{database, setting_of, failures_of};
     ghost use Rattle.gq_engine.specs.Databases.{IsKeyed};
-    ghost use Rattle.gq_engine.specs.Runs.{AnsweredAlike, AnsweredAsLists, KeptUnlessDone, FaultsHappened, takes_no_memory};
-    ghost use Rattle.gq_engine.specs.Serving.{Comes, ComesSurely};
-    ghost use Rattle.gq_engine.specs.Steps.{outcome, create as created, drop_table as dropped, load_table as loaded, upsert as upserted, delete_row as removed, show_table as shown, group as grouped};
+    ghost use Rattle.gq_engine.specs.Runs.{AnsweredAlike, AnsweredAsLists, KeptUnlessDone, FaultsHappened, is_grouping, takes_no_memory};
+    ghost use Rattle.gq_engine.specs.Serving.{Comes, ComesOver, ComesSurely, reply_of};
+    ghost use Rattle.gq_engine.specs.Steps.{outcome, create as created, drop_table as dropped, load_table as loaded, upsert as upserted, delete_row as removed, show_table as shown, group as grouped, distinct as told_apart};
 
     /// An engine without tables, whose keys will be hashed by `hasher`.
-    pub fn new(alloc: Global, hasher: H, limits: Limits) -> Engine<H>
+    pub fn new(alloc: Global, hasher: H, store: S, budget: Budget, limits: Limits) -> Engine<H, S>
         ensures tables { database result ≡ [] }
-        ensures limits { (setting_of result).limits ≡ limits.bounds }
+        ensures limits { (setting_of S.runs result).limits ≡ limits.bounds }
+        ensures honest { (setting_of S.runs result).honest ≡ (S.runs store).honest }
+        ensures failures { failures_of S.runs result ≡ (S.runs store).failures }
     {
         Engine {
             alloc,
+            hasher,
             catalog: Catalog::new(alloc, hasher),
+            store,
+            budget,
             limits,
         }
     }
@@ -46,7 +58,7 @@ impl<H: KeyHash<Key> + Copy> Engine<H> {
     }
 
     pub(crate) fn limits(&self) -> &Limits
-        ensures { result.now.bounds ≡ (setting_of self.now).limits }
+        ensures { result.now.bounds ≡ (setting_of S.runs self.now).limits }
     {
         &self.limits
     }
@@ -62,17 +74,17 @@ impl<H: KeyHash<Key> + Copy> Engine<H> {
     pub fn execute(&mut self, command: Command) -> Reply
         requires { is_command (as_said command) ≡ true }
         // As plain lists answer it; only memory and the run store may refuse what they accept.
-        ensures legal { AnsweredAlike (setting_of self.old) (database self.old)
+        ensures legal { AnsweredAlike (setting_of S.runs self.old) (database self.old)
             (Item.Command command) result (database self.new) }
         // A drop and a delete take no memory, and are answered as plain lists answer them.
-        ensures sure { takes_no_memory command ≡ true → AnsweredAsLists (setting_of self.old).limits
+        ensures sure { takes_no_memory command ≡ true → AnsweredAsLists (setting_of S.runs self.old).limits
             (database self.old) (Item.Command command) result (database self.new) }
         // A failure of the run store is told only where it failed.
-        ensures faults { FaultsHappened (result ∷ []) (failures_of self.old)
-            (failures_of self.new) }
+        ensures faults { FaultsHappened (result ∷ []) (failures_of S.runs self.old)
+            (failures_of S.runs self.new) }
         // Only a command that was carried out changes a table.
         ensures kept { KeptUnlessDone result (database self.old) (database self.new) }
-        ensures setting { setting_of self.new ≡ setting_of self.old }
+        ensures setting { setting_of S.runs self.new ≡ setting_of S.runs self.old }
     {
         match self.carry_out(command) {
             Ok(reply) => reply,
@@ -83,12 +95,15 @@ impl<H: KeyHash<Key> + Copy> Engine<H> {
     // One command, step by step.
     fn carry_out(&mut self, command: Command) -> Result<Reply, Refused>
         requires { is_command (as_said command) ≡ true }
-        ensures comes { Comes (outcome (setting_of self.old).limits (database self.old) command)
+        ensures comes { ComesOver (is_grouping command) (setting_of S.runs self.old).honest
+            (outcome (setting_of S.runs self.old).limits (database self.old) command)
             result (database self.old) (database self.new) }
+        ensures faults { FaultsHappened (reply_of result ∷ []) (failures_of S.runs self.old)
+            (failures_of S.runs self.new) }
         ensures sure { takes_no_memory command ≡ true → ComesSurely
-            (outcome (setting_of self.old).limits (database self.old) command)
+            (outcome (setting_of S.runs self.old).limits (database self.old) command)
             result (database self.old) (database self.new) }
-        ensures setting { setting_of self.new ≡ setting_of self.old }
+        ensures setting { setting_of S.runs self.new ≡ setting_of S.runs self.old }
     {
         match command {
             Command::Create {
@@ -104,13 +119,21 @@ impl<H: KeyHash<Key> + Copy> Engine<H> {
             Command::Group {
                 table,
                 by,
-                shown: _shown,
-                tests: _tests,
-                exists: _exists,
-                having: _having,
-            } => return self.group(table, by),
-            // It has no steps yet.
-            Command::Distinct { .. } => return Err(Refused::from(Refusal::Syntax)),
+                shown,
+                tests,
+                exists,
+                having,
+            } => {
+                let clauses = GroupClauses {
+                    by,
+                    shown,
+                    tests,
+                    exists,
+                    having,
+                };
+                return self.group(table, clauses);
+            }
+            Command::Distinct { table, on, tests } => return self.distinct(table, on, tests),
         }
     }
 
@@ -122,9 +145,10 @@ impl<H: KeyHash<Key> + Copy> Engine<H> {
     ) -> Result<Reply, Refused>
         requires { is_command (Command.Create name columns key) ≡ true }
         ensures comes { Comes
-            (created (setting_of self.old).limits (database self.old) name columns key)
+            (created (setting_of S.runs self.old).limits (database self.old) name columns key)
             result (database self.old) (database self.new) }
-        ensures setting { setting_of self.new ≡ setting_of self.old }
+        ensures setting { setting_of S.runs self.new ≡ setting_of S.runs self.old }
+        ensures failures { failures_of S.runs self.new ≡ failures_of S.runs self.old }
     {
         if self.catalog.get(name.as_str()).is_some() {
             return Err(Refused::from(Refusal::TableExists));
@@ -141,9 +165,10 @@ impl<H: KeyHash<Key> + Copy> Engine<H> {
     }
 
     fn upsert(&mut self, name: Text, row: Row) -> Result<Reply, Refused>
-        ensures comes { Comes (upserted (setting_of self.old).limits (database self.old) name row)
+        ensures comes { Comes (upserted (setting_of S.runs self.old).limits (database self.old) name row)
             result (database self.old) (database self.new) }
-        ensures setting { setting_of self.new ≡ setting_of self.old }
+        ensures setting { setting_of S.runs self.new ≡ setting_of S.runs self.old }
+        ensures failures { failures_of S.runs self.new ≡ failures_of S.runs self.old }
     {
         self.catalog.upsert(name.as_str(), row, &self.limits)?;
         Ok(Reply::Done(1))
@@ -152,32 +177,35 @@ impl<H: KeyHash<Key> + Copy> Engine<H> {
     fn drop_table(&mut self, name: Text) -> Result<Reply, Refused>
         ensures surely { ComesSurely (dropped (database self.old) name)
             result (database self.old) (database self.new) }
-        ensures setting { setting_of self.new ≡ setting_of self.old }
+        ensures setting { setting_of S.runs self.new ≡ setting_of S.runs self.old }
+        ensures failures { failures_of S.runs self.new ≡ failures_of S.runs self.old }
     {
         self.catalog.remove(name.as_str())?;
         Ok(Reply::Done(0))
     }
 
     fn load(&mut self, name: Text, payload: Payload) -> Result<Reply, Refused>
-        ensures comes { Comes (loaded (setting_of self.old).limits (database self.old) name payload)
+        ensures comes { Comes (loaded (setting_of S.runs self.old).limits (database self.old) name payload)
             result (database self.old) (database self.new) }
-        ensures setting { setting_of self.new ≡ setting_of self.old }
+        ensures setting { setting_of S.runs self.new ≡ setting_of S.runs self.old }
+        ensures failures { failures_of S.runs self.new ≡ failures_of S.runs self.old }
     {
         if is_lost(&payload) {
             return Err(Refused::from(Refusal::Memory));
         }
         let table = self.catalog.get(name.as_str()).ok_or(Refusal::NoTable)?;
         let bytes = bytes_of(payload)?;
-        let rows = rows_of(self.alloc, bytes.as_slice(), table.schema(), &self.limits)?;
-        let count = rows.len();
-        self.catalog.load(name.as_str(), rows, &self.limits)?;
-        Ok(Reply::Done(count as u64))
+        let (staged, count) = stage(self.alloc, bytes.as_slice(), table, &self.limits)?;
+        let _keyed = self.tables();
+        self.catalog.load(name.as_str(), staged, &self.limits)?;
+        Ok(Reply::Done(count))
     }
 
     fn delete(&mut self, name: Text, key: Row) -> Result<Reply, Refused>
         ensures surely { ComesSurely (removed (database self.old) name key)
             result (database self.old) (database self.new) }
-        ensures setting { setting_of self.new ≡ setting_of self.old }
+        ensures setting { setting_of S.runs self.new ≡ setting_of S.runs self.old }
+        ensures failures { failures_of S.runs self.new ≡ failures_of S.runs self.old }
     {
         let found = self.catalog.delete(name.as_str(), key.cells())?;
         Ok(Reply::Done(u64::from(found)))
@@ -193,26 +221,41 @@ impl<H: KeyHash<Key> + Copy> Engine<H> {
         Ok(Reply::Rows { header, rows })
     }
 
-    fn group(&self, name: Text, by: Sequence<Text>) -> Result<Reply, Refused>
-        ensures { Comes (grouped (database self.now) name by)
-            result (database self.now) (database self.now) }
+    fn group(&mut self, name: Text, clauses: GroupClauses) -> Result<Reply, Refused>
+        ensures comes { ComesOver true (setting_of S.runs self.old).honest
+            (grouped (database self.old) name clauses)
+            result (database self.old) (database self.new) }
+        ensures faults { FaultsHappened (reply_of result ∷ []) (failures_of S.runs self.old)
+            (failures_of S.runs self.new) }
+        ensures setting { setting_of S.runs self.new ≡ setting_of S.runs self.old }
     {
         let table = self.catalog.get(name.as_str()).ok_or(Refusal::NoTable)?;
-        let columns = table.schema().columns();
-        let positions = find_positions(self.alloc, columns, by.as_slice())?.ok_or(
-            Refusal::NoColumn,
-        )?;
-        let rows = count_groups(self.alloc, table, positions.as_slice())?;
-        let header = header_of(self.alloc, by)?;
+        let others = other_table(&self.catalog, &clauses.exists)?;
+        let plan = plan_group(self.alloc, table.schema(), columns_of(others), &clauses)?;
+        let header = header_of(self.alloc, clauses.by, clauses.shown.as_slice())?;
+        let (hasher, store) = (self.hasher, &mut self.store);
+        let rows = rows_grouped(self.alloc, hasher, table, others, &plan, store, self.budget)?;
         Ok(Reply::Rows { header, rows })
     }
-}
 
-// The names of the `by` columns, and then the name of the count.
-fn header_of(alloc: Global, by: Sequence<Text>) -> Result<Sequence<Text>, AllocError>
-    ensures { IfOk result (λ header. header ≡ group_header by) }
-{
-    let mut names = by.into_vec();
-    names.push(Text::new(String::from_str(alloc, "count(*)")?))?;
-    Ok(Sequence::new(names))
+    fn distinct(
+        &mut self,
+        name: Text,
+        on: Sequence<Text>,
+        tests: Sequence<Test>,
+    ) -> Result<Reply, Refused>
+        requires { is_command (Command.Distinct name on tests) ≡ true }
+        ensures comes { ComesOver true (setting_of S.runs self.old).honest
+            (told_apart (database self.old) name on tests)
+            result (database self.old) (database self.new) }
+        ensures faults { FaultsHappened (reply_of result ∷ []) (failures_of S.runs self.old)
+            (failures_of S.runs self.new) }
+        ensures setting { setting_of S.runs self.new ≡ setting_of S.runs self.old }
+    {
+        let table = self.catalog.get(name.as_str()).ok_or(Refusal::NoTable)?;
+        let plan = plan_distinct(self.alloc, table.schema(), on.as_slice(), tests.as_slice())?;
+        let (hasher, store) = (self.hasher, &mut self.store);
+        let rows = rows_different(self.alloc, hasher, table, &plan, store, self.budget)?;
+        Ok(Reply::Rows { header: on, rows })
+    }
 }

@@ -1,93 +1,124 @@
-//! Rows in groups, one for each different key, found by linear search.
-ghost use Rattle.std.specs.Prelude.{◌≡◌, ◌<◌, ◌^◌, IfOk, All, length};
-ghost use Rattle.std.specs.List.{list_any};
-ghost use Rattle.gq_row.specs.Order.{same_key};
-ghost use Rattle.gq_row.specs.Rows.{key_of};
-ghost use Rattle.gq_row.specs.Tables.{keys, of_key};
-ghost use Rattle.gq_engine.specs.Answers.{count_row, counted_groups};
+//! Groupings over the run store, by their plans, and the refusals that come of them.
+ghost use Rattle.std.specs.Prelude.{◌≡◌, ◌+◌, ◌≤◌, ◌<◌, All, Ok, Err, IfOk, IfErr, length, option_copied};
+ghost use Rattle.gq_query.specs.Selecting.{other_columns};
+ghost use Rattle.gq_reply.specs.declared.refusal.Refusal.TheVariants.{SumRange};
+ghost use Rattle.gq_reply.specs.Refusals.{unnumbered};
+ghost use Rattle.gq_reply.specs.Outcomes.{some_or};
+ghost use Rattle.gq_plan.specs.Plans.{IsWithin};
+ghost use Rattle.gq_engine.specs.Refusing.{group_refusal};
+ghost use Rattle.gq_engine.specs.Serving.{GroupsOver, faults_in};
+ghost use Rattle.gq_engine.specs.Steps.{keys_planned, other_in, rows_planned};
 
-use crate::cells::has_key;
-use crate::ordering::sort_rows;
-use gq_row::{Key, Row, Sequence, Value};
+use crate::catalog::Catalog;
+use gq_command::Exists;
+use gq_group::Budget;
+use gq_plan::{DistinctPlan, GroupPlan};
+use gq_query::{Grouping, Selection, distinct_rows, group_rows};
+use gq_reply::{Refusal, Refused};
+use gq_row::{Column, Key, Row, Sequence};
+use gq_spill::RunStore;
 use gq_table::Table;
-use std::alloc::{AllocError, Global};
+use std::alloc::Global;
 use sw_probe::KeyHash;
 
-/// Each different key that the rows of a table have in some of its columns, in ascending order,
-/// with the number of its rows.
-pub fn count_groups<H: KeyHash<Key> + Copy>(
+/// The table that an `exists` names, if there is one.
+pub fn other_table<'a, H: KeyHash<Key> + Copy>(
+    catalog: &'a Catalog<H>,
+    exists: &Option<Exists>,
+) -> Result<Option<&'a Table<H>>, Refused>
+    ensures found { IfOk result (λ other.
+        other_in catalog.now exists.now ≡ Ok (option_copied other)) }
+    ensures refused { IfErr result (λ why. other_in catalog.now exists.now ≡ Err why) }
+{
+    let Some(exists) = exists else {
+        return Ok(None);
+    };
+    match catalog.get(exists.table.as_str()) {
+        Some(table) => Ok(Some(table)),
+        None => Err(Refused::from(Refusal::NoTable)),
+    }
+}
+
+/// The columns of a table, none where there is none.
+pub fn columns_of<'a, H: KeyHash<Key> + Copy>(table: Option<&'a Table<H>>) -> &'a [Column]
+    ensures { result.now ≡ other_columns (option_copied table.entry) }
+{
+    match table {
+        Some(table) => table.schema().columns(),
+        None => &[],
+    }
+}
+
+/// The result rows of a `group`, or the refusal that its grouping comes to.
+pub fn rows_grouped<H: KeyHash<Key> + Copy, S: RunStore>(
     alloc: Global,
+    hasher: H,
     table: &Table<H>,
-    by: &[usize],
-) -> Result<Sequence<Row>, AllocError>
-    requires { All (λ column. column < length table.now.heading.columns) by.now }
-    ensures { IfOk result (λ groups. groups ≡ counted_groups by.now table.now.rows) }
+    others: Option<&Table<H>>,
+    plan: &GroupPlan,
+    store: &mut S,
+    budget: Budget,
+) -> Result<Sequence<Row>, Refused>
+    requires { IsWithin table.now.heading.columns
+        (other_columns (option_copied others)) plan.now }
+    ensures rows { GroupsOver (S.runs store.old).honest
+        (some_or SumRange (rows_planned plan.now table.now (option_copied others.entry))) result }
+    ensures faults { (S.runs store.old).failures + faults_in result ≤ (S.runs store.new).failures }
+    ensures honest { (S.runs store.new).honest ≡ (S.runs store.old).honest }
 {
-    let _standing = table.rows();
-    let keys = different_keys(alloc, table, by)?;
-    let mut groups = Vec::with_capacity(alloc, keys.len())?;
-    for key in keys {
-        let rows = count_of(table, by, key.as_slice());
-        groups.push(count_row(key, rows)?)?;
+    let selection = Selection {
+        table,
+        condition: &plan.condition,
+        matching: plan.matching.as_ref(),
+        others,
+    };
+    let grouping = Grouping {
+        by: plan.by.as_slice(),
+        shown: plan.shown.as_slice(),
+        having: &plan.having,
+    };
+    match group_rows(alloc, hasher, &selection, &grouping, store, budget) {
+        Ok(rows) => Ok(rows),
+        Err(why) => Err(refused_by_grouping(why)),
     }
-    sort_rows(&mut groups, &[])?;
-    Ok(Sequence::new(groups))
 }
 
-fn different_keys<H: KeyHash<Key> + Copy>(
+/// The result rows of a `distinct`, or the refusal that its grouping comes to.
+pub fn rows_different<H: KeyHash<Key> + Copy, S: RunStore>(
     alloc: Global,
+    hasher: H,
     table: &Table<H>,
-    by: &[usize],
-) -> Result<Vec<Sequence<Value>>, AllocError>
-    requires { All (λ column. column < length table.now.heading.columns) by.now }
-    ensures { IfOk result (λ ks. ks.items ≡ keys by.now table.now.rows) }
+    plan: &DistinctPlan,
+    store: &mut S,
+    budget: Budget,
+) -> Result<Sequence<Row>, Refused>
+    requires some { 0 < length plan.now.on }
+    requires on { All (λ column. column < length table.now.heading.columns) plan.now.on }
+    ensures rows { GroupsOver (S.runs store.old).honest
+        (Ok (keys_planned plan.now table.now)) result }
+    ensures faults { (S.runs store.old).failures + faults_in result ≤ (S.runs store.new).failures }
+    ensures honest { (S.runs store.new).honest ≡ (S.runs store.old).honest }
 {
-    let mut keys = Vec::new(alloc);
-    for row in table.rows() {
-        if !is_known(keys.as_slice(), by, row.cells()) {
-            keys.push(key_of(alloc, row, by)?)?;
-        }
+    let selection = Selection {
+        table,
+        condition: &plan.condition,
+        matching: None,
+        others: None,
+    };
+    match distinct_rows(alloc, hasher, &selection, plan.on.as_slice(), store, budget) {
+        Ok(rows) => Ok(rows),
+        Err(why) => Err(refused_by_grouping(why)),
     }
-    Ok(keys)
 }
 
-// Whether a row's key is one of these.
-fn is_known(keys: &[Sequence<Value>], by: &[usize], row: &[Value]) -> bool
-    ensures { result ≡ list_any (λ key. same_key (key_of by.now row.now) key) keys.now }
+// A grouping's refusal, as that of a command.
+fn refused_by_grouping(why: gq_group::Refusal) -> Refused
+    ensures { result ≡ unnumbered (group_refusal why) }
 {
-    keys.iter().any(|key| has_key(by, row, key.as_slice()))
-}
-
-// A row's values in some columns, with room for one more.
-fn key_of(alloc: Global, row: &Row, by: &[usize]) -> Result<Sequence<Value>, AllocError>
-    requires { All (λ column. column < length row.now) by.now }
-    ensures { IfOk result (λ key. key ≡ key_of by.now row.now) }
-{
-    let mut cells = Vec::with_capacity(alloc, by.len().saturating_add(1))?;
-    for column in by {
-        cells.push(row.cell(*column).copy(alloc)?)?;
-    }
-    Ok(Sequence::new(cells))
-}
-
-fn count_of<H: KeyHash<Key> + Copy>(table: &Table<H>, by: &[usize], key: &[Value]) -> usize
-    ensures { result ≡ length (of_key by.now table.now.rows key.now) }
-{
-    let mut count = 0;
-    for row in table.rows() {
-        if has_key(by, row.cells(), key) {
-            count += 1;
-        }
-    }
-    count
-}
-
-// A key's values, and then the number of its rows.
-fn count_row(key: Sequence<Value>, rows: usize) -> Result<Row, AllocError>
-    requires { rows < 2 ^ 63 }
-    ensures { IfOk result (λ row. row ≡ count_row key rows) }
-{
-    let mut cells = key.into_vec();
-    cells.push(Value::Int(rows as i64))?;
-    Ok(Row::new(cells))
+    Refused::from(match why {
+        gq_group::Refusal::SumRange => Refusal::SumRange,
+        gq_group::Refusal::Memory => Refusal::Memory,
+        gq_group::Refusal::StoreFault => Refusal::StoreFault,
+        gq_group::Refusal::Damaged => Refusal::Damaged,
+    })
 }

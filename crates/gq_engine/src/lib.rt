@@ -13,8 +13,10 @@
 //!   the text of a reply.
 //! - A table has a schema and rows, which stand in a flat map under their keys, or in a list where
 //!   the table has no key (`gq_table`); a row that is put replaces the row of the same key, or is
-//!   added. Tables are found by linear search, and so are groups. One function sorts the rows of
-//!   every query at the end.
+//!   added. Tables are found by linear search.
+//! - What a query asks by names is planned first (`gq_plan`), each name looked up once; then it is
+//!   answered by `gq_query`. The groups come of a run store that the engine holds, within its
+//!   budget.
 //! - A command is refused by the first reason that applies, and a refused command changes nothing.
 //!   Want of memory may stand in place of any reply.
 //!
@@ -29,17 +31,16 @@
 #![tactic(auto)]
 
 mod catalog;
-mod cells;
 mod engine;
 mod grouping;
 mod keys;
 pub mod laws;
-mod ordering;
 mod payloads;
 mod run;
 mod sending;
-mod showing;
 
 pub use engine::Engine;
+pub use gq_group::Budget;
 pub use gq_reply::{Refusal, Refused, Reply, reply_text};
+pub use gq_spill::{MemStore, RunStore};
 pub use run::{Fault, Summary};

@@ -1,16 +1,18 @@
-//! The rows that a load's payload gives, or the refusal that its first fault is.
-ghost use Rattle.std.specs.Prelude.{◌≡◌, ◌⊎◌, Ok, Err, IfOk, IfErr, IsTrue};
-ghost use Rattle.std.specs.List.{list_all};
-ghost use Rattle.gq_row.specs.Fitting.{fits_columns};
+//! The rows that a load's payload gives, in a table of their own, or the refusal that its first
+//! fault is.
+ghost use Rattle.std.specs.Prelude.{◌≡◌, ◌⊎◌, [], Err, IfOk, IfErr};
 ghost use Rattle.gq_reply.specs.Refusals.{unnumbered};
 ghost use Rattle.gq_reply.specs.declared.refusal.Refusal.TheVariants.{Memory};
-ghost use Rattle.gq_engine.specs.Loading.{bytes_told, fault_refusal, is_lost, numbered, rows_told};
+ghost use Rattle.gq_engine.specs.Loading.{bytes_told, fault_refusal, is_lost, numbered, refused_by, rows_told};
+ghost use Rattle.gq_engine.specs.Staging.{HasStaged};
 
 use gq_command::Payload;
-use gq_load::{LoadRefusal, load_rows};
+use gq_load::{LoadRefusal, RowReader, line_ends};
 use gq_reply::{Refusal, Refused};
-use gq_row::{Limits, Row, Schema, Sequence};
+use gq_row::{Key, Limits, Row, Sequence};
+use gq_table::Table;
 use std::alloc::Global;
+use sw_probe::KeyHash;
 
 /// Whether there was no memory for a payload.
 pub fn is_lost(payload: &Payload) -> bool
@@ -31,23 +33,57 @@ pub fn bytes_of(payload: Payload) -> Result<Sequence<u8>, Refused>
     }
 }
 
-/// The rows of a payload for a table, or the refusal for its first fault.
-pub fn rows_of(
+/// The rows of a payload for a table, put one after the other into a table of their own, and how
+/// many they were; or the refusal for the payload's first fault.
+pub fn stage<H: KeyHash<Key> + Copy>(
     alloc: Global,
     bytes: &[u8],
-    schema: &Schema,
+    table: &Table<H>,
     limits: &Limits,
-) -> Result<Sequence<Row>, Refused>
-    ensures told { IfOk result
-        (λ rows. rows_told limits.now.bounds schema.now bytes.now ≡ Ok rows) }
-    ensures fit { IfOk result (λ rows. IsTrue (list_all (fits_columns schema.now.columns) rows)) }
+) -> Result<(Table<H>, u64), Refused>
+    ensures staged { IfOk result (λ staged. HasStaged (rows_told limits.now.bounds table.now.heading
+        bytes.now) table.now.heading staged.0 staged.1) }
     ensures refused { IfErr result (λ why. (why ≡ unnumbered Memory)
-        ⊎ (rows_told limits.now.bounds schema.now bytes.now ≡ Err why)) }
+        ⊎ (rows_told limits.now.bounds table.now.heading bytes.now ≡ Err why)) }
 {
-    match load_rows(alloc, bytes, schema, limits) {
-        Ok(rows) => Ok(rows),
-        Err(fault) => Err(refused_by(fault)),
+    let mut reader = match RowReader::new(alloc, bytes, table.schema(), limits) {
+        Ok(reader) => reader,
+        Err(fault) => return Err(refused_by(fault)),
+    };
+    let mut staged = table.new_like(line_ends(bytes).min(limits.bounds.rows))?;
+    let count = stage_rows(alloc, &mut reader, &mut staged, limits)?;
+    Ok((staged, count))
+}
+
+// Puts all rows that are yet to come, and answers how many they were. They are no more than the
+// limit, so a row is refused for want of memory alone. A row that replaces another gives way to it,
+// and the memory of the row that was replaced is used for the next.
+fn stage_rows<H: KeyHash<Key> + Copy>(
+    alloc: Global,
+    reader: &mut RowReader<'_>,
+    staged: &mut Table<H>,
+    limits: &Limits,
+) -> Result<u64, Refused>
+    requires heading { reader.old.heading ≡ staged.old.heading }
+    requires empty { staged.old.rows ≡ [] }
+    ensures staged { IfOk result (λ count.
+        HasStaged (refused_by reader.old.rows) staged.old.heading staged.new count) }
+    ensures refused { IfErr result (λ why. (why ≡ unnumbered Memory)
+        ⊎ (refused_by reader.old.rows ≡ Err why)) }
+{
+    let mut row = Row::new(Vec::new(alloc));
+    for count in 0..u64::MAX {
+        match reader.read(&mut row) {
+            Err(fault) => return Err(refused_by(fault)),
+            Ok(false) => return Ok(count),
+            Ok(true) => {
+                if staged.put(&mut row, limits).is_err() {
+                    return Err(Refused::from(Refusal::Memory));
+                }
+            }
+        }
     }
+    Err(Refused::from(Refusal::Memory))
 }
 
 // The refusal for a payload's fault, with the number of the faulty record where there is one.

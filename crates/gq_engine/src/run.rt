@@ -9,6 +9,7 @@ use crate::sending::{WriteFault, send};
 use gq_command::{CommandReader, Item, LineRefusal, ReadFault};
 use gq_reply::{Refusal, Reply, line_of, rows_text};
 use gq_row::Key;
+use gq_spill::RunStore;
 use std::alloc::AllocError;
 use std::io::{Read, Write};
 use sw_probe::KeyHash;
@@ -49,7 +50,7 @@ pub enum Fault {
     Write,
 }
 
-impl<H: KeyHash<Key> + Copy> Engine<H> {
+impl<H: KeyHash<Key> + Copy, S: RunStore> Engine<H, S> {
     ghost use Rattle.std.specs.Prelude.{◌≡◌, ◌∷◌, [], IfSome, IfNone};
     ghost use Rattle.gq_command.specs.Items.{IsReady};
     ghost use Rattle.gq_engine.specs.Engines.{database, failures_of, setting_of, state_of};
@@ -67,9 +68,9 @@ impl<H: KeyHash<Key> + Copy> Engine<H> {
         writer: &mut W,
     ) -> Result<Summary, Fault>
         // What is written is, command by command, the replies of plain lists of rows.
-        ensures ran { Ran (setting_of self.old) (state_of self.old) (R.remaining reader)
-            (state_of self.new) (W.contents writer.old) (W.contents writer.new) result }
-        ensures setting { setting_of self.new ≡ setting_of self.old }
+        ensures ran { Ran (setting_of S.runs self.old) (state_of S.runs self.old) (R.remaining reader)
+            (state_of S.runs self.new) (W.contents writer.old) (W.contents writer.new) result }
+        ensures setting { setting_of S.runs self.new ≡ setting_of S.runs self.old }
     {
         let _tables = self.tables();
         let mut script = CommandReader::new(reader);
@@ -93,10 +94,10 @@ impl<H: KeyHash<Key> + Copy> Engine<H> {
 
     // Answers one item and writes the reply.
     fn serve<W: Write>(&mut self, item: Item, writer: &mut W) -> Result<Reply, WriteFault>
-        requires { IsReady (setting_of self.old).limits item }
-        ensures served { Served (setting_of self.old) (state_of self.old) item (state_of self.new)
+        requires { IsReady (setting_of S.runs self.old).limits item }
+        ensures served { Served (setting_of S.runs self.old) (state_of S.runs self.old) item (state_of S.runs self.new)
             (W.contents writer.old) (W.contents writer.new) result }
-        ensures setting { setting_of self.new ≡ setting_of self.old }
+        ensures setting { setting_of S.runs self.new ≡ setting_of S.runs self.old }
     {
         let (reply, text) = self.answer(item);
         match text {
@@ -108,13 +109,13 @@ impl<H: KeyHash<Key> + Copy> Engine<H> {
 
     // The reply to an item.
     fn reply_to(&mut self, item: Item) -> Reply
-        requires { IsReady (setting_of self.old).limits item }
-        ensures legal { AnsweredAlike (setting_of self.old) (database self.old) item result
+        requires { IsReady (setting_of S.runs self.old).limits item }
+        ensures legal { AnsweredAlike (setting_of S.runs self.old) (database self.old) item result
             (database self.new) }
-        ensures faults { FaultsHappened (result ∷ []) (failures_of self.old)
-            (failures_of self.new) }
+        ensures faults { FaultsHappened (result ∷ []) (failures_of S.runs self.old)
+            (failures_of S.runs self.new) }
         ensures kept { KeptUnlessDone result (database self.old) (database self.new) }
-        ensures setting { setting_of self.new ≡ setting_of self.old }
+        ensures setting { setting_of S.runs self.new ≡ setting_of S.runs self.old }
     {
         match item {
             Item::Command(command) => return self.execute(command),
@@ -124,12 +125,12 @@ impl<H: KeyHash<Key> + Copy> Engine<H> {
 
     // The reply to an item, and its text where that needs memory.
     fn answer(&mut self, item: Item) -> (Reply, Option<Vec<u8>>)
-        requires { IsReady (setting_of self.old).limits item }
-        ensures legal { AnsweredAlike (setting_of self.old) (database self.old) item result.0
+        requires { IsReady (setting_of S.runs self.old).limits item }
+        ensures legal { AnsweredAlike (setting_of S.runs self.old) (database self.old) item result.0
             (database self.new) }
-        ensures faults { FaultsHappened (result.0 ∷ []) (failures_of self.old)
-            (failures_of self.new) }
-        ensures setting { setting_of self.new ≡ setting_of self.old }
+        ensures faults { FaultsHappened (result.0 ∷ []) (failures_of S.runs self.old)
+            (failures_of S.runs self.new) }
+        ensures setting { setting_of S.runs self.new ≡ setting_of S.runs self.old }
         ensures text { IfSome result.1 (λ bytes. bytes.items ≡ text result.0) }
         ensures line { IfNone result.1 (IsLine result.0) }
     {

@@ -1,7 +1,8 @@
 //! Readers and writers that fail: what was written then, and what the tables are.
 use crate::devices::{Endless, Fussy, Pieces, Trouble};
+use crate::engines::engine;
 use crate::runs::{STATIONS, script};
-use gq_engine::{Engine, Fault};
+use gq_engine::{Engine, Fault, MemStore};
 use gq_row::{Bounds, Limits};
 use std::alloc::{AllocError, Global};
 use std::io::ErrorKind;
@@ -33,7 +34,7 @@ fn cities_after(commands: usize) -> &'static [u8] {
 fn assert_stands_after(
     rt: &impl Abort,
     alloc: Global,
-    engine: &mut Engine<Fnv1a>,
+    engine: &mut Engine<Fnv1a, MemStore>,
     commands: usize,
 ) {
     let mut written = Vec::new(alloc);
@@ -53,7 +54,7 @@ fn each_read_fails(rt: HostRuntime) -> Result<(), Fail> {
     let whole = script(rt.alloc())?;
     for fails_at in 1..whole.len().saturating_add(2) {
         for error in [ErrorKind::Other, ErrorKind::Interrupted] {
-            let mut engine = Engine::new(rt.alloc(), Fnv1a { seed: 0 }, Limits::greatest());
+            let mut engine = engine(rt.alloc(), Limits::greatest());
             let mut written = Vec::new(rt.alloc());
             let reader = Pieces {
                 bytes: whole.as_slice(),
@@ -90,7 +91,7 @@ fn a_reader_without_an_end(rt: HostRuntime) -> Result<(), Fail> {
     // whole within the limit are answered.
     let cases: [([u8; 2], usize); 4] = [(*b"\n\n", 0), (*b"xx", 0), (*b"  ", 0), (*b"x\n", 50)];
     for (bytes, lines) in cases {
-        let mut engine = Engine::new(rt.alloc(), Fnv1a { seed: 0 }, limits);
+        let mut engine = engine(rt.alloc(), limits);
         let mut written = Vec::new(rt.alloc());
         let ended = engine.run(Endless { bytes, given: 0 }, &mut written);
         assert!(rt; ended == Err(Fault::Read), "{bytes:?}");
@@ -115,7 +116,7 @@ fn each_write_fails(rt: HostRuntime) -> Result<(), Fail> {
             Trouble::Write(ErrorKind::Interrupted),
             Trouble::Full,
         ] {
-            let mut engine = Engine::new(rt.alloc(), Fnv1a { seed: 0 }, Limits::greatest());
+            let mut engine = engine(rt.alloc(), Limits::greatest());
             let mut writer = Fussy::new(rt.alloc(), 1, trouble, k);
             let ended = engine.run(whole.as_slice(), &mut writer);
             assert!(rt; ended == Err(Fault::Write), "write {k}");
@@ -136,7 +137,7 @@ fn each_flush_fails(rt: HostRuntime) -> Result<(), Fail> {
     for k in 1..STATIONS.len().saturating_add(1) {
         for error in [ErrorKind::Other, ErrorKind::Interrupted] {
             for most in [1usize, 1000] {
-                let mut engine = Engine::new(rt.alloc(), Fnv1a { seed: 0 }, Limits::greatest());
+                let mut engine = engine(rt.alloc(), Limits::greatest());
                 let mut writer = Fussy::new(rt.alloc(), most, Trouble::Flush(error), k);
                 let ended = engine.run(whole.as_slice(), &mut writer);
                 assert!(rt; ended == Err(Fault::Write), "flush {k}");

@@ -8,6 +8,8 @@
 #[cfg(test)]
 mod devices;
 #[cfg(test)]
+mod engines;
+#[cfg(test)]
 mod faults;
 #[cfg(test)]
 mod keys;

@@ -1,9 +1,9 @@
 //! Each limit at its value and one past it.
-use gq_engine::{Engine, Fault};
+use crate::engines::engine;
+use gq_engine::Fault;
 use gq_row::{Bounds, Limits};
 use std::alloc::Global;
 use std::test::Fail;
-use sw_probe::Fnv1a;
 
 /// The greatest bounds, and a field's place among them.
 const FIELDS: [(&str, u64); 9] = [
@@ -59,7 +59,7 @@ fn limits_from_one_to_the_greatest(rt: HostRuntime) {
 
 /// What a run under limits writes, and whether a read fault ended it.
 fn run(alloc: Global, limits: Limits, script: &[u8]) -> (Vec<u8>, bool) {
-    let mut engine = Engine::new(alloc, Fnv1a { seed: 0 }, limits);
+    let mut engine = engine(alloc, limits);
     let mut written = Vec::new(alloc);
     let ended = engine.run(script, &mut written);
     (written, ended == Err(Fault::Read))
@@ -88,9 +88,9 @@ const CASES: [(&str, u64, &[u8], &[u8]); 17] = [
     ),
     (
         "aggregates",
-        1,
-        b"create a (x int)\ngroup a by x show count(*)\n",
-        b"ok 0\nok 0\nx,count(*)\n",
+        2,
+        b"create a (x int)\ngroup a by x show count(*)\ngroup a by x show min(x), max(x)\ngroup a show min(x), max(x), count(*)\n",
+        b"ok 0\nok 0\nx,count(*)\nok 0\nx,min(x),max(x)\nerr 14 Limit\n",
     ),
     (
         "name",

@@ -5,7 +5,9 @@ use gq_command::{
     Aggregate, Command, CommandReader, Item, LineRefusal, Payload, ReadFault, parse_line,
 };
 use gq_row::{Bounds, Kind, Limits, Value};
+use std::alloc::Global;
 use std::io::{ErrorKind, Read};
+use std::process::Abort;
 use std::test::Fail;
 
 /// Limits of a line and a script that a test can reach.
@@ -38,7 +40,7 @@ fn letter(answer: &Result<Command, LineRefusal>) -> char {
         Ok(Command::Delete { .. }) => 'x',
         Ok(Command::Show { .. }) => 's',
         Ok(Command::Group { .. }) => 'g',
-        Ok(Command::Distinct { .. }) => '?',
+        Ok(Command::Distinct { .. }) => 'n',
         Err(LineRefusal::Syntax) => 'S',
         Err(LineRefusal::LineTooLong) => 'T',
         Err(LineRefusal::Limit) => 'L',
@@ -47,7 +49,7 @@ fn letter(answer: &Result<Command, LineRefusal>) -> char {
 }
 
 /// Lines, each with what it gives at the greatest limits.
-const LINES: [(&[u8], char); 66] = [
+const LINES: [(&[u8], char); 84] = [
     (b"create s (id int, city text, key (id))", 'c'),
     (b"CREATE s(id INT,city Text,KEY(id))", 'c'),
     (b"\tcreate\tt (a int)  ", 'c'),
@@ -85,9 +87,22 @@ const LINES: [(&[u8], char); 66] = [
     (b"upsert s ('a''')", 'u'),
     (b"upsert s ('\xFF')", 'S'),
     (b"group s by a, a show count(*)", 'S'),
-    (b"group s by a show count(*), count(*)", 'S'),
-    (b"group s by a show count(a)", 'S'),
-    (b"group s show count(*)", 'S'),
+    (b"group s by a show count(*), count(*)", 'g'),
+    (b"group s by a show count(a)", 'g'),
+    (b"group s show count(*)", 'g'),
+    (
+        b"group s show Count(Distinct a), SUM(a), min ( \"sum\" ), max(a)",
+        'g',
+    ),
+    (b"group s show", 'S'),
+    (b"group s by show count(*)", 'S'),
+    (b"group s show sum(*)", 'S'),
+    (b"group s show sum(distinct a)", 'S'),
+    (b"group s show count(distinct *)", 'S'),
+    (b"group s show count()", 'S'),
+    (b"group s show avg(a)", 'S'),
+    (b"group s show count(*),", 'S'),
+    (b"group s show sum(sum)", 'S'),
     (b"show s", 's'),
     (b"SHOW \"show\"", 's'),
     (b"show", 'S'),
@@ -112,18 +127,32 @@ const LINES: [(&[u8], char); 66] = [
     (b"delete s (1,)", 'S'),
     (b"delete s (1) x", 'S'),
     (b"delete (1)", 'S'),
-    (b"distinct s on a", 'S'),
+    (b"distinct s on a", 'n'),
+    (b"distinct s on a, \"b\" where a <= b and b is null", 'n'),
+    (b"distinct s", 'S'),
+    (b"distinct s on a, a", 'S'),
+    (b"group s show count(*) where a = 1 and b is not null", 'g'),
+    (
+        b"group s by a show sum(b) not exists t (x, y) = (a, b) having sum(b) <> 0",
+        'g',
+    ),
+    (b"group s show count(*) where count(*) = 1", 'S'),
+    (b"group s show count(*) exists t (x) = (a, b)", 'S'),
+    (b"group s show count(*) where a = 1 or a = 2", 'S'),
     (b"upsert s (1)\r", 'S'),
 ];
 
-#[test]
-fn lines_at_the_greatest_limits(rt: HostRuntime) -> Result<(), Fail> {
-    let limits = Limits::greatest();
-    for (line, want) in LINES {
-        let got = letter(&parse_line(rt.alloc(), line, &limits));
-        assert_eq!(rt; got, want, "{line:?}");
+/// Asserts that each line gives what stands beside it.
+fn assert_letters(rt: &impl Abort, alloc: Global, limits: &Limits, lines: &[(&[u8], char)]) {
+    for (line, want) in lines {
+        let got = letter(&parse_line(alloc, line, limits));
+        assert_eq!(rt; got, *want, "{line:?}");
     }
-    Ok(())
+}
+
+#[test]
+fn lines_at_the_greatest_limits(rt: HostRuntime) {
+    assert_letters(&rt, rt.alloc(), &Limits::greatest(), &LINES);
 }
 
 #[test]

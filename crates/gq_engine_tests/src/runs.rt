@@ -1,11 +1,11 @@
 //! Commands, replies and runs, with ample memory.
 use crate::devices::Pieces;
+use crate::engines::engine;
 use gq_command::parse_line;
-use gq_engine::{Engine, Refusal, Reply, Summary, reply_text};
+use gq_engine::{Refusal, Reply, Summary, reply_text};
 use gq_row::{Limits, Value};
 use std::alloc::{AllocError, Global};
 use std::test::Fail;
-use sw_probe::Fnv1a;
 
 /// Lines of a script, each with its reply.
 pub const STATIONS: [(&[u8], &[u8]); 5] = [
@@ -59,7 +59,7 @@ fn a_run_counts_its_commands_and_refusals(rt: HostRuntime) -> Result<(), Fail> {
         ),
     ];
     for (script, due, commands, refused) in cases {
-        let mut engine = Engine::new(rt.alloc(), Fnv1a { seed: 0 }, Limits::greatest());
+        let mut engine = engine(rt.alloc(), Limits::greatest());
         let mut written = Vec::new(rt.alloc());
         let ended = engine.run(script, &mut written);
         assert_eq!(rt; written.as_slice(), due);
@@ -70,7 +70,7 @@ fn a_run_counts_its_commands_and_refusals(rt: HostRuntime) -> Result<(), Fail> {
 
 #[test]
 fn tables_stay_from_run_to_run(rt: HostRuntime) -> Result<(), Fail> {
-    let mut engine = Engine::new(rt.alloc(), Fnv1a { seed: 0 }, Limits::greatest());
+    let mut engine = engine(rt.alloc(), Limits::greatest());
     for (line, reply) in STATIONS {
         let mut written = Vec::new(rt.alloc());
         let ended = engine.run(line, &mut written);
@@ -89,7 +89,7 @@ fn tables_stay_from_run_to_run(rt: HostRuntime) -> Result<(), Fail> {
 #[test]
 fn commands_carried_out_one_by_one(rt: HostRuntime) -> Result<(), Fail> {
     let limits = Limits::greatest();
-    let mut engine = Engine::new(rt.alloc(), Fnv1a { seed: 0 }, limits);
+    let mut engine = engine(rt.alloc(), limits);
     for (line, due) in STATIONS {
         let Ok(command) = parse_line(rt.alloc(), line, &limits) else {
             return Err(Fail::new("a line says no command"));
@@ -168,7 +168,7 @@ fn scripts_cut_at_each_byte(rt: HostRuntime) -> Result<(), Fail> {
         let due = replies_to_front(rt.alloc(), count)?;
         for size in [1usize, 2, 3, 7, 1000] {
             let (front, _rest) = whole.as_slice().split_at(count.min(whole.len()));
-            let mut engine = Engine::new(rt.alloc(), Fnv1a { seed: 0 }, Limits::greatest());
+            let mut engine = engine(rt.alloc(), Limits::greatest());
             let mut written = Vec::new(rt.alloc());
             let ended = engine.run(Pieces::of(front, size), &mut written);
             assert!(rt; ended.is_ok());

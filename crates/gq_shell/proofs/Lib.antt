@@ -1,3 +1,4 @@
+mod BudgetLemmas
 mod GivenLemmas
 mod LineLemmas
 mod SeedLemmas

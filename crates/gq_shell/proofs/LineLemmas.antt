@@ -4,7 +4,7 @@ use Rattle.clap.specs.Words.{Text}
 use Rattle.clap.specs.Lexer.{strip_byte}
 use Rattle.clap.specs.declared.error.kind.ErrorKind.TheVariants.{DisplayHelp, UnknownArgument}
 use Rattle.clap.proofs.OnLiterals.{clap_on_literals}
-use Rattle.gq_shell.specs.CommandLine.{Names, TakesOnePath, faults_of, has_dash, script_of, seed_of}
+use Rattle.gq_shell.specs.CommandLine.{Names, TakesOnePath, budget_of, faults_of, has_dash, script_of, seed_of}
 
 pub no-dash : (c : ℕ) (cs : Text) → (c == 45) ≡ false → strip_byte 45 (c ∷ cs) ≡ None
 no-dash c cs plain = rw plain refl
@@ -32,31 +32,36 @@ second-refused name (c ∷ cs) [] one_plain two_plain = rw one_plain (rw (no-das
 second-refused name (c ∷ cs) (d ∷ ds) one_plain two_plain =
     rw one_plain (rw (no-dash c cs one_plain) (rw two_plain (rw (no-dash d ds two_plain) refl)))
 
--- a path alone comes with no seed
+-- a path alone comes with no seed and no budget
 no-seed-named : (name path : Text) → has_dash path ≡ false → seed_of (name ∷ path ∷ []) ≡ 0
 unfolding clap_on_literals
 no-seed-named name [] plain = refl
 no-seed-named name (c ∷ cs) plain = rw plain (rw (no-dash c cs plain) refl)
 
-one-path : (name path : Text) → has_dash path ≡ false → Names (name ∷ path ∷ []) (Some path) 0
+no-budget-named : (name path : Text) → has_dash path ≡ false → budget_of (name ∷ path ∷ []) ≡ 65536
+unfolding clap_on_literals
+no-budget-named name [] plain = refl
+no-budget-named name (c ∷ cs) plain = rw plain (rw (no-dash c cs plain) refl)
+
+one-path : (name path : Text) → has_dash path ≡ false → Names (name ∷ path ∷ []) (Some path) 0 65536
 one-path name path plain = record {
   accepted = path-accepted name path plain;
   script_is = path-named name path plain;
   seed_is = no-seed-named name path plain;
+  budget_is = no-budget-named name path plain;
 }
 
 pub takes-one-path : TakesOnePath
 unfolding clap_on_literals
 takes-one-path = record {
-  nothing = λ name. record { accepted = refl; script_is = refl; seed_is = refl };
+  nothing = λ name. record { accepted = refl; script_is = refl; seed_is = refl; budget_is = refl };
   path = one-path;
-  dash = λ name. record { accepted = refl; script_is = refl; seed_is = refl };
-  any_path = λ name path. record { accepted = refl; script_is = refl; seed_is = refl };
+  dash = λ name. record { accepted = refl; script_is = refl; seed_is = refl; budget_is = refl };
+  any_path = λ name path. record { accepted = refl; script_is = refl; seed_is = refl; budget_is = refl };
   help = λ name. refl;
   short_help = λ name. refl;
   late_help = helped-late;
   two_paths = second-refused;
-  budget = λ name more. refl;
   spill = λ name more. refl;
   stats = λ name more. refl;
 }

@@ -8,7 +8,7 @@ use Rattle.clap.specs.ValueTests.{is_numeral, is_unsigned_in}
 use Rattle.clap.specs.declared.error.kind.ErrorKind.TheVariants.{ArgumentConflict, InvalidValue, UnknownArgument, ValueValidation}
 use Rattle.clap.proofs.OnLiterals.{clap_on_literals}
 use Rattle.clap.proofs.WalkLemmas.{both}
-use Rattle.gq_shell.specs.CommandLine.{Names, SeedsWorked, TakesOneSeed, faults_of, has_dash, is_seed, number_of, script_of, seed_of}
+use Rattle.gq_shell.specs.CommandLine.{Names, SeedsWorked, TakesOneSeed, budget_of, faults_of, has_dash, is_seed, number_of, script_of, seed_of}
 use Rattle.gq_shell.proofs.LineLemmas.{no-dash}
 
 -- a seed begins with no dash
@@ -48,18 +48,24 @@ unfolding clap_on_literals
 alone-script name [] plain = refl
 alone-script name (c ∷ cs) plain = rw plain (rw (no-dash c cs plain) refl)
 
+alone-other : (name seed : Text) → has_dash seed ≡ false → budget_of (name ∷ codes "--seed" ∷ seed ∷ []) ≡ 65536
+unfolding clap_on_literals
+alone-other name [] plain = refl
+alone-other name (c ∷ cs) plain = rw plain (rw (no-dash c cs plain) refl)
+
 alone-seed : (name seed : Text) → has_dash seed ≡ false → seed_of (name ∷ codes "--seed" ∷ seed ∷ []) ≡ number_of seed
 unfolding clap_on_literals
 alone-seed name [] plain = refl
 alone-seed name (c ∷ cs) plain = rw plain (rw (no-dash c cs plain) refl)
 
-seed-alone : (name seed : Text) → is_seed seed ≡ true → Names (name ∷ codes "--seed" ∷ seed ∷ []) None (number_of seed)
+seed-alone : (name seed : Text) → is_seed seed ≡ true → Names (name ∷ codes "--seed" ∷ seed ∷ []) None (number_of seed) 65536
 seed-alone name seed is =
     let plain = seed-plain seed is in
     record {
       accepted = alone-accepted name seed is plain;
       script_is = alone-script name seed plain;
       seed_is = alone-seed name seed plain;
+      budget_is = alone-other name seed plain;
     }
 
 -- ---- before a path
@@ -78,6 +84,13 @@ before-script name [] (p ∷ ps) plain p_plain = rw p_plain (rw (no-dash p ps p_
 before-script name (c ∷ cs) [] plain p_plain = rw plain (rw (no-dash c cs plain) refl)
 before-script name (c ∷ cs) (p ∷ ps) plain p_plain = rw plain (rw (no-dash c cs plain) (rw p_plain (rw (no-dash p ps p_plain) refl)))
 
+before-other : (name seed path : Text) → has_dash seed ≡ false → has_dash path ≡ false → budget_of (name ∷ codes "--seed" ∷ seed ∷ path ∷ []) ≡ 65536
+unfolding clap_on_literals
+before-other name [] [] plain p_plain = refl
+before-other name [] (p ∷ ps) plain p_plain = rw p_plain (rw (no-dash p ps p_plain) refl)
+before-other name (c ∷ cs) [] plain p_plain = rw plain (rw (no-dash c cs plain) refl)
+before-other name (c ∷ cs) (p ∷ ps) plain p_plain = rw plain (rw (no-dash c cs plain) (rw p_plain (rw (no-dash p ps p_plain) refl)))
+
 before-seed : (name seed path : Text) → has_dash seed ≡ false → has_dash path ≡ false → seed_of (name ∷ codes "--seed" ∷ seed ∷ path ∷ []) ≡ number_of seed
 unfolding clap_on_literals
 before-seed name [] [] plain p_plain = refl
@@ -85,13 +98,14 @@ before-seed name [] (p ∷ ps) plain p_plain = rw p_plain (rw (no-dash p ps p_pl
 before-seed name (c ∷ cs) [] plain p_plain = rw plain (rw (no-dash c cs plain) refl)
 before-seed name (c ∷ cs) (p ∷ ps) plain p_plain = rw plain (rw (no-dash c cs plain) (rw p_plain (rw (no-dash p ps p_plain) refl)))
 
-seed-before : (name seed path : Text) → is_seed seed ≡ true → has_dash path ≡ false → Names (name ∷ codes "--seed" ∷ seed ∷ path ∷ []) (Some path) (number_of seed)
+seed-before : (name seed path : Text) → is_seed seed ≡ true → has_dash path ≡ false → Names (name ∷ codes "--seed" ∷ seed ∷ path ∷ []) (Some path) (number_of seed) 65536
 seed-before name seed path is p_plain =
     let plain = seed-plain seed is in
     record {
       accepted = before-accepted name seed path is plain p_plain;
       script_is = before-script name seed path plain p_plain;
       seed_is = before-seed name seed path plain p_plain;
+      budget_is = before-other name seed path plain p_plain;
     }
 
 -- ---- behind a path
@@ -110,6 +124,13 @@ behind-script name [] (p ∷ ps) plain p_plain = rw p_plain (rw (no-dash p ps p_
 behind-script name (c ∷ cs) [] plain p_plain = rw plain (rw (no-dash c cs plain) refl)
 behind-script name (c ∷ cs) (p ∷ ps) plain p_plain = rw p_plain (rw (no-dash p ps p_plain) (rw plain (rw (no-dash c cs plain) refl)))
 
+behind-other : (name seed path : Text) → has_dash seed ≡ false → has_dash path ≡ false → budget_of (name ∷ path ∷ codes "--seed" ∷ seed ∷ []) ≡ 65536
+unfolding clap_on_literals
+behind-other name [] [] plain p_plain = refl
+behind-other name [] (p ∷ ps) plain p_plain = rw p_plain (rw (no-dash p ps p_plain) refl)
+behind-other name (c ∷ cs) [] plain p_plain = rw plain (rw (no-dash c cs plain) refl)
+behind-other name (c ∷ cs) (p ∷ ps) plain p_plain = rw p_plain (rw (no-dash p ps p_plain) (rw plain (rw (no-dash c cs plain) refl)))
+
 behind-seed : (name seed path : Text) → has_dash seed ≡ false → has_dash path ≡ false → seed_of (name ∷ path ∷ codes "--seed" ∷ seed ∷ []) ≡ number_of seed
 unfolding clap_on_literals
 behind-seed name [] [] plain p_plain = refl
@@ -117,49 +138,55 @@ behind-seed name [] (p ∷ ps) plain p_plain = rw p_plain (rw (no-dash p ps p_pl
 behind-seed name (c ∷ cs) [] plain p_plain = rw plain (rw (no-dash c cs plain) refl)
 behind-seed name (c ∷ cs) (p ∷ ps) plain p_plain = rw p_plain (rw (no-dash p ps p_plain) (rw plain (rw (no-dash c cs plain) refl)))
 
-seed-behind : (name seed path : Text) → is_seed seed ≡ true → has_dash path ≡ false → Names (name ∷ path ∷ codes "--seed" ∷ seed ∷ []) (Some path) (number_of seed)
+seed-behind : (name seed path : Text) → is_seed seed ≡ true → has_dash path ≡ false → Names (name ∷ path ∷ codes "--seed" ∷ seed ∷ []) (Some path) (number_of seed) 65536
 seed-behind name seed path is p_plain =
     let plain = seed-plain seed is in
     record {
       accepted = behind-accepted name seed path is plain p_plain;
       script_is = behind-script name seed path plain p_plain;
       seed_is = behind-seed name seed path plain p_plain;
+      budget_is = behind-other name seed path plain p_plain;
     }
 
 -- ---- in one word
 
-joined-alone : (name seed : Text) → is_seed seed ≡ true → Names (name ∷ (codes "--seed=" ++ seed) ∷ []) None (number_of seed)
+joined-alone : (name seed : Text) → is_seed seed ≡ true → Names (name ∷ (codes "--seed=" ++ seed) ∷ []) None (number_of seed) 65536
 unfolding clap_on_literals
 joined-alone name seed is = record {
   accepted = rw (same-test seed) (rw is refl);
   script_is = refl;
   seed_is = refl;
+  budget_is = refl;
 }
 
-joined-before : (name seed path : Text) → is_seed seed ≡ true → has_dash path ≡ false → Names (name ∷ (codes "--seed=" ++ seed) ∷ path ∷ []) (Some path) (number_of seed)
+joined-before : (name seed path : Text) → is_seed seed ≡ true → has_dash path ≡ false → Names (name ∷ (codes "--seed=" ++ seed) ∷ path ∷ []) (Some path) (number_of seed) 65536
 unfolding clap_on_literals
 joined-before name seed [] is plain = record {
   accepted = rw (same-test seed) (rw is refl);
   script_is = refl;
   seed_is = refl;
+  budget_is = refl;
 }
 joined-before name seed (p ∷ ps) is plain = record {
   accepted = rw plain (rw (no-dash p ps plain) (rw (same-test seed) (rw is refl)));
   script_is = rw plain (rw (no-dash p ps plain) refl);
   seed_is = rw plain (rw (no-dash p ps plain) refl);
+  budget_is = rw plain (rw (no-dash p ps plain) refl);
 }
 
-joined-behind : (name seed path : Text) → is_seed seed ≡ true → has_dash path ≡ false → Names (name ∷ path ∷ (codes "--seed=" ++ seed) ∷ []) (Some path) (number_of seed)
+joined-behind : (name seed path : Text) → is_seed seed ≡ true → has_dash path ≡ false → Names (name ∷ path ∷ (codes "--seed=" ++ seed) ∷ []) (Some path) (number_of seed) 65536
 unfolding clap_on_literals
 joined-behind name seed [] is plain = record {
   accepted = rw (same-test seed) (rw is refl);
   script_is = refl;
   seed_is = refl;
+  budget_is = refl;
 }
 joined-behind name seed (p ∷ ps) is plain = record {
   accepted = rw plain (rw (no-dash p ps plain) (rw (same-test seed) (rw is refl)));
   script_is = rw plain (rw (no-dash p ps plain) refl);
   seed_is = rw plain (rw (no-dash p ps plain) refl);
+  budget_is = rw plain (rw (no-dash p ps plain) refl);
 }
 
 -- ---- mistakes
@@ -200,10 +227,10 @@ takes-one-seed = record {
 pub seeds-worked : SeedsWorked
 unfolding clap_on_literals
 seeds-worked = record {
-  five = λ name. record { accepted = refl; script_is = refl; seed_is = refl };
-  joined_five = λ name. record { accepted = refl; script_is = refl; seed_is = refl };
-  with_plus = λ name. record { accepted = refl; script_is = refl; seed_is = refl };
-  greatest = λ name. record { accepted = refl; script_is = refl; seed_is = refl };
+  five = λ name. record { accepted = refl; script_is = refl; seed_is = refl; budget_is = refl };
+  joined_five = λ name. record { accepted = refl; script_is = refl; seed_is = refl; budget_is = refl };
+  with_plus = λ name. record { accepted = refl; script_is = refl; seed_is = refl; budget_is = refl };
+  greatest = λ name. record { accepted = refl; script_is = refl; seed_is = refl; budget_is = refl };
   too_great = λ name. refl;
   letter = λ name. refl;
   empty = λ name. refl;

@@ -41,7 +41,7 @@ AnsweredBadLine (Help text) replies errors status = Helped (string_bytes text) r
 AnsweredBadLine (Mistake text) replies errors status = IsUntouched replies × Stopped errors (string_bytes text) 2 status
 AnsweredBadLine Memory replies errors status = IsUntouched replies × StoppedForMemory errors status
 
--- the limits of the program's engine, which has no run store that could lie
+-- the limits of the program's engine, and its run store, which keeps runs in memory and doesn't lie
 abbrev pub PROGRAM : Setting
 PROGRAM = record { limits = GREATEST; honest = true }
 

@@ -1,5 +1,6 @@
 //! Laws: what the definitions come to. Each is the contract of a function that does nothing.
-ghost use Rattle.gq_shell.specs.CommandLine.{SeedsWorked, TakesOnePath, TakesOneSeed};
+ghost use Rattle.gq_shell.specs.CommandLine.{BudgetsWorked, SeedsWorked};
+ghost use Rattle.gq_shell.specs.CommandLine.{TakesOneBudget, TakesOnePath, TakesOneSeed};
 ghost use Rattle.gq_shell.specs.Statuses.{StatusesTell};
 
 /// The program takes one path, or none, and tells help from mistakes.
@@ -11,6 +12,12 @@ pub fn takes_one_path()
 pub fn takes_one_seed()
     ensures vary { TakesOneSeed }
     ensures worked { SeedsWorked }
+{}
+
+/// Besides a path and a seed it takes one budget, before or behind them.
+pub fn takes_one_budget()
+    ensures vary { TakesOneBudget }
+    ensures worked { BudgetsWorked }
 {}
 
 /// What a session's status tells: all accepted, some refused, or stopped by a fault.

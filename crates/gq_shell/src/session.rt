@@ -5,24 +5,24 @@ ghost use Rattle.gq_shell.specs.Session.{EndedWith, status_of, complaint};
 ghost use Rattle.gq_shell.specs.Streams.{stream};
 
 use crate::telling::tell;
-use gq_engine::{Engine, Fault, Summary};
+use gq_engine::{Engine, Fault, RunStore, Summary};
 use gq_row::Key;
 use std::io::{Read, Write};
 use sw_probe::KeyHash;
 
 /// Runs a script: reads it from the reader, writes the reply to each command, and answers the exit
 /// status. A fault is told to `errors`; one in telling it is passed over.
-pub fn session<H: KeyHash<Key> + Copy, R: Read + Drop, W: Write, E: Write>(
-    engine: &mut Engine<H>,
+pub fn session<H: KeyHash<Key> + Copy, S: RunStore, R: Read + Drop, W: Write, E: Write>(
+    engine: &mut Engine<H, S>,
     reader: R,
     writer: &mut W,
     errors: &mut E,
 ) -> u8
     // What was written is as the engine ran, and the status stands for how that ended.
-    ensures ended { EndedWith (setting_of engine.old) (state_of engine.old) (R.remaining reader)
-        (state_of engine.new) (stream W.contents writer.old writer.new)
+    ensures ended { EndedWith (setting_of S.runs engine.old) (state_of S.runs engine.old) (R.remaining reader)
+        (state_of S.runs engine.new) (stream W.contents writer.old writer.new)
         (stream E.contents errors.old errors.new) result }
-    ensures setting { setting_of engine.new ≡ setting_of engine.old }
+    ensures setting { setting_of S.runs engine.new ≡ setting_of S.runs engine.old }
 {
     let ended = engine.run(reader, writer);
     let _told = tell(complaint(&ended), errors);

@@ -4,7 +4,7 @@ use crate::program::run_program;
 use crate::session::session;
 use crate::telling::CutShort;
 use crate::words::{BadLine, read_words};
-use gq_engine::Engine;
+use gq_engine::{Budget, Engine, MemStore};
 use gq_row::{Bounds, Limits};
 use std::alloc::{AllocError, Global};
 use std::io::{self, ErrorKind, Read, Write};
@@ -19,33 +19,62 @@ fn owned(alloc: Global, words: &[&str]) -> Result<Vec<String>, AllocError> {
     Ok(all)
 }
 
-/// Each command line, and the script and the seed that it names.
+fn fresh(alloc: Global, limits: Limits) -> Result<Engine<Fnv1a, MemStore>, Fail> {
+    let Some(budget) = Budget::new(65_536) else {
+        return Err(Fail::new("no budget"));
+    };
+    Ok(Engine::new(
+        alloc,
+        Fnv1a { seed: 0 },
+        MemStore::new(alloc),
+        budget,
+        limits,
+    ))
+}
+
+/// Each command line, and the script, the seed and the budget that it names.
 #[test]
 fn command_lines(rt: HostRuntime) -> Result<(), Fail> {
-    let cases: [(&[&str], Option<&str>, u64); 16] = [
-        (&["groupsh"], None, 0),
-        (&["groupsh", "a.gq"], Some("a.gq"), 0),
-        (&["groupsh", ""], Some(""), 0),
-        (&["groupsh", "-"], Some("-"), 0),
-        (&["groupsh", "--", "a.gq"], Some("a.gq"), 0),
-        (&["groupsh", "--", "--help"], Some("--help"), 0),
-        (&["groupsh", "--"], None, 0),
-        (&["groupsh", "--seed", "5"], None, 5),
-        (&["groupsh", "--seed", "5", "a.gq"], Some("a.gq"), 5),
-        (&["groupsh", "--seed=5", "a.gq"], Some("a.gq"), 5),
-        (&["groupsh", "a.gq", "--seed", "5"], Some("a.gq"), 5),
-        (&["groupsh", "a.gq", "--seed=5"], Some("a.gq"), 5),
-        (&["groupsh", "--seed", "+042"], None, 42),
-        (&["groupsh", "--seed", "0", "7"], Some("7"), 0),
-        (&["groupsh", "--seed=18446744073709551615"], None, u64::MAX),
-        (&["groupsh", "--", "--seed=5"], Some("--seed=5"), 0),
+    let cases: [(&[&str], Option<&str>, u64, u64); 21] = [
+        (&["groupsh"], None, 0, 65_536),
+        (&["groupsh", "a.gq"], Some("a.gq"), 0, 65_536),
+        (&["groupsh", ""], Some(""), 0, 65_536),
+        (&["groupsh", "-"], Some("-"), 0, 65_536),
+        (&["groupsh", "--", "a.gq"], Some("a.gq"), 0, 65_536),
+        (&["groupsh", "--", "--help"], Some("--help"), 0, 65_536),
+        (&["groupsh", "--"], None, 0, 65_536),
+        (&["groupsh", "--seed", "5"], None, 5, 65_536),
+        (&["groupsh", "--seed", "5", "a.gq"], Some("a.gq"), 5, 65_536),
+        (&["groupsh", "--seed=5", "a.gq"], Some("a.gq"), 5, 65_536),
+        (&["groupsh", "a.gq", "--seed", "5"], Some("a.gq"), 5, 65_536),
+        (&["groupsh", "a.gq", "--seed=5"], Some("a.gq"), 5, 65_536),
+        (&["groupsh", "--seed", "+042"], None, 42, 65_536),
+        (&["groupsh", "--seed", "0", "7"], Some("7"), 0, 65_536),
+        (
+            &["groupsh", "--seed=18446744073709551615"],
+            None,
+            u64::MAX,
+            65_536,
+        ),
+        (&["groupsh", "--", "--seed=5"], Some("--seed=5"), 0, 65_536),
+        (&["groupsh", "--budget", "1"], None, 0, 1),
+        (
+            &["groupsh", "--budget=1048576", "a.gq"],
+            Some("a.gq"),
+            0,
+            1_048_576,
+        ),
+        (&["groupsh", "a.gq", "--budget", "+07"], Some("a.gq"), 0, 7),
+        (&["groupsh", "--budget=10", "--seed=5"], None, 5, 10),
+        (&["groupsh", "--seed", "5", "--budget", "10"], None, 5, 10),
     ];
-    for (words, script, seed) in cases {
+    for (words, script, seed, budget) in cases {
         let words = owned(rt.alloc(), words)?;
         match read_words(rt.alloc(), words.as_slice()) {
             Ok(options) => {
                 assert!(rt; options.script == script, "{words:?}");
                 assert!(rt; options.seed == seed, "{words:?}");
+                assert!(rt; options.budget == budget, "{words:?}");
             }
             Err(other) => assert!(rt; false, "{words:?}: {other:?}"),
         }
@@ -56,10 +85,25 @@ fn command_lines(rt: HostRuntime) -> Result<(), Fail> {
 /// Each command line that is none, and what is wrong with it.
 #[test]
 fn mistakes(rt: HostRuntime) -> Result<(), Fail> {
-    let cases: [(&[&str], &str); 18] = [
+    let cases: [(&[&str], &str); 21] = [
         (&["groupsh", "a.gq", "b.gq"], "argument 'b.gq' found\n"),
-        (&["groupsh", "--budget", "7"], "argument '--budget' found\n"),
-        (&["groupsh", "--budget=7"], "argument '--budget' found\n"),
+        (&["groupsh", "--budget", "0"], "0 is not in 1..=1048576"),
+        (
+            &["groupsh", "--budget=1048577"],
+            "1048577 is not in 1..=1048576",
+        ),
+        (
+            &["groupsh", "--budget", "x"],
+            "invalid value 'x' for '--budget <N>'",
+        ),
+        (
+            &["groupsh", "--budget"],
+            "a value is required for '--budget <N>'",
+        ),
+        (
+            &["groupsh", "--budget=1", "--budget", "1"],
+            "cannot be used multiple times",
+        ),
         (&["groupsh", "--spill", "d"], "argument '--spill' found\n"),
         (&["groupsh", "--stats"], "argument '--stats' found\n"),
         (&["groupsh", "-x"], "argument '-x' found\n"),
@@ -171,7 +215,7 @@ fn statuses(rt: HostRuntime) -> Result<(), Fail> {
         ),
     ];
     for (script, due, status) in cases {
-        let mut engine = Engine::new(rt.alloc(), Fnv1a { seed: 0 }, Limits::greatest());
+        let mut engine = fresh(rt.alloc(), Limits::greatest())?;
         let mut replies = Vec::new(rt.alloc());
         let mut errors = Vec::new(rt.alloc());
         let answered = session(&mut engine, script, &mut replies, &mut errors);
@@ -249,7 +293,7 @@ fn read_faults(rt: HostRuntime) -> Result<(), Fail> {
         return Err(Fail::new("no limits"));
     };
     for limits in [Limits::greatest(), short] {
-        let mut engine = Engine::new(rt.alloc(), Fnv1a { seed: 0 }, limits);
+        let mut engine = fresh(rt.alloc(), limits)?;
         let mut replies = Vec::new(rt.alloc());
         let mut errors = Vec::new(rt.alloc());
         let script = Broken {
@@ -266,7 +310,7 @@ fn read_faults(rt: HostRuntime) -> Result<(), Fail> {
 #[test]
 fn write_faults(rt: HostRuntime) -> Result<(), Fail> {
     for error in [None, Some(ErrorKind::Other), Some(ErrorKind::Interrupted)] {
-        let mut engine = Engine::new(rt.alloc(), Fnv1a { seed: 0 }, Limits::greatest());
+        let mut engine = fresh(rt.alloc(), Limits::greatest())?;
         let mut replies = Narrow::new(rt.alloc(), 4, error);
         let mut errors = Narrow::new(rt.alloc(), 1000, None);
         let script: &[u8] = b"create s (a int)\nupsert s (1)\n";
@@ -286,7 +330,7 @@ fn write_faults(rt: HostRuntime) -> Result<(), Fail> {
 fn a_standard_error_that_takes_little(rt: HostRuntime) -> Result<(), Fail> {
     for error in [None, Some(ErrorKind::Other)] {
         for room in 0..10usize {
-            let mut engine = Engine::new(rt.alloc(), Fnv1a { seed: 0 }, Limits::greatest());
+            let mut engine = fresh(rt.alloc(), Limits::greatest())?;
             let mut replies = Vec::new(rt.alloc());
             let mut errors = Narrow::new(rt.alloc(), room, error);
             let status = session(

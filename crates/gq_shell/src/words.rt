@@ -1,7 +1,7 @@
 //! The program's command line.
-ghost use Rattle.std.specs.Prelude.{◌≡◌, IfOk, codes, map, string_bytes};
-ghost use Rattle.clap.specs.Words.{app_of, found_of, kind_of, one_text};
-ghost use Rattle.gq_shell.specs.CommandLine.{LINE};
+ghost use Rattle.std.specs.Prelude.{◌≡◌, false, IfOk, codes, map, string_bytes};
+ghost use Rattle.clap.specs.Words.{app_of, found_of, kind_of, one_text, rule_of};
+ghost use Rattle.gq_shell.specs.CommandLine.{BUDGET, LINE, SEED, is_budget, is_seed};
 ghost use Rattle.gq_shell.specs.Words.{IsReadAs, IsToldAs, Reads};
 
 use clap::error::ErrorKind;
@@ -15,6 +15,8 @@ pub struct Options<'a> {
     pub script: Option<&'a str>,
     /// The seed of the hash by which tables keep their rows. No reply depends on it.
     pub seed: u64,
+    /// How many groups are kept in memory at once: 1 to 1,048,576. No reply depends on it.
+    pub budget: u64,
 }
 
 /// Why a command line asks for no run.
@@ -32,7 +34,8 @@ pub enum BadLine {
     Memory,
 }
 
-const ABOUT: &str = "Keeps rows in tables and counts them by groups.
+const ABOUT: &str =
+    "Keeps rows in tables, and tells of groups of them: counts, sums, least and greatest values.
 
 Each line of the script is a command, and each command gets a reply. Tables are kept in memory until
 the script ends.";
@@ -59,16 +62,36 @@ Exit status:
   2  the command line is wrong
   3  the script can't be read, a reply can't be written, or there was no memory to begin with";
 
-// The command line that the program takes.
-fn command_line<'a>(alloc: Global) -> Result<Command<'a>, AllocError>
-    ensures { IfOk result (λ c. app_of c ≡ LINE) }
+fn budget_option<'a>(alloc: Global) -> Arg<'a>
+    ensures rule { rule_of result ≡ BUDGET }
+    ensures local { result.global ≡ false }
 {
-    let seed = Arg::new(alloc, "seed")
+    Arg::new(alloc, "budget")
+        .long("budget")
+        .value_name("N")
+        .value_parser(value_parser!(u64).range(1..=1_048_576))
+        .default_value("65536")
+        .help(
+            "Groups to keep at once, up to 1048576: rows of others are put aside; no reply depends on it",
+        )
+}
+
+fn seed_option<'a>(alloc: Global) -> Arg<'a>
+    ensures rule { rule_of result ≡ SEED }
+    ensures local { result.global ≡ false }
+{
+    Arg::new(alloc, "seed")
         .long("seed")
         .value_name("N")
         .value_parser(value_parser!(u64))
         .default_value("0")
-        .help("Seed of the hash that tables use; no reply depends on it");
+        .help("Seed of the hash that tables use; no reply depends on it")
+}
+
+// The command line that the program takes.
+fn command_line<'a>(alloc: Global) -> Result<Command<'a>, AllocError>
+    ensures { IfOk result (λ c. app_of c ≡ LINE) }
+{
     let script = Arg::new(alloc, "SCRIPT").help(
         "File with the script; without it, standard input is read",
     );
@@ -76,15 +99,23 @@ fn command_line<'a>(alloc: Global) -> Result<Command<'a>, AllocError>
         .bin_name("groupsh")?
         .about(ABOUT)
         .after_help(MORE)
-        .arg(seed)?
+        .arg(budget_option(alloc))?
+        .arg(seed_option(alloc))?
         .arg(script)
 }
 
 // The seed among the matches.
 fn seed_in(matches: &ArgMatches) -> u64
-    ensures { IsReadAs (one_text (found_of matches.now) (codes "seed")) result }
+    ensures { IsReadAs is_seed 0 (one_text (found_of matches.now) (codes "seed")) result }
 {
     matches.get_one("seed").unwrap_or(0)
+}
+
+// The budget among the matches.
+fn budget_in(matches: &ArgMatches) -> u64
+    ensures { IsReadAs is_budget 65536 (one_text (found_of matches.now) (codes "budget")) result }
+{
+    matches.get_one("budget").unwrap_or(65_536)
 }
 
 // What clap answers in place of matches.
@@ -113,6 +144,7 @@ pub fn read_words<'a>(alloc: Global, words: &'a [String]) -> Result<Options<'a>,
         Ok(matches) => Ok(Options {
             script: matches.get_str("SCRIPT"),
             seed: seed_in(&matches),
+            budget: budget_in(&matches),
         }),
         Err(error) => Err(bad_line(alloc, &error)),
     }

@@ -2,10 +2,10 @@ use Rattle.std.proofs.Common.{◌≡◌, ◌∙◌, set, sym, ap, subst, None}
 use Rattle.std.specs.Prelude.{Err}
 use Rattle.gq_reply.specs.declared.refusal.Refusal.TheVariants.{NoTable}
 use Rattle.gq_reply.specs.declared.refusal.Refused.{Refused}
+use Rattle.gq_reply.proofs.StepLemmas.{misses}
 use Rattle.gq_engine.specs.Databases.{Database, table_at}
 use Rattle.gq_engine.specs.Serving.{Settles, deleted}
 use Rattle.gq_engine.specs.Steps.{delete_row}
-use Rattle.gq_engine.proofs.StepLemmas.{misses}
 use Rattle.gq_engine.proofs.TakenLemmas.{took_out}
 use Rattle.gq_engine.proofs.MapLemmas.{differ_set}
 use Rattle.gq_engine.proofs.OrderLemmas.{keyed_set, same_tables}

@@ -3,10 +3,10 @@ use Rattle.std.specs.Prelude.{Ok, Err}
 use Rattle.gq_reply.specs.declared.refusal.Refusal.TheVariants.{NoTable}
 use Rattle.gq_reply.specs.declared.refusal.Refused.{Refused}
 use Rattle.gq_reply.specs.declared.reply.Reply.TheVariants.{Done}
+use Rattle.gq_reply.proofs.StepLemmas.{misses}
 use Rattle.gq_engine.specs.Databases.{Database, table_at}
 use Rattle.gq_engine.specs.Serving.{Settles}
 use Rattle.gq_engine.specs.Steps.{drop_table}
-use Rattle.gq_engine.proofs.StepLemmas.{misses}
 use Rattle.gq_engine.proofs.TakenLemmas.{removed, removed_stands}
 use Rattle.gq_engine.proofs.OrderLemmas.{same_tables}
 use Rattle.gq_engine.proofs.catalog.Catalog.remove.Goals as goal

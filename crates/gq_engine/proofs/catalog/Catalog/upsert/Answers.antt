@@ -2,11 +2,11 @@ use Rattle.std.proofs.Common.{◌≡◌, ◌∙◌, inr, set, sym, ap, subst, No
 use Rattle.std.specs.Prelude.{Err}
 use Rattle.gq_reply.specs.declared.refusal.Refusal.TheVariants.{NoTable}
 use Rattle.gq_reply.specs.declared.refusal.Refused.{Refused}
+use Rattle.gq_reply.proofs.StepLemmas.{misses}
 use Rattle.gq_engine.specs.Databases.{Database, table_at}
 use Rattle.gq_engine.specs.Refusing.{put_within}
 use Rattle.gq_engine.specs.Serving.{Changes}
 use Rattle.gq_engine.specs.Steps.{with_row}
-use Rattle.gq_engine.proofs.StepLemmas.{misses}
 use Rattle.gq_engine.proofs.TakenLemmas.{took}
 use Rattle.gq_engine.proofs.MapLemmas.{differ_set}
 use Rattle.gq_engine.proofs.OrderLemmas.{keyed_set, same_tables}

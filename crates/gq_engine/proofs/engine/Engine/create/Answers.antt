@@ -7,10 +7,11 @@ use Rattle.gq_reply.specs.declared.refusal.Refusal.TheVariants.{TableExists, NoC
 use Rattle.gq_engine.specs.Engines.{database}
 use Rattle.gq_reply.specs.Refusals.{unnumbered}
 use Rattle.gq_engine.specs.Steps.{create}
-use Rattle.gq_engine.proofs.StepLemmas.{no_memory, no_memory_at, refuses, carries, missed, create_exists, create_lacks, create_full, create_adds}
+use Rattle.gq_reply.proofs.StepLemmas.{missed}
+use Rattle.gq_engine.proofs.StepLemmas.{no_memory, no_memory_at, refuses, carries, create_exists, create_lacks, create_full, create_adds}
 use Rattle.gq_row.specs.Repeats.{no_repeats}
 use Rattle.gq_command.specs.Commands.{some, column_names}
-use Rattle.gq_engine.proofs.ColumnLemmas.{is_heading_of, no_false}
+use Rattle.gq_plan.proofs.ColumnLemmas.{is_heading_of}
 use Rattle.gq_table.proofs.StandingLemmas.{two}
 use Rattle.gq_engine.proofs.engine.Engine.create.Goals as goal
 

@@ -1,60 +1,85 @@
-use Rattle.std.proofs.Common.{◌≡◌, ◌∙◌, sym, ap, Some, rules}
-use Rattle.std.specs.Prelude.{Ok}
-use Rattle.gq_engine.specs.Answers.{counted_groups}
-use Rattle.gq_reply.specs.declared.reply.Reply.{Reply}
-use Rattle.gq_reply.specs.declared.reply.Reply.TheVariants as reply
-use Rattle.gq_engine.proofs.OrderLemmas.{same_tables}
+use Rattle.std.proofs.Common.{◌≡◌, ◌⊎◌, ◌∙◌, inr, sym, ap, subst, rules, Option, Some}
+use Rattle.std.specs.Prelude.{Ok, Err, option_copied}
 use Rattle.std.proofs.lemmas.Result.{err_from_is_err_and}
-use Rattle.gq_reply.specs.declared.refusal.Refusal.TheVariants.{NoTable, NoColumn}
-use Rattle.gq_engine.specs.Engines.{database}
+use Rattle.gq_row.specs.Tables.{PlainTable}
+use Rattle.gq_reply.specs.declared.refusal.Refusal.TheVariants.{Memory, NoTable, SumRange}
+use Rattle.gq_reply.specs.declared.refusal.Refused.{Refused}
+use Rattle.gq_reply.specs.Outcomes.{some_or}
 use Rattle.gq_reply.specs.Refusals.{unnumbered}
-use Rattle.gq_engine.specs.Steps.{group, group_header}
-use Rattle.gq_engine.proofs.StepLemmas.{no_memory, refuses, carries, missed, group_none, group_lacks, group_counts}
-use Rattle.gq_engine.proofs.ColumnLemmas.{positions_within}
+use Rattle.gq_reply.proofs.StepLemmas.{missed}
+use Rattle.gq_query.specs.Selecting.{other_columns}
+use Rattle.gq_plan.specs.Headers.{group_header}
+use Rattle.gq_plan.specs.Plans.{group_plan}
+use Rattle.gq_engine.specs.Databases.{table_at}
+use Rattle.gq_engine.specs.Engines.{database}
+use Rattle.gq_engine.specs.Serving.{Plainly, GroupsOver}
+use Rattle.gq_engine.specs.Steps.{group, other_in, rows_planned}
+use Rattle.gq_engine.proofs.GroupLemmas.{group_alone, group_none, group_planned, plan_comes, refused_over, shown_over}
+use Rattle.gq_engine.proofs.OrderLemmas.{same_tables}
+use Rattle.gq_engine.proofs.StepLemmas.{no_memory, refuses}
 use Rattle.gq_engine.proofs.engine.Engine.group.Goals as goal
 
-pub count_groups-requires : goal.count_groups-requires
-count_groups-requires g c =
-    positions_within c.in_ok-table.table.now.heading.columns c.args.by c.as_slice-2.result.now
-    (sym (rw (c.columns-columns.ensures, c.schema.ensures, c.as_slice.ensures) at c.in_ok-find_positions.ensures) ∙ c.in_ok-positions.ensures.ok_part ∙ ap Some (sym c.as_slice-2.ensures))
-
-pub returns-in_err-table : goal.returns-in_err-table
-returns-in_err-table g c =
+pub returns-in_err-table-clause-comes : goal.returns-in_err-table-clause-comes
+returns-in_err-table-clause-comes g c =
     let db = database c.args.self.now in
+    let steps = group db c.args.name c.args.clauses in
     let p = err_from_is_err_and c.from_residual.result c.from_residual.ensures.1 in
     let m = missed c.get.result c.in_err-table.field-0.0 NoTable c.in_err-table.ensures.value in
-    rw p.1 (refuses (group db c.args.name c.args.by) NoTable p.0 db (p.2 ∙ ap unnumbered m.1) (group_none db c.args.name c.args.by (search rules)))
+    rw p.1 (Plainly (refuses steps NoTable p.0 db (p.2 ∙ ap unnumbered m.1) (group_none db c.args.name c.args.clauses (search rules))))
 
-pub returns-in_err-find_positions : goal.returns-in_err-find_positions
-returns-in_err-find_positions g c =
+pub returns-in_err-others-clause-comes : goal.returns-in_err-others-clause-comes
+returns-in_err-others-clause-comes g c =
     let db = database c.args.self.now in
-    let p = err_from_is_err_and c.from_residual-in_err-find_positions.result c.from_residual-in_err-find_positions.ensures.1 in
-    rw p.1 (no_memory (group db c.args.name c.args.by) p.0 db p.2)
+    let table = c.in_ok-table.table.now in
+    let found : table_at db c.args.name ≡ Some table = search rules in
+    let p = err_from_is_err_and c.from_residual-in_err-others.result c.from_residual-in_err-others.ensures.1 in
+    let alone = subst (λ (w : Refused). other_in db c.args.clauses.exists ≡ Err w) (sym p.2) c.in_err-others.ensures.refused in
+    rw p.1 (Plainly (same_tables db, inr (group_alone db c.args.name c.args.clauses table found p.0 alone)))
 
-pub returns-in_err-positions : goal.returns-in_err-positions
-returns-in_err-positions g c =
+pub returns-in_err-plan-clause-comes : goal.returns-in_err-plan-clause-comes
+returns-in_err-plan-clause-comes g c =
     let db = database c.args.self.now in
-    let p = err_from_is_err_and c.from_residual-in_err-positions.result c.from_residual-in_err-positions.ensures.1 in
-    let m = missed c.in_ok-find_positions.field-0 c.in_err-positions.field-0.0 NoColumn c.in_err-positions.ensures.value in
-    rw p.1 (refuses (group db c.args.name c.args.by) NoColumn p.0 db (p.2 ∙ ap unnumbered m.1)
-    (group_lacks db c.args.name c.args.by c.in_ok-table.table.now (search rules) (sym (rw (c.columns-columns.ensures, c.schema.ensures, c.as_slice.ensures) at c.in_ok-find_positions.ensures) ∙ m.0)))
+    let table = c.in_ok-table.table.now in
+    let other : Option PlainTable = option_copied c.in_ok-others.others in
+    let found : table_at db c.args.name ≡ Some table = search rules in
+    let p = err_from_is_err_and c.from_residual-in_err-plan.result c.from_residual-in_err-plan.ensures.1 in
+    let why = subst (λ (w : Refused). (w ≡ unnumbered Memory) ⊎ (group_plan table.heading.columns (other_columns other) c.args.clauses ≡ Err w)) (sym p.2) (rw (c.schema.ensures, c.columns_of.ensures) at c.in_err-plan.ensures.refused) in
+    rw p.1 (Plainly (plan_comes db c.args.name c.args.clauses table found other c.in_ok-others.ensures.found p.0 why))
 
-pub returns-in_err-rows : goal.returns-in_err-rows
-returns-in_err-rows g c =
-    let db = database c.args.self.now in
-    let p = err_from_is_err_and c.from_residual-in_err-rows.result c.from_residual-in_err-rows.ensures.1 in
-    rw p.1 (no_memory (group db c.args.name c.args.by) p.0 db p.2)
-
-pub returns-in_err-header : goal.returns-in_err-header
-returns-in_err-header g c =
+pub returns-in_err-header-clause-comes : goal.returns-in_err-header-clause-comes
+returns-in_err-header-clause-comes g c =
     let db = database c.args.self.now in
     let p = err_from_is_err_and c.from_residual-in_err-header.result c.from_residual-in_err-header.ensures.1 in
-    rw p.1 (no_memory (group db c.args.name c.args.by) p.0 db p.2)
+    rw p.1 (Plainly (no_memory (group db c.args.name c.args.clauses) p.0 db p.2))
 
-pub returns : goal.returns
-returns g c =
+pub rows_grouped-requires : goal.rows_grouped-requires
+rows_grouped-requires g c = rw (c.schema.ensures, c.columns_of.ensures) at c.in_ok-plan.ensures.within
+
+pub returns-in_err-rows-clause-comes : goal.returns-in_err-rows-clause-comes
+returns-in_err-rows-clause-comes g c =
     let db = database c.args.self.now in
-    let found = sym (rw (c.columns-columns.ensures, c.schema.ensures, c.as_slice.ensures) at c.in_ok-find_positions.ensures) ∙ c.in_ok-positions.ensures.ok_part in
-    let told : reply.Rows (group_header c.args.by) (counted_groups c.in_ok-positions.positions c.in_ok-table.table.now.rows) ≡ reply.Rows c.in_ok-header.header c.in_ok-rows.rows = cc (c.in_ok-header.ensures, c.in_ok-rows.ensures, c.as_slice-2.ensures) in
-    let counted = group_counts db c.args.name c.args.by c.in_ok-table.table.now c.in_ok-positions.positions (search rules) found in
-    carries (group db c.args.name c.args.by) (reply.Rows c.in_ok-header.header c.in_ok-rows.rows) db db (counted ∙ ap (λ (r : Reply). Ok (db, r)) told) (same_tables db)
+    let clauses = c.args.clauses in
+    let table = c.in_ok-table.table.now in
+    let other : Option PlainTable = option_copied c.in_ok-others.others in
+    let plan = c.in_ok-plan.plan in
+    let honest = (g.S.RunStore.runs c.args.self.now.store).honest in
+    let found : table_at db c.args.name ≡ Some table = search rules in
+    let told : group_plan table.heading.columns (other_columns other) clauses ≡ Ok plan = rw (c.schema.ensures, c.columns_of.ensures) at c.in_ok-plan.ensures.told in
+    let steps = group_planned db c.args.name clauses table found other c.in_ok-others.ensures.found plan told in
+    let p = err_from_is_err_and c.from_residual-in_err-rows.result c.from_residual-in_err-rows.ensures.1 in
+    let due = subst (λ (w : Refused). GroupsOver honest (some_or SumRange (rows_planned plan table other)) (Err w)) (sym p.2) c.in_err-rows.ensures.rows in
+    rw p.1 (refused_over db honest (group db c.args.name clauses) (group_header clauses.by clauses.shown) (rows_planned plan table other) steps p.0 due)
+
+pub returns-clause-comes : goal.returns-clause-comes
+returns-clause-comes g c =
+    let db = database c.args.self.now in
+    let clauses = c.args.clauses in
+    let table = c.in_ok-table.table.now in
+    let other : Option PlainTable = option_copied c.in_ok-others.others in
+    let plan = c.in_ok-plan.plan in
+    let honest = (g.S.RunStore.runs c.args.self.now.store).honest in
+    let found : table_at db c.args.name ≡ Some table = search rules in
+    let told : group_plan table.heading.columns (other_columns other) clauses ≡ Ok plan = rw (c.schema.ensures, c.columns_of.ensures) at c.in_ok-plan.ensures.told in
+    let steps = group_planned db c.args.name clauses table found other c.in_ok-others.ensures.found plan told in
+    let header : c.in_ok-header.header ≡ group_header clauses.by clauses.shown = rw c.as_slice.ensures at c.in_ok-header.ensures in
+    shown_over db honest (group db c.args.name clauses) (group_header clauses.by clauses.shown) (rows_planned plan table other) steps c.in_ok-header.header c.in_ok-rows.rows header c.in_ok-rows.ensures.rows

@@ -7,10 +7,13 @@ use Rattle.gq_reply.specs.Refusals.{unnumbered}
 use Rattle.gq_engine.specs.Databases.{table_at}
 use Rattle.gq_engine.specs.Engines.{database}
 use Rattle.gq_engine.specs.Loading.{rows_told}
+use Rattle.gq_engine.specs.Staging.{HasStaged}
 use Rattle.gq_engine.specs.Steps.{load_table}
 use Rattle.gq_engine.proofs.FormLemmas.{load_none, load_untold, load_faulted}
 use Rattle.gq_engine.proofs.OrderLemmas.{same_tables}
-use Rattle.gq_engine.proofs.StepLemmas.{refuses, missed}
+use Rattle.gq_engine.proofs.StagingLemmas.{staged_done, staged_refused}
+use Rattle.gq_reply.proofs.StepLemmas.{missed}
+use Rattle.gq_engine.proofs.StepLemmas.{refuses}
 use Rattle.gq_engine.proofs.engine.Engine.load.Goals as goal
 
 pub returns-then-is_lost-clause-comes : goal.returns-then-is_lost-clause-comes
@@ -35,15 +38,34 @@ returns-in_err-bytes-clause-comes g c =
           (sym c.in_err-bytes.ensures ∙ ap (λ (w : Refused). Err w) (sym p.2))),
     )
 
-pub returns-in_err-rows-clause-comes : goal.returns-in_err-rows-clause-comes
-returns-in_err-rows-clause-comes g c =
+pub returns-in_err-staged-clause-comes : goal.returns-in_err-staged-clause-comes
+returns-in_err-staged-clause-comes g c =
     let db = database c.args.self.now in
     let found : table_at db c.args.name ≡ Some c.in_ok-table.table.now = search rules in
-    let p = err_from_is_err_and c.from_residual-in_err-rows.result c.from_residual-in_err-rows.ensures.1 in
+    let p = err_from_is_err_and c.from_residual-in_err-staged.result c.from_residual-in_err-staged.ensures.1 in
     rw p.1 (
       same_tables db,
       load_faulted c.args.self.now.limits.bounds db c.args.name c.in_ok-table.table.now found c.args.payload c.in_ok-bytes.bytes p.0 (sym c.is_lost.ensures ∙ c.if-is_lost.false)
           (sym c.in_ok-bytes.ensures)
           (subst (λ w. (w ≡ unnumbered Memory) ⊎ (rows_told c.args.self.now.limits.bounds c.in_ok-table.table.now.heading c.in_ok-bytes.bytes ≡ Err w)) (sym p.2)
-          (rw (c.schema.ensures, c.as_slice.ensures) at c.in_err-rows.ensures.refused)),
+          (rw c.as_slice.ensures at c.in_err-staged.ensures.refused)),
     )
+
+pub returns-in_err-load-clause-comes : goal.returns-in_err-load-clause-comes
+returns-in_err-load-clause-comes g c =
+    let db = database c.args.self.now in
+    let bounds = c.args.self.now.limits.bounds in
+    let table = c.in_ok-table.table.now in
+    let found : table_at db c.args.name ≡ Some table = search rules in
+    let staged : HasStaged (rows_told bounds table.heading c.in_ok-bytes.bytes) table.heading c.in_ok-staged.staged c.in_ok-staged.count = rw c.as_slice.ensures at c.in_ok-staged.ensures.staged in
+    let p = err_from_is_err_and c.from_residual-in_err-load.result c.from_residual-in_err-load.ensures.1 in
+    rw (p.1, p.2) (staged_refused bounds db c.args.name table found c.tables-keyed.ensures c.args.payload c.in_ok-bytes.bytes (sym c.is_lost.ensures ∙ c.if-is_lost.false) (sym c.in_ok-bytes.ensures) c.in_ok-staged.staged c.in_ok-staged.count staged (Unit {0}) c.in_err-load.field-0.0 c.load.new.self (rw c.as_str-2.ensures at c.in_err-load.ensures))
+
+pub returns-clause-comes : goal.returns-clause-comes
+returns-clause-comes g c =
+    let db = database c.args.self.now in
+    let bounds = c.args.self.now.limits.bounds in
+    let table = c.in_ok-table.table.now in
+    let found : table_at db c.args.name ≡ Some table = search rules in
+    let staged : HasStaged (rows_told bounds table.heading c.in_ok-bytes.bytes) table.heading c.in_ok-staged.staged c.in_ok-staged.count = rw c.as_slice.ensures at c.in_ok-staged.ensures.staged in
+    staged_done bounds db c.args.name table found c.tables-keyed.ensures c.args.payload c.in_ok-bytes.bytes (sym c.is_lost.ensures ∙ c.if-is_lost.false) (sym c.in_ok-bytes.ensures) c.in_ok-staged.staged c.in_ok-staged.count staged {X = Unit {0}} c.in_ok-load.field-0 c.load.new.self (rw c.as_str-2.ensures at c.in_ok-load.ensures)

@@ -1,4 +1,4 @@
-use Rattle.std.proofs.Common.{inl, sym, subst, ap, ◌∙◌}
+use Rattle.std.proofs.Common.{sym, subst, ap, ◌∙◌}
 use Rattle.gq_command.specs.declared.reader.Item.{Item}
 use Rattle.gq_command.specs.declared.reader.Item.TheVariants as item
 use Rattle.gq_engine.specs.Engines.{database, setting_of}
@@ -10,7 +10,7 @@ use Rattle.gq_engine.proofs.engine.Engine.reply_to.Goals as goal
 
 pub returns-in-Refused-clause-legal : goal.returns-in-Refused-clause-legal
 returns-in-Refused-clause-legal g c =
-    let setting = setting_of c.args.self.now in
+    let setting = setting_of g.S.RunStore.runs c.args.self.now in
     let db = database c.args.self.now in
     let P : Item → Type 0 = λ it. AnsweredAlike setting db it c.refused.result db in
     subst P (sym c.in-Refused.is) (answered_exactly setting db (item.Refused c.in-Refused.why) c.refused.result db (AsListsAnswer (λ i. (db, (c.refused.ensures ∙ ap refused c.refusal_of.ensures) i))))

@@ -5,8 +5,8 @@ use Rattle.gq_engine.proofs.engine.Engine.run.Given as goal
 
 abbrev pub invariant-loop-turn : goal.invariant-loop-turn
 invariant-loop-turn g l = record {
-  setting : setting_of l.self ≡ setting_of l.fn.self;
+  setting : setting_of g.S.RunStore.runs l.self ≡ setting_of g.S.RunStore.runs l.fn.self;
   count : l.summary.commands ≡ l._turn;
   few : l.summary.refused ≤ l._turn;
-  going : Going (setting_of l.fn.self) (state_of l.fn.self) (g.R.Read.remaining l.fn.reader) (state_of l.self) l.script (g.W.Write.contents l.fn.writer) (g.W.Write.contents l.writer) l.summary.commands l.summary.refused;
+  going : Going (setting_of g.S.RunStore.runs l.fn.self) (state_of g.S.RunStore.runs l.fn.self) (g.R.Read.remaining l.fn.reader) (state_of g.S.RunStore.runs l.self) l.script (g.W.Write.contents l.fn.writer) (g.W.Write.contents l.writer) l.summary.commands l.summary.refused;
 }

@@ -1,4 +1,4 @@
-use Rattle.std.proofs.Common.{◌≡◌, ◌∙◌, sym, ap, rules}
+use Rattle.std.proofs.Common.{◌≡◌, ◌∙◌, ap, rules}
 use Rattle.std.specs.Prelude.{Ok}
 use Rattle.std.proofs.lemmas.Result.{err_from_is_err_and}
 use Rattle.gq_command.specs.Commands.{column_names}
@@ -6,12 +6,13 @@ use Rattle.gq_reply.specs.declared.refusal.Refusal.TheVariants.{NoTable}
 use Rattle.gq_reply.specs.declared.reply.Reply.{Reply}
 use Rattle.gq_reply.specs.declared.reply.Reply.TheVariants as reply
 use Rattle.gq_reply.specs.Refusals.{unnumbered}
-use Rattle.gq_engine.specs.Answers.{rows_shown}
+use Rattle.gq_query.specs.Answers.{rows_shown}
 use Rattle.gq_engine.specs.Engines.{database}
 use Rattle.gq_engine.specs.Steps.{show_table}
 use Rattle.gq_engine.proofs.FormLemmas.{show_none, show_gives}
 use Rattle.gq_engine.proofs.OrderLemmas.{same_tables}
-use Rattle.gq_engine.proofs.StepLemmas.{no_memory, refuses, carries, missed}
+use Rattle.gq_reply.proofs.StepLemmas.{missed}
+use Rattle.gq_engine.proofs.StepLemmas.{no_memory, refuses, carries}
 use Rattle.gq_engine.proofs.engine.Engine.show.Goals as goal
 
 pub returns-in_err-table : goal.returns-in_err-table

@@ -1,9 +1,0 @@
-use Rattle.std.proofs.Common.{◌≡◌, ◌∙◌, ◌++◌, sym, ap}
-use Rattle.gq_engine.proofs.showing.copy_rows.Goals as goal
-
-pub loop-row-init : goal.loop-row-init
-loop-row-init g c = record {
-  can_next = tt;
-  is_finite = tt;
-  copied = rw (c.in_ok-rows.ensures.items) (c.into_iter-row-iterator.ensures.into_iter_gives ∙ c.rows-row-items.ensures.rows);
-}
