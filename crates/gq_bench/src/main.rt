@@ -3,12 +3,14 @@
 //!
 //! Its rows have a key and a number. The keys are numbers or texts, and few, many or all of them
 //! differ. Two readings of the same bytes stand beside a load: by the csv crate alone, and by the
-//! csv crate with one insertion into a flat map for each record.
+//! csv crate with one insertion into a flat map for each record. Beside the groups stand a look-up
+//! and an insertion of each row's key in a flat map.
 //!
 //! The arguments are numbers of rows. Without any the program says so, and measures nothing. What
 //! it prints rests on the machine: no contract speaks of time.
 #![tactic(auto)]
 
+mod keys;
 mod report;
 mod shape;
 mod work;

@@ -6,9 +6,6 @@ use std::io;
 // How often a work is done; the least time counts.
 const REPEATS: u32 = 3;
 
-// Groups are found by linear search, so rows are grouped only where there are few keys, or few rows.
-const MOST_SEARCHED: usize = 10_000;
-
 /// Prints, for each shape of rows and each work on so many of them, the least time.
 pub(crate) fn report(rt: &HostRuntime, rows: usize) -> io::Result<()> {
     for shape in SHAPES {
@@ -19,19 +16,10 @@ pub(crate) fn report(rt: &HostRuntime, rows: usize) -> io::Result<()> {
 
 fn report_shape(rt: &HostRuntime, shape: Shape, rows: usize) -> io::Result<()> {
     for (work, name) in WORKS {
-        if is_soon_done(work, shape, rows) {
-            let nanoseconds = least_time(rt, work, shape, rows)?;
-            print_line(rt, shape, name, rows, nanoseconds)?;
-        }
+        let nanoseconds = least_time(rt, work, shape, rows)?;
+        print_line(rt, shape, name, rows, nanoseconds)?;
     }
     Ok(())
-}
-
-fn is_soon_done(work: Work, shape: Shape, rows: usize) -> bool {
-    match work {
-        Work::Group => shape.shared_by == 0 || rows <= MOST_SEARCHED,
-        _ => true,
-    }
 }
 
 fn least_time(rt: &HostRuntime, work: Work, shape: Shape, rows: usize) -> io::Result<u64> {

@@ -1,4 +1,5 @@
 //! The rows that are measured, as scripts.
+use gq_row::{Row, Text, Value};
 use std::alloc::{AllocError, Global};
 
 /// What the keys of rows are like.
@@ -58,6 +59,28 @@ impl Shape {
     fn key(&self, row: usize, rows: usize) -> u64 {
         let keys = (self.keys(rows) as u64).max(1);
         (row as u64).wrapping_mul(0x9e37_79b9_7f4a_7c15) % keys
+    }
+
+    /// The key of each row, as a row of its own.
+    pub(crate) fn rows(&self, alloc: Global, rows: usize) -> Result<Vec<Row>, AllocError> {
+        let mut keys = Vec::with_capacity(alloc, rows)?;
+        for row in 0..rows {
+            let mut cells = Vec::with_capacity(alloc, 1)?;
+            cells.push(self.cell(alloc, row, rows)?)?;
+            keys.push(Row::new(cells))?;
+        }
+        Ok(keys)
+    }
+
+    fn cell(&self, alloc: Global, row: usize, rows: usize) -> Result<Value, AllocError> {
+        let key = self.key(row, rows);
+        if !self.texts {
+            return Ok(Value::Int(i64::try_from(key).unwrap_or(i64::MAX)));
+        }
+        let mut digits = itoa::Buffer::new();
+        let mut text = String::from_str(alloc, "station-")?;
+        text.push_str(digits.format(key))?;
+        Ok(Value::Text(Text::new(text)))
     }
 
     fn push_key(&self, out: &mut Vec<u8>, row: usize, rows: usize) -> Result<(), AllocError> {

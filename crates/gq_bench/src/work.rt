@@ -1,7 +1,8 @@
 //! What is measured.
+use crate::keys::{time_find, time_insert};
 use crate::shape::{Shape, load_of};
 use csv::{ByteRecord, ReaderBuilder, Trim};
-use gq_engine::Engine;
+use gq_engine::{Budget, Engine, MemStore};
 use gq_row::Limits;
 use std::alloc::{AllocError, Global};
 use std::io;
@@ -24,19 +25,28 @@ pub(crate) enum Work {
     Upsert,
     /// The rows of a table with a key shown in order.
     Show,
+    /// One look-up for each row in a flat map of all keys.
+    Find,
+    /// One insertion for each row into a flat map that grows.
+    Insert,
     /// The rows of a table without a key counted by their keys.
-    Group,
+    Count,
+    /// The numbers of these rows summed by their keys.
+    Sum,
 }
 
 /// All kinds, with their names.
-pub(crate) const WORKS: [(Work, &str); 7] = [
+pub(crate) const WORKS: [(Work, &str); 10] = [
     (Work::Csv, "csv"),
     (Work::CsvAndMap, "csv and map"),
     (Work::Load, "load"),
     (Work::LoadWithoutKey, "load, no key"),
     (Work::Upsert, "upsert"),
     (Work::Show, "show"),
-    (Work::Group, "group"),
+    (Work::Find, "map find"),
+    (Work::Insert, "map insert"),
+    (Work::Count, "group, count"),
+    (Work::Sum, "group, sum"),
 ];
 
 /// The nanoseconds that a work took once, and how many bytes or records came of it.
@@ -60,16 +70,24 @@ pub(crate) fn time(rt: &HostRuntime, work: Work, shape: Shape, rows: usize) -> i
             time_run(rt, shape.create(true), lines.as_slice())
         }
         Work::Show => time_query(rt, shape.create(true), payload.as_slice(), b"show t\n"),
-        Work::Group => time_query(
+        Work::Find => time_find(rt, shape, rows),
+        Work::Insert => time_insert(rt, shape, rows),
+        Work::Count => time_query(
             rt,
             shape.create(false),
             payload.as_slice(),
             b"group t by k show count(*)\n",
         ),
+        Work::Sum => time_query(
+            rt,
+            shape.create(false),
+            payload.as_slice(),
+            b"group t by k show sum(v)\n",
+        ),
     }
 }
 
-fn nanoseconds_since(rt: &HostRuntime, start: Instant) -> io::Result<u64> {
+pub(crate) fn nanoseconds_since(rt: &HostRuntime, start: Instant) -> io::Result<u64> {
     Ok(u64::try_from(start.elapsed(rt)?.as_nanos()).unwrap_or(u64::MAX))
 }
 
@@ -147,14 +165,27 @@ fn time_query(rt: &HostRuntime, create: &[u8], payload: &[u8], query: &[u8]) -> 
     time_script(rt, &mut engine, query)
 }
 
-fn engine_after(alloc: Global, script: &[u8]) -> Engine<Fnv1a> {
-    let mut engine = Engine::new(alloc, Fnv1a { seed: 0 }, Limits::greatest());
+fn engine_after(alloc: Global, script: &[u8]) -> Engine<Fnv1a, MemStore> {
+    let mut engine = match Budget::new(1_048_576) {
+        Some(budget) => Engine::new(
+            alloc,
+            Fnv1a { seed: 0 },
+            MemStore::new(alloc),
+            budget,
+            Limits::greatest(),
+        ),
+        None => unreachable!(),
+    };
     let mut replies = Vec::new(alloc);
     let _ = engine.run(script, &mut replies);
     engine
 }
 
-fn time_script(rt: &HostRuntime, engine: &mut Engine<Fnv1a>, script: &[u8]) -> io::Result<Timing> {
+fn time_script(
+    rt: &HostRuntime,
+    engine: &mut Engine<Fnv1a, MemStore>,
+    script: &[u8],
+) -> io::Result<Timing> {
     let mut replies = Vec::new(rt.alloc());
     let start = Instant::now(rt)?;
     let _ = engine.run(script, &mut replies);

@@ -1,25 +1,45 @@
 //! Worked scripts and their replies. Each name in `data/names` is a script `NAME.gq`, which an
 //! engine runs with the greatest limits, and the bytes `NAME.out` that it must write: under FNV-1a
-//! with two seeds, under one hash for all keys, and under few bits of a hash. A new example is two
-//! files and a name in the list.
+//! with two seeds, under one hash for all keys, and under few bits of a hash, each with a budget of
+//! 1 and of 65,536. A new example is two files and a name in the list.
 //!
 //! Its standard output has a line `NAME ok` for each, so a reply that is not as it should be shows as
 //! `NAME WRONG`.
 #![tactic(auto)]
 
-use gq_engine::Engine;
+use gq_engine::{Budget, Engine, MemStore};
 use gq_row::{Key, Limits};
 use std::alloc::Global;
 use std::rt::Files;
 use std::{fs, io};
 use sw_probe::{Constant, Fnv1a, KeyHash, LowBits};
 
-/// Whether a run of a script writes what it must, under a hasher.
-fn writes<H: KeyHash<Key> + Copy>(alloc: Global, hasher: H, script: &[u8], due: &[u8]) -> bool {
-    let mut engine = Engine::new(alloc, hasher, Limits::greatest());
+/// Whether a run of a script writes what it must, under a hasher and a budget.
+fn writes_within<H: KeyHash<Key> + Copy>(
+    alloc: Global,
+    hasher: H,
+    budget: Budget,
+    script: &[u8],
+    due: &[u8],
+) -> bool {
+    let mut engine = Engine::new(
+        alloc,
+        hasher,
+        MemStore::new(alloc),
+        budget,
+        Limits::greatest(),
+    );
     let mut written = Vec::new(alloc);
     let _ended = engine.run(script, &mut written);
     written.as_slice() == due
+}
+
+/// The same, under the least budget and under another.
+fn writes<H: KeyHash<Key> + Copy>(alloc: Global, hasher: H, script: &[u8], due: &[u8]) -> bool {
+    [1, 65_536].into_iter().all(|entries| match Budget::new(entries) {
+        Some(budget) => writes_within(alloc, hasher, budget, script, due),
+        None => false,
+    })
 }
 
 fn is_right(rt: &(impl Files + AllocGlobal), name: &str) -> io::Result<bool> {
