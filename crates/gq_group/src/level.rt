@@ -164,8 +164,9 @@ fn read_rows<H: KeyHash<Key> + Copy, S: RunStore, R: RowSource<S>>(
     let mut rows_written: u64 = 0;
     let mut runs: u64 = 0;
     let mut columns: usize = 0;
+    let mut spare = Row::new(Vec::new(alloc));
     'rows: loop {
-        let Some(row) = source.next(store)? else {
+        let Some(row) = source.next(store, spare)? else {
             break;
         };
         if !spec.fits(&row) {
@@ -176,6 +177,7 @@ fn read_rows<H: KeyHash<Key> + Copy, S: RunStore, R: RowSource<S>>(
         rows_read += 1;
         rows_written += placed.written;
         runs += placed.began;
+        spare = row;
     }
     Ok(Taken {
         rows_read,

@@ -26,8 +26,9 @@ pub trait RowSource<S: RunStore> {
     /// Whether it may make runs.
     ghost makes_runs: { Bool };
 
-    /// The next row, or None at the end. After a refusal nothing is said of it.
-    fn next(&mut self, store: &mut S) -> Result<Option<Row>, Refusal>
+    /// The next row, or None at the end. After a refusal nothing is said of it. The row may take the
+    /// memory of `spare`, whose values are dropped.
+    fn next(&mut self, store: &mut S, spare: Row) -> Result<Option<Row>, Refusal>
         requires { is_ready self.old (S.runs store.old) }
         ensures rows { IsTrue (S.runs store.old).honest →
             IfOk result (λ row. (rows : List (List Cell)) →

@@ -27,7 +27,7 @@ impl<S: RunStore> RowSource<S> for RunSource {
 
     ghost makes_runs = { false };
 
-    fn next(&mut self, store: &mut S) -> Result<Option<Row>, Refusal> {
+    fn next(&mut self, store: &mut S, _spare: Row) -> Result<Option<Row>, Refusal> {
         match self.reader.next(self.alloc, store) {
             Ok(row) => Ok(row),
             Err(why) => Err(Refusal::of(why)),

@@ -34,7 +34,7 @@ impl<S: RunStore> RowSource<S> for ListSource {
 
     ghost makes_runs = { false };
 
-    fn next(&mut self, store: &mut S) -> Result<Option<Row>, Refusal> {
+    fn next(&mut self, store: &mut S, _spare: Row) -> Result<Option<Row>, Refusal> {
         let _ = store;
         Ok(self.rows.pop_front())
     }

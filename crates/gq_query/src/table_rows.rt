@@ -20,12 +20,14 @@ pub struct TableRows<'a, H: KeyHash<Key>> {
     pub columns: &'a [usize],
 }
 
-// The row of a row's cells in some columns.
-fn cells_of(alloc: Global, row: &Row, columns: &[usize]) -> Result<Row, AllocError>
+// The row of a row's cells in some columns, in the memory of another row.
+fn cells_of(alloc: Global, spare: Row, row: &Row, columns: &[usize]) -> Result<Row, AllocError>
     requires { All (λ column. column < length row.now) columns.now }
     ensures { IfOk result (λ cells. cells ≡ key_of columns.now row.now) }
 {
-    let mut cells = Vec::with_capacity(alloc, columns.len())?;
+    let mut cells = spare.into_cells();
+    cells.clear();
+    cells.reserve(columns.len())?;
     for column in columns {
         cells.push(row.cell(*column).copy(alloc)?)?;
     }
@@ -51,12 +53,12 @@ impl<'a, H: KeyHash<Key>, S: RunStore> RowSource<S> for TableRows<'a, H> {
 
     ghost makes_runs = { false };
 
-    fn next(&mut self, store: &mut S) -> Result<Option<Row>, Refusal> {
+    fn next(&mut self, store: &mut S, spare: Row) -> Result<Option<Row>, Refusal> {
         let _ = store;
         let Some(row) = self.kept.next_of(&mut self.rows) else {
             return Ok(None);
         };
-        match cells_of(self.alloc, row, self.columns) {
+        match cells_of(self.alloc, spare, row, self.columns) {
             Ok(cells) => Ok(Some(cells)),
             Err(_) => Err(Refusal::Memory),
         }
