@@ -2,6 +2,9 @@
 use gq_row::{Row, Text, Value};
 use std::alloc::{AllocError, Global};
 
+// A prime above every number of keys.
+const STRIDE: u64 = 2_654_435_761;
+
 /// What the keys of rows are like.
 #[derive(Clone, Copy)]
 pub(crate) struct Shape {
@@ -55,10 +58,11 @@ impl Shape {
         }
     }
 
-    // The number of the key of a row: the keys come in no order.
+    // The number of the key of a row: the keys come in no order, and of as many rows as there are
+    // keys each has another.
     fn key(&self, row: usize, rows: usize) -> u64 {
         let keys = (self.keys(rows) as u64).max(1);
-        (row as u64).wrapping_mul(0x9e37_79b9_7f4a_7c15) % keys
+        (row as u64).wrapping_mul(STRIDE) % keys
     }
 
     /// The key of each row, as a row of its own.
