@@ -1,6 +1,6 @@
 //! A flat map of the rows' keys, by itself.
 use crate::shape::Shape;
-use crate::work::{Timing, nanoseconds_since};
+use crate::timing::{Timing, nanoseconds_since};
 use gq_row::{Key, KeyRef, Row};
 use std::alloc::{AllocError, Global};
 use std::io;

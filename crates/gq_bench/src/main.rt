@@ -2,36 +2,67 @@
 //! show them and to group them.
 //!
 //! Its rows have a key and a number. The keys are numbers or texts, and few, many or all of them
-//! differ. Two readings of the same bytes stand beside a load: by the csv crate alone, and by the
-//! csv crate with one insertion into a flat map for each record. Beside the groups stand a look-up
-//! and an insertion of each row's key in a flat map.
+//! differ. Beside the works stand those that they are compared with:
 //!
-//! The arguments are numbers of rows. Without any the program says so, and measures nothing. What
-//! it prints rests on the machine: no contract speaks of time.
+//! - two readings of a load's bytes: by the csv crate alone, and by the csv crate with one insertion
+//!   into a flat map for each record;
+//! - for groups, a look-up and an insertion of each row's key in a flat map;
+//! - for conditions, the same count without one;
+//! - for groups within a budget, of which there are a fifth as many as rows, a budget that holds
+//!   them all. Their runs stand in memory, or in a folder.
+//!
+//! The arguments are numbers of rows, and before them may stand what is measured alone. Without any
+//! the program says so, and measures nothing. What it prints rests on the machine: no contract
+//! speaks of time.
 #![tactic(auto)]
 
+mod choice;
+mod folder;
 mod keys;
+mod reading;
 mod report;
+mod running;
+mod script;
 mod shape;
+mod task;
+mod timing;
+mod topic;
 mod work;
 
+use crate::choice::Choice;
 use crate::report::report;
 use std::{env, io};
 
 // The greatest number of rows, so that a payload stays within its limit.
 const MOST_ROWS: usize = 8_000_000;
 
+const USAGE: &str = "usage: gq_bench [WORKS] ROWS.. (as 10000 1000000): times of an engine
+  WORKS is tables, groups or budgets, or the name of one work, as 'count, where'; without it, all
+  budgets keeps runs in a folder of its own below TMPDIR, or else below /tmp, and removes it";
+
 fn main(rt: HostRuntime) -> io::Result<()> {
     let arguments: Vec<String> = env::args(&rt)?.collect(rt.alloc())?;
-    if arguments.len() < 2 {
-        return println!(rt; "usage: gq_bench ROWS.. (as 10000 1000000): times of an engine");
+    let (choice, first_number) = chosen(arguments.as_slice());
+    if arguments.len() <= first_number {
+        return println!(rt; "{USAGE}");
     }
-    println!(rt; "    rows  keys           work             ms  rows/s")?;
-    for argument in arguments.iter().skip(1) {
+    println!(rt; "    rows  keys           work                         ms    rows/s")?;
+    for argument in arguments.iter().skip(first_number) {
         match argument.parse::<usize>() {
-            Ok(rows) if 0 < rows && rows <= MOST_ROWS => report(&rt, rows)?,
-            _ => println!(rt; "{argument}: not a number from 1 to {MOST_ROWS}")?,
+            Ok(rows) if 0 < rows && rows <= MOST_ROWS => report(&rt, choice, rows)?,
+            _ => return println!(rt; "{argument}: not a number from 1 to {MOST_ROWS}\n{USAGE}"),
         }
     }
     Ok(())
+}
+
+// What is measured, and the place of the first number of rows.
+fn chosen(arguments: &[String]) -> (Choice<'_>, usize) {
+    match arguments.get(1) {
+        Some(word) => match Choice::of(word.as_str()) {
+            Some(choice) => (choice, 2),
+            None => (Choice::All, 1),
+        },
+        None => (Choice::All, 1),
+    }
 }

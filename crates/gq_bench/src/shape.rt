@@ -1,6 +1,9 @@
-//! The rows that are measured, as scripts.
+//! The rows that are measured.
 use gq_row::{Row, Text, Value};
 use std::alloc::{AllocError, Global};
+
+// A prime above every number of keys.
+const STRIDE: u64 = 2_654_435_761;
 
 /// What the keys of rows are like.
 #[derive(Clone, Copy)]
@@ -12,7 +15,7 @@ pub(crate) struct Shape {
     pub(crate) shared_by: usize,
 }
 
-/// All of them.
+/// Few keys, many, and all different.
 pub(crate) const SHAPES: [Shape; 6] = [
     Shape {
         name: "few numbers",
@@ -46,19 +49,34 @@ pub(crate) const SHAPES: [Shape; 6] = [
     },
 ];
 
+/// A fifth as many keys as rows.
+pub(crate) const FIFTHS: [Shape; 2] = [
+    Shape {
+        name: "fifth numbers",
+        texts: false,
+        shared_by: 5,
+    },
+    Shape {
+        name: "fifth texts",
+        texts: true,
+        shared_by: 5,
+    },
+];
+
 impl Shape {
-    // How many keys there are among so many rows.
-    fn keys(&self, rows: usize) -> usize {
+    /// How many keys there are among so many rows.
+    pub(crate) fn keys(&self, rows: usize) -> usize {
         match self.shared_by {
             0 => 100,
             n => (rows / n.max(1)).max(1),
         }
     }
 
-    // The number of the key of a row: the keys come in no order.
-    fn key(&self, row: usize, rows: usize) -> u64 {
+    /// The number of the key of a row: the keys come in no order, and of as many rows as there are
+    /// keys each has another.
+    pub(crate) fn key_of(&self, row: usize, rows: usize) -> u64 {
         let keys = (self.keys(rows) as u64).max(1);
-        (row as u64).wrapping_mul(0x9e37_79b9_7f4a_7c15) % keys
+        (row as u64).wrapping_mul(STRIDE) % keys
     }
 
     /// The key of each row, as a row of its own.
@@ -66,14 +84,13 @@ impl Shape {
         let mut keys = Vec::with_capacity(alloc, rows)?;
         for row in 0..rows {
             let mut cells = Vec::with_capacity(alloc, 1)?;
-            cells.push(self.cell(alloc, row, rows)?)?;
+            cells.push(self.cell(alloc, self.key_of(row, rows))?)?;
             keys.push(Row::new(cells))?;
         }
         Ok(keys)
     }
 
-    fn cell(&self, alloc: Global, row: usize, rows: usize) -> Result<Value, AllocError> {
-        let key = self.key(row, rows);
+    fn cell(&self, alloc: Global, key: u64) -> Result<Value, AllocError> {
         if !self.texts {
             return Ok(Value::Int(i64::try_from(key).unwrap_or(i64::MAX)));
         }
@@ -82,63 +99,4 @@ impl Shape {
         text.push_str(digits.format(key))?;
         Ok(Value::Text(Text::new(text)))
     }
-
-    fn push_key(&self, out: &mut Vec<u8>, row: usize, rows: usize) -> Result<(), AllocError> {
-        if self.texts {
-            out.extend_from_slice(b"station-")?;
-        }
-        push_number(out, self.key(row, rows))
-    }
-
-    /// The line that makes the table `t`, with its key or without.
-    pub(crate) fn create(&self, keyed: bool) -> &'static [u8] {
-        match (self.texts, keyed) {
-            (false, false) => b"create t (k int, v int)\n",
-            (false, true) => b"create t (k int, v int, key (k))\n",
-            (true, false) => b"create t (k text, v int)\n",
-            (true, true) => b"create t (k text, v int, key (k))\n",
-        }
-    }
-
-    /// The rows as a CSV text, with its header.
-    pub(crate) fn payload(&self, alloc: Global, rows: usize) -> Result<Vec<u8>, AllocError> {
-        let mut out = Vec::from_slice(alloc, b"k,v\n")?;
-        for row in 0..rows {
-            self.push_key(&mut out, row, rows)?;
-            out.push(b',')?;
-            push_number(&mut out, row as u64)?;
-            out.push(b'\n')?;
-        }
-        Ok(out)
-    }
-
-    /// The rows as lines `upsert`.
-    pub(crate) fn upserts(&self, alloc: Global, rows: usize) -> Result<Vec<u8>, AllocError> {
-        let quote: &[u8] = if self.texts { b"'" } else { b"" };
-        let mut out = Vec::new(alloc);
-        for row in 0..rows {
-            out.extend_from_slice(b"upsert t (")?;
-            out.extend_from_slice(quote)?;
-            self.push_key(&mut out, row, rows)?;
-            out.extend_from_slice(quote)?;
-            out.extend_from_slice(b", ")?;
-            push_number(&mut out, row as u64)?;
-            out.extend_from_slice(b")\n")?;
-        }
-        Ok(out)
-    }
-}
-
-/// A CSV text as the script that loads it into the table `t`.
-pub(crate) fn load_of(alloc: Global, payload: &[u8]) -> Result<Vec<u8>, AllocError> {
-    let mut out = Vec::with_capacity(alloc, payload.len().saturating_add(16))?;
-    out.extend_from_slice(b"load t\n")?;
-    out.extend_from_slice(payload)?;
-    out.extend_from_slice(b"\\.\n")?;
-    Ok(out)
-}
-
-fn push_number(out: &mut Vec<u8>, number: u64) -> Result<(), AllocError> {
-    let mut digits = itoa::Buffer::new();
-    out.extend_from_slice(digits.format(number).as_bytes())
 }

@@ -1,0 +1,77 @@
+//! Rows and keys as CSV texts, and as scripts.
+use crate::shape::Shape;
+use std::alloc::AllocError;
+
+/// The line that makes the table `t` of the rows, with its key or without.
+pub(crate) fn create_rows(shape: Shape, keyed: bool) -> &'static [u8] {
+    match (shape.texts, keyed) {
+        (false, false) => b"create t (k int, v int)\n",
+        (false, true) => b"create t (k int, v int, key (k))\n",
+        (true, false) => b"create t (k text, v int)\n",
+        (true, true) => b"create t (k text, v int, key (k))\n",
+    }
+}
+
+/// Appends the rows as a CSV text, with its header.
+pub(crate) fn push_payload(out: &mut Vec<u8>, shape: Shape, rows: usize) -> Result<(), AllocError> {
+    out.extend_from_slice(b"k,v\n")?;
+    for row in 0..rows {
+        push_key(out, shape, shape.key_of(row, rows))?;
+        out.push(b',')?;
+        push_number(out, row as u64)?;
+        out.push(b'\n')?;
+    }
+    Ok(())
+}
+
+/// Appends the load of the rows into the table `t`.
+pub(crate) fn push_load(out: &mut Vec<u8>, shape: Shape, rows: usize) -> Result<(), AllocError> {
+    out.extend_from_slice(b"load t\n")?;
+    push_payload(out, shape, rows)?;
+    out.extend_from_slice(b"\\.\n")
+}
+
+/// Appends the rows as lines `upsert`.
+pub(crate) fn push_upserts(out: &mut Vec<u8>, shape: Shape, rows: usize) -> Result<(), AllocError> {
+    let quote: &[u8] = if shape.texts { b"'" } else { b"" };
+    for row in 0..rows {
+        out.extend_from_slice(b"upsert t (")?;
+        out.extend_from_slice(quote)?;
+        push_key(out, shape, shape.key_of(row, rows))?;
+        out.extend_from_slice(quote)?;
+        out.extend_from_slice(b", ")?;
+        push_number(out, row as u64)?;
+        out.extend_from_slice(b")\n")?;
+    }
+    Ok(())
+}
+
+/// Appends what makes the table `u`, with a key, and loads each key of the rows into it, once.
+pub(crate) fn push_keys(out: &mut Vec<u8>, shape: Shape, rows: usize) -> Result<(), AllocError> {
+    out.extend_from_slice(create_keys(shape))?;
+    out.extend_from_slice(b"load u\nk\n")?;
+    for key in 0..shape.keys(rows) {
+        push_key(out, shape, key as u64)?;
+        out.push(b'\n')?;
+    }
+    out.extend_from_slice(b"\\.\n")
+}
+
+fn create_keys(shape: Shape) -> &'static [u8] {
+    match shape.texts {
+        false => b"create u (k int, key (k))\n",
+        true => b"create u (k text, key (k))\n",
+    }
+}
+
+fn push_key(out: &mut Vec<u8>, shape: Shape, key: u64) -> Result<(), AllocError> {
+    if shape.texts {
+        out.extend_from_slice(b"station-")?;
+    }
+    push_number(out, key)
+}
+
+fn push_number(out: &mut Vec<u8>, number: u64) -> Result<(), AllocError> {
+    let mut digits = itoa::Buffer::new();
+    out.extend_from_slice(digits.format(number).as_bytes())
+}

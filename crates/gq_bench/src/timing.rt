@@ -1,0 +1,15 @@
+//! Times.
+use std::io;
+use std::time::Instant;
+
+/// The nanoseconds that a work took once, and how many bytes or records came of it: 0 where it
+/// went wrong.
+#[derive(Clone, Copy)]
+pub(crate) struct Timing {
+    pub(crate) nanoseconds: u64,
+    pub(crate) came: usize,
+}
+
+pub(crate) fn nanoseconds_since(rt: &HostRuntime, start: Instant) -> io::Result<u64> {
+    Ok(u64::try_from(start.elapsed(rt)?.as_nanos()).unwrap_or(u64::MAX))
+}
