@@ -5,7 +5,7 @@ use crate::catalog::Catalog;
 use crate::grouping::{columns_of, other_table, rows_different, rows_grouped};
 use crate::payloads::{bytes_of, is_lost, stage};
 use gq_command::{Command, Item, Payload, Test};
-use gq_group::Budget;
+use gq_group::{Budget, Spent};
 use gq_plan::{GroupClauses, header_of, names_of, plan_distinct, plan_group};
 use gq_query::show_rows;
 use gq_reply::{Refusal, Refused, Reply};
@@ -25,12 +25,13 @@ pub struct Engine<H: KeyHash<Key>, S> {
     store: S,
     budget: Budget,
     limits: Limits,
+    spent: Spent,
 }
 
 impl<H: KeyHash<Key> + Copy, S: RunStore> Engine<H, S> {
     ghost use Rattle.std.specs.Prelude.{◌≡◌, ◌∷◌, [], true};
     ghost use Rattle.gq_command.specs.Commands.{is_command, as_said};
-    ghost use Rattle.gq_engine.specs.Engines.{database, setting_of, failures_of};
+    ghost use Rattle.gq_engine.specs.Engines.{database, setting_of, failures_of, spent_of, NOTHING_SPENT};
     ghost use Rattle.gq_engine.specs.Databases.{IsKeyed};
     ghost use Rattle.gq_engine.specs.Runs.{AnsweredAlike, AnsweredAsLists, KeptUnlessDone, FaultsHappened, is_grouping, takes_no_memory};
     ghost use Rattle.gq_engine.specs.Serving.{Comes, ComesOver, ComesSurely, reply_of};
@@ -42,6 +43,7 @@ impl<H: KeyHash<Key> + Copy, S: RunStore> Engine<H, S> {
         ensures limits { (setting_of S.runs result).limits ≡ limits.bounds }
         ensures honest { (setting_of S.runs result).honest ≡ (S.runs store).honest }
         ensures failures { failures_of S.runs result ≡ (S.runs store).failures }
+        ensures spent { spent_of result ≡ NOTHING_SPENT }
     {
         Engine {
             alloc,
@@ -50,7 +52,22 @@ impl<H: KeyHash<Key> + Copy, S: RunStore> Engine<H, S> {
             store,
             budget,
             limits,
+            spent: Spent {
+                rows_read: 0,
+                rows_written: 0,
+                groups: 0,
+                runs: 0,
+            },
         }
+    }
+
+    /// What the groupings of all `group` commands took together that were carried out, each number
+    /// up to the greatest of 64 bits. Counting different values, `distinct` and what was refused are
+    /// left out.
+    pub fn spent(&self) -> Spent
+        ensures { result ≡ spent_of self.now }
+    {
+        self.spent
     }
 
     pub(crate) fn alloc(&self) -> Global {

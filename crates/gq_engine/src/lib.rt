@@ -40,7 +40,7 @@ mod run;
 mod sending;
 
 pub use engine::Engine;
-pub use gq_group::Budget;
+pub use gq_group::{Budget, Spent};
 pub use gq_reply::{Refusal, Refused, Reply, reply_text};
 pub use gq_spill::{MemStore, RunStore};
 pub use run::{Fault, Summary};

@@ -284,6 +284,10 @@ groups_placed spec rows =
     ap (map (group_of (placed columns spec) (map (key_of columns) rows))) (keys_placed columns spec.by rows (by_used spec))
     ∙ each_group columns spec rows (keys_of spec.by rows) (by_used spec) (aggs_used spec)
 
+-- and so are the keys of these rows
+pub same_keys : (spec : Spec) (rows : List (List Value)) → keys_of (placed_columns (columns_used spec) spec.by) (map (key_of (columns_used spec)) rows) ≡ keys_of spec.by rows
+same_keys spec rows = keys_placed (columns_used spec) spec.by rows (by_used spec)
+
 -- ---- the cells of a table's rows
 
 sum_cell : (k : Kind) (v : Value) → goes_in k v ≡ true → takes_kind agg.Sum k ≡ true → not (is_text v) ≡ true

@@ -3,6 +3,7 @@ pub mod Answers
 pub mod Asking
 pub mod Laws
 pub mod Selecting
+pub mod Work
 -- contracts of single functions
 pub mod Cells
 pub mod Fronts

@@ -9,6 +9,7 @@ ghost use Rattle.gq_query.specs.Asking.{CanMatch, can_show, no_runs};
 ghost use Rattle.gq_query.specs.Keeping.{HasColumns, kept_rows};
 ghost use Rattle.gq_query.specs.Joining.{AreShown, aggregates_of, so_far, first_of, joined};
 ghost use Rattle.gq_query.specs.Selecting.{other_columns, rows_selected};
+ghost use Rattle.gq_query.specs.Work.{IsSpentOn};
 
 use crate::cells::aggs_of;
 use crate::group_list::{GroupValues, rows_of};
@@ -17,7 +18,7 @@ use crate::ordering::sort_groups;
 use crate::query::Query;
 use crate::selection::{Selection, other_keys};
 use crate::shown::Shown;
-use gq_group::{Budget, Refusal};
+use gq_group::{Budget, Refusal, Spent};
 use gq_row::{Key, Row, Sequence};
 use gq_select::{Condition, having};
 use gq_spill::RunStore;
@@ -34,18 +35,22 @@ pub struct Grouping<'a> {
 }
 
 impl<'a, H: KeyHash<Key> + Copy> Query<'a, H> {
-    // The groups in the order of their keys, with the aggregates among what is shown.
+    // The groups in the order of their keys, with the aggregates among what is shown, and what
+    // grouping them took.
     fn aggregates<S: RunStore>(
         &self,
         shown: &[Shown],
         store: &mut S,
-    ) -> Result<Vec<GroupValues>, Refusal>
+    ) -> Result<(Vec<GroupValues>, Spent), Refusal>
         requires columns { HasColumns self.now }
         requires shown { IsTrue
             (list_all (can_show self.now.table.now.heading.columns) shown.now) }
         ensures groups { IsTrue (S.runs store.old).honest →
-            IfOk result (λ groups. AreShown self.now.by.now (aggregates_of shown.now)
-            (kept_rows self.now) groups.items) }
+            IfOk result (λ found. AreShown self.now.by.now (aggregates_of shown.now)
+            (kept_rows self.now) found.0.items) }
+        ensures spent { IsTrue (S.runs store.old).honest →
+            IfOk result (λ found. IsSpentOn self.now.budget.entries self.now.by.now
+            (kept_rows self.now) found.1) }
         ensures overflow { IsTrue (S.runs store.old).honest → IsErrOf result Refusal.SumRange →
             answer self.now.by.now shown.now (kept_rows self.now) ≡ None }
         ensures others { LeavesOthers no_runs no_runs (S.runs store.old) (S.runs store.new) }
@@ -54,14 +59,14 @@ impl<'a, H: KeyHash<Key> + Copy> Query<'a, H> {
         let Ok(aggs) = aggs_of(self.alloc, shown) else {
             return Err(Refusal::Memory);
         };
-        let mut groups = self.groups_of(aggs.as_slice(), store)?;
+        let (mut groups, spent) = self.groups_of(aggs.as_slice(), store)?;
         let Ok(()) = sort_groups(&mut groups) else {
             return Err(Refusal::Memory);
         };
-        Ok(groups)
+        Ok((groups, spent))
     }
 
-    // The same in the order of the keys.
+    // The counts of different values in the order of the keys.
     fn counts<S: RunStore>(&self, column: usize, store: &mut S) -> Result<Vec<GroupValues>, Refusal>
         requires columns { HasColumns self.now }
         requires column { column < length self.now.table.now.heading.columns }
@@ -112,24 +117,32 @@ impl<'a, H: KeyHash<Key> + Copy> Query<'a, H> {
         }
     }
 
-    // The groups in the order of their keys, with what is shown of each.
-    fn show<S: RunStore>(&self, shown: &[Shown], store: &mut S) -> Result<Vec<GroupValues>, Refusal>
+    // The groups in the order of their keys, with what is shown of each, and what the grouping of
+    // their aggregates took. Counts of different values are left out of that.
+    fn show<S: RunStore>(
+        &self,
+        shown: &[Shown],
+        store: &mut S,
+    ) -> Result<(Vec<GroupValues>, Spent), Refusal>
         requires columns { HasColumns self.now }
         requires shown { IsTrue
             (list_all (can_show self.now.table.now.heading.columns) shown.now) }
         ensures groups { IsTrue (S.runs store.old).honest →
-            IfOk result (λ groups. AreShown self.now.by.now shown.now
-            (kept_rows self.now) groups.items) }
+            IfOk result (λ found. AreShown self.now.by.now shown.now
+            (kept_rows self.now) found.0.items) }
+        ensures spent { IsTrue (S.runs store.old).honest →
+            IfOk result (λ found. IsSpentOn self.now.budget.entries self.now.by.now
+            (kept_rows self.now) found.1) }
         ensures overflow { IsTrue (S.runs store.old).honest → IsErrOf result Refusal.SumRange →
             answer self.now.by.now shown.now (kept_rows self.now) ≡ None }
         ensures others { LeavesOthers no_runs no_runs (S.runs store.old) (S.runs store.new) }
         ensures cause { IfErr result (λ e. GroupCause e (S.runs store.old) (S.runs store.new)) }
     {
-        let mut groups = self.aggregates(shown, store)?;
+        let (mut groups, spent) = self.aggregates(shown, store)?;
         'shown: for place in 0..shown.len() {
             self.show_next(shown, place, &mut groups, store)?;
         }
-        Ok(groups)
+        Ok((groups, spent))
     }
 }
 
@@ -173,6 +186,7 @@ fn rows_having(rows: Vec<Row>, condition: &Condition) -> Vec<Row>
 /// The result rows of a `group`: one for each different key that the rows that are selected have in
 /// some columns, in ascending order; in it the key's values, and then what is shown of the rows
 /// that have it. Of these rows `having` keeps those for which it is true, after all are finished.
+/// And what the grouping took of which the aggregates come; counts of different values are left out.
 ///
 /// Refused with `SumRange` where some sum is out of range, whatever `having` says, `Memory` for
 /// want of memory, `StoreFault` where the store failed, and `Damaged` where it did not read back
@@ -184,7 +198,7 @@ pub fn group_rows<H: KeyHash<Key> + Copy, S: RunStore>(
     grouping: &Grouping<'_>,
     store: &mut S,
     budget: Budget,
-) -> Result<Sequence<Row>, Refusal>
+) -> Result<(Sequence<Row>, Spent), Refusal>
     requires by { All (λ column. column < length selection.now.table.now.heading.columns)
         grouping.now.by.now }
     requires shown { IsTrue (list_all (can_show selection.now.table.now.heading.columns)
@@ -193,8 +207,11 @@ pub fn group_rows<H: KeyHash<Key> + Copy, S: RunStore>(
         (other_columns (option_copied selection.now.others))
         (option_copied selection.now.matching) }
     ensures rows { IsTrue (S.runs store.old).honest → IfOk result
-        (λ rows. answer_having grouping.now.by.now grouping.now.shown.now
-        grouping.now.having.now.tests (rows_selected selection.now) ≡ Some rows) }
+        (λ found. answer_having grouping.now.by.now grouping.now.shown.now
+        grouping.now.having.now.tests (rows_selected selection.now) ≡ Some found.0) }
+    ensures spent { IsTrue (S.runs store.old).honest → IfOk result
+        (λ found. IsSpentOn budget.entries grouping.now.by.now (rows_selected selection.now)
+        found.1) }
     ensures overflow { IsTrue (S.runs store.old).honest → IsErrOf result Refusal.SumRange →
         answer_having grouping.now.by.now grouping.now.shown.now
         grouping.now.having.now.tests (rows_selected selection.now) ≡ None }
@@ -217,9 +234,9 @@ pub fn group_rows<H: KeyHash<Key> + Copy, S: RunStore>(
         by: grouping.by,
         budget,
     };
-    let groups = query.show(grouping.shown, store)?;
+    let (groups, spent) = query.show(grouping.shown, store)?;
     let Ok(rows) = rows_of(alloc, groups) else {
         return Err(Refusal::Memory);
     };
-    Ok(Sequence::new(rows_having(rows, grouping.having)))
+    Ok((Sequence::new(rows_having(rows, grouping.having)), spent))
 }

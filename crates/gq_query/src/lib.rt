@@ -11,7 +11,7 @@
 //! let selection = Selection { table: &table, condition: &condition, matching: None, others: None };
 //! let shown = [Shown::Aggregate(AggKind::Sum, 1), Shown::CountDistinct(2)];
 //! let grouping = Grouping { by: &[0], shown: &shown, having: &having };
-//! let rows = group_rows(alloc, hasher, &selection, &grouping, &mut store, budget)?;
+//! let (rows, spent) = group_rows(alloc, hasher, &selection, &grouping, &mut store, budget)?;
 //! ```
 //!
 //! A row that is not kept is passed over before a cell of it is copied. The keys of the other
@@ -22,9 +22,10 @@
 //! Over an honest store the rows of [`group_rows`] and [`distinct_rows`] are `answer_having` and
 //! `distinct_keys` of `specs/Answers.antt`, of the `rows_kept` there: these speak of lists, filters
 //! and aggregates alone. `SumRange` is answered only where some sum is out of range, whatever
-//! `having` says. Over every store no run is left behind and none is touched that was there, and
-//! both refuse for a cause. The law in [`laws`] says that the order of rows is not seen, neither
-//! that of the table nor that of the other.
+//! `having` says. What grouping them took, within the budget that is handed in, is `IsSpentOn` of
+//! `specs/Work.antt`; counts of different values are left out. Over every store no run is left behind
+//! and none is touched that was there, and both refuse for a cause. The law in [`laws`] says that the
+//! order of rows is not seen, neither that of the table nor that of the other.
 #![tactic(auto)]
 
 mod cells;

@@ -8,13 +8,14 @@ ghost use Rattle.gq_select.specs.Distinct.{bare_keys};
 ghost use Rattle.gq_query.specs.Asking.{can_take, no_runs};
 ghost use Rattle.gq_query.specs.Cells.{placed};
 ghost use Rattle.gq_query.specs.Keeping.{HasColumns, kept_rows};
+ghost use Rattle.gq_query.specs.Work.{IsSpentOn};
 
 use crate::cells::{columns_used, place_aggs, place_columns, place_of};
 use crate::group_list::{GroupList, GroupValues};
 use crate::kept::Kept;
 use crate::table_rows::TableRows;
 use gq_agg::AggKind;
-use gq_group::{Budget, GroupSpec, Refusal, group, group_distinct};
+use gq_group::{Budget, GroupSpec, Refusal, Spent, group, group_distinct};
 use gq_row::Key;
 use gq_select::distinct;
 use gq_spill::RunStore;
@@ -35,17 +36,21 @@ pub struct Query<'a, H: KeyHash<Key>> {
 }
 
 impl<'a, H: KeyHash<Key> + Copy> Query<'a, H> {
-    /// The groups of the rows that are kept, in some order, with these aggregates.
+    /// The groups of the rows that are kept, in some order, with these aggregates, and what grouping
+    /// them took.
     pub fn groups_of<S: RunStore>(
         &self,
         aggs: &[(AggKind, usize)],
         store: &mut S,
-    ) -> Result<Vec<GroupValues>, Refusal>
+    ) -> Result<(Vec<GroupValues>, Spent), Refusal>
         requires columns { HasColumns self.now }
         requires aggs { IsTrue (list_all (can_take self.now.table.now.heading.columns) aggs.now) }
         ensures groups { IsTrue (S.runs store.old).honest →
-            IfOk result (λ groups. AreGroups (record { by = self.now.by.now; aggs = aggs.now })
-            (kept_rows self.now) groups.items) }
+            IfOk result (λ found. AreGroups (record { by = self.now.by.now; aggs = aggs.now })
+            (kept_rows self.now) found.0.items) }
+        ensures spent { IsTrue (S.runs store.old).honest →
+            IfOk result (λ found. IsSpentOn self.now.budget.entries self.now.by.now
+            (kept_rows self.now) found.1) }
         ensures overflow { IsTrue (S.runs store.old).honest → IsErrOf result Refusal.SumRange →
             out_of_range (record { by = self.now.by.now; aggs = aggs.now })
             (kept_rows self.now) ≡ true }
@@ -65,7 +70,7 @@ impl<'a, H: KeyHash<Key> + Copy> Query<'a, H> {
             columns: columns.as_slice(),
         };
         let mut sink = GroupList::new(self.alloc);
-        group(
+        let spent = group(
             self.alloc,
             self.hasher,
             &spec,
@@ -74,7 +79,7 @@ impl<'a, H: KeyHash<Key> + Copy> Query<'a, H> {
             store,
             self.budget,
         )?;
-        Ok(sink.into_vec())
+        Ok((sink.into_vec(), spent))
     }
 
     /// How many different values the rows of each key have in a column, in some order.
