@@ -274,8 +274,15 @@ impl<H: KeyHash<Key> + Copy, S: RunStore> Engine<H, S> {
         let plan = plan_group(self.alloc, table.schema(), columns_of(others), &clauses)?;
         let header = header_of(self.alloc, clauses.by, clauses.shown.as_slice())?;
         let (hasher, store) = (self.hasher, &mut self.store);
-        let (rows, spent) =
-            rows_grouped(self.alloc, hasher, table, others, &plan, store, self.budget)?;
+        let (rows, spent) = rows_grouped(
+            self.alloc,
+            hasher,
+            table,
+            others,
+            &plan,
+            store,
+            self.budget,
+        )?;
         self.spent = both_spent(self.spent, spent);
         Ok(Reply::Rows { header, rows })
     }

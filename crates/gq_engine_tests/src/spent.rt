@@ -64,7 +64,11 @@ fn assert_takes<H: KeyHash<Key> + Copy>(
     answers(alloc, &mut engine, script.as_slice())?;
     assert_eq!(rt; engine.spent(), NOTHING, "budget {budget}");
     let replies = answers(alloc, &mut engine, b"group b by n show count(*)")?;
-    assert!(rt; replies.as_slice().starts_with(b"ok 50\nn,count(*)\n0,10\n1,10\n"));
+    assert!(rt;
+        replies
+            .as_slice()
+            .starts_with(b"ok 50\nn,count(*)\n0,10\n1,10\n")
+    );
     assert_eq!(rt; engine.spent(), due, "budget {budget}");
     answers(alloc, &mut engine, b"group b by n show count(*)")?;
     let twice = spent(
@@ -83,10 +87,7 @@ fn assert_takes<H: KeyHash<Key> + Copy>(
 fn five_hundred_rows_in_fifty_groups(rt: HostRuntime) -> Result<(), Fail> {
     let alloc = rt.alloc();
     assert_takes(&rt, alloc, Constant(0), 1, spent(500, 12_250, 50, 49))?;
-    for (budget, due) in [
-        (49, spent(500, 10, 50, 1)),
-        (50, spent(500, 0, 50, 0)),
-    ] {
+    for (budget, due) in [(49, spent(500, 10, 50, 1)), (50, spent(500, 0, 50, 0))] {
         assert_takes(&rt, alloc, Constant(0), budget, due)?;
         assert_takes(&rt, alloc, Fnv1a { seed: 0 }, budget, due)?;
         assert_takes(&rt, alloc, Fnv1a { seed: 5 }, budget, due)?;
@@ -103,7 +104,11 @@ fn only_groups_that_are_answered(rt: HostRuntime) -> Result<(), Fail> {
     let mut engine = engine(alloc, Limits::greatest());
     let cases: [(&[u8], &[u8], Spent); 15] = [
         (b"create t (a int, b int, c text)", b"ok 0\n", NOTHING),
-        (b"upsert t (1, 9223372036854775807, 'x')", b"ok 1\n", NOTHING),
+        (
+            b"upsert t (1, 9223372036854775807, 'x')",
+            b"ok 1\n",
+            NOTHING,
+        ),
         (b"upsert t (1, 1, 'y')", b"ok 1\n", NOTHING),
         (b"upsert t (2, 5, null)", b"ok 1\n", NOTHING),
         (b"group t by a show sum(b)", b"err 13 SumRange\n", NOTHING),
