@@ -23,7 +23,8 @@ use Rattle.gq_plan.specs.Plans.{distinct_plan, group_plan}
 use Rattle.gq_engine.specs.Databases.{Database, table_at}
 use Rattle.gq_engine.specs.Runs.{IsGrouped, FaultsHappened}
 use Rattle.gq_engine.specs.Serving.{Comes, ComesOver, Plainly, StoreFails, StoreLies, GroupsOver, reply_of}
-use Rattle.gq_engine.specs.Steps.{Outcome, distinct, group, keys_planned, other_in, rows_planned, settle}
+use Rattle.gq_engine.specs.Spending.{rows_asked}
+use Rattle.gq_engine.specs.Steps.{Outcome, distinct, group, keys_planned, other_in, rows_about, rows_planned, settle}
 use Rattle.gq_engine.proofs.OrderLemmas.{same_tables}
 use Rattle.gq_engine.proofs.StepLemmas.{carries}
 use Rattle.gq_engine.proofs.StoreLemmas.{plain_faults}
@@ -83,6 +84,10 @@ module _ (db : Database) (name : Bytes) (clauses : GroupClauses) where
       pub group_planned : (plan : GroupPlan) → group_plan table.heading.columns (other_columns other) clauses ≡ Ok plan
           → group db name clauses ≡ (some_or SumRange (rows_planned plan table other) >>= λ rows. Ok (db, reply.Rows (group_header clauses.by clauses.shown) rows))
       group_planned plan told =
+          finds NoTable (table_at db name) table _ found ∙ gives (other_in db clauses.exists) other _ there ∙ gives (group_plan table.heading.columns (other_columns other) clauses) plan _ told
+
+      pub asked_planned : (plan : GroupPlan) → group_plan table.heading.columns (other_columns other) clauses ≡ Ok plan → rows_asked db name clauses ≡ Ok (plan.by, rows_about plan table other)
+      asked_planned plan told =
           finds NoTable (table_at db name) table _ found ∙ gives (other_in db clauses.exists) other _ there ∙ gives (group_plan table.heading.columns (other_columns other) clauses) plan _ told
 
   -- as long as the store isn't asked, no failure of it is told

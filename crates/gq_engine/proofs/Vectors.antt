@@ -1,5 +1,6 @@
 -- Worked examples, computed by the definitions.
-use Rattle.std.proofs.Common.{◌≡◌, ℕ, List, [], ◌∷◌, pos, negsuc, Some, None, Ok, Err, refl, codes}
+use Rattle.std.proofs.Common.{◌≡◌, ◌∙◌, ◌≤◌, ◌+◌, ◌-◌, ◌*◌, ℕ, true, List, [], ◌∷◌, length, pos, negsuc, Some, None, Ok, Err, refl, sym, ap, subst, arith, codes}
+use Rattle.std.specs.Prelude.{Result}
 use Rattle.gq_row.specs.declared.value.Value.{Value}
 use Rattle.gq_row.specs.declared.value.Value.TheVariants.{Null, Int, Text}
 use Rattle.gq_row.specs.declared.schema.Column.{Column}
@@ -7,11 +8,13 @@ use Rattle.gq_row.specs.declared.schema.Kind.TheVariants as kind
 use Rattle.gq_row.specs.declared.limits.Bounds.{Bounds}
 use Rattle.gq_row.specs.Headings.{Heading}
 use Rattle.gq_row.specs.Limits.{GREATEST}
+use Rattle.gq_group.specs.declared.grouping.Spent.{Spent}
+use Rattle.gq_group.specs.Groups.{keys_of}
 use Rattle.gq_load.specs.declared.load_refusal.LoadRefusal.TheVariants as fault
 use Rattle.gq_load.specs.Payloads.{load}
 use Rattle.gq_command.specs.Commands.{Bytes}
 use Rattle.gq_command.specs.declared.command.Command.{Command}
-use Rattle.gq_command.specs.declared.command.Command.TheVariants.{Create, Drop, Load, Upsert, Delete, Show, Group}
+use Rattle.gq_command.specs.declared.command.Command.TheVariants.{Create, Drop, Load, Upsert, Delete, Show, Group, Distinct}
 use Rattle.gq_command.specs.declared.command.Payload.{Payload}
 use Rattle.gq_command.specs.declared.command.Payload.TheVariants as payload
 use Rattle.gq_clause.specs.declared.aggregate.Aggregate.{Aggregate}
@@ -19,10 +22,13 @@ use Rattle.gq_clause.specs.declared.aggregate.Aggregate.TheVariants.{CountAll, C
 use Rattle.gq_command.specs.declared.reader.Item.TheVariants as item
 use Rattle.gq_command.specs.declared.lines.LineRefusal.TheVariants as line
 use Rattle.gq_reply.specs.declared.refusal.Refusal.TheVariants.{LineTooLong, NoTable, TableExists, NoColumn, TypeMismatch, NoKey, NullKey, Header, FieldCount, BadInt, BadText, SumRange, Limit, Memory, LoadOpen}
+use Rattle.gq_reply.specs.declared.refusal.Refused.{Refused}
 use Rattle.gq_reply.specs.declared.reply.Reply.{Reply}
 use Rattle.gq_reply.specs.declared.reply.Reply.TheVariants as reply
 use Rattle.gq_engine.specs.Databases.{Database}
 use Rattle.gq_reply.specs.Refusals.{refused}
+use Rattle.gq_engine.specs.Engines.{NOTHING_SPENT}
+use Rattle.gq_engine.specs.Spending.{Spends, both_spent, sum_within}
 use Rattle.gq_engine.specs.Steps.{step}
 
 abbrev after : Bounds → Database → Command → Database
@@ -30,6 +36,11 @@ after limits db command = (step limits db (item.Command command)).0
 
 abbrev answer : Bounds → Database → Command → Reply
 answer limits db command = (step limits db (item.Command command)).1
+
+-- which columns and rows a `group` asks for
+abbrev asked_of : Result (List ℕ × List (List Value)) Refused → List ℕ × List (List Value) → List ℕ × List (List Value)
+asked_of (Ok asked) other = asked
+asked_of (Err why) other = other
 
 abbrev column : List ℕ → Column
 column name = record { name = name; kind = kind.Text }
@@ -322,3 +333,42 @@ as_many_as_may_be bytes given = rw given refl
 
 one_row_too_many : (bytes : Bytes) → load s three_each bytes ≡ Ok (city 3 (codes "z") ∷ city 4 (codes "q") ∷ []) → step three_each two_of_three (item.Command (load_s (payload.Bytes bytes))) ≡ (two_of_three, refused Limit)
 one_row_too_many bytes given = rw given refl
+
+-- what groupings take
+
+-- over two rows of two keys: within a budget of two or more nothing is written
+cities_are_read : (new : Spent) → Spends true 2 two_cities (group_s (codes "city" ∷ [])) (answer GREATEST two_cities (group_s (codes "city" ∷ []))) NOTHING_SPENT new
+    → new ≡ record { rows_read = 2; rows_written = 0; groups = 2; runs = 0 }
+cities_are_read new h =
+    let asked = ap (λ r. asked_of r (h.by, h.rows)) h.asked in
+    let keys : 2 ≡ length (keys_of h.by h.rows) = ap (λ (a : List ℕ × List (List Value)). length (keys_of a.0 a.1)) asked in
+    let rows : 2 ≡ length h.rows = ap (λ (a : List ℕ × List (List Value)). length a.1) asked in
+    let work = h.work refl in
+    let read : h.more.rows_read ≡ 2 = work.read ∙ sym rows in
+    let groups : h.more.groups ≡ 2 = work.groups ∙ sym keys in
+    let runs : h.more.runs ≡ 0 = work.written.no_runs.1 (omega (arith, groups)) in
+    let written : h.more.rows_written ≡ 0 = work.written.no_rows.1 (omega (arith, groups)) in
+    h.sum ∙ (λ i. both_spent NOTHING_SPENT (record { rows_read = read i; rows_written = written i; groups = groups i; runs = runs i }))
+
+-- within a budget of one group the rows of the other key are written, to one run
+one_run_is_made : (new : Spent) → Spends true 1 two_cities (group_s (codes "city" ∷ [])) (answer GREATEST two_cities (group_s (codes "city" ∷ []))) NOTHING_SPENT new → new.runs ≡ 1
+one_run_is_made new h =
+    let keys : 2 ≡ length (keys_of h.by h.rows) = ap (λ r. length (keys_of (asked_of r (h.by, h.rows)).0 (asked_of r (h.by, h.rows)).1)) h.asked in
+    let work = h.work refl in
+    let groups : h.more.groups ≡ 2 = work.groups ∙ sym keys in
+    let some : 2 ≤ 1 * (h.more.runs + 1) = subst (λ n. n ≤ 1 * (h.more.runs + 1)) groups work.written.by_runs in
+    let few : h.more.runs ≤ 2 - 1 = subst (λ n. h.more.runs ≤ n - 1) groups work.written.few_runs in
+    let runs : h.more.runs ≡ 1 = omega arith in
+    ap (λ (s : Spent). s.runs) h.sum ∙ ap (λ n. sum_within 0 n) runs
+
+-- each number stops at the greatest
+stops_at_the_greatest : both_spent (record { rows_read = 18446744073709551614; rows_written = 18446744073709551615; groups = 5; runs = 0 }) (record { rows_read = 3; rows_written = 0; groups = 7; runs = 18446744073709551615 })
+    ≡ record { rows_read = 18446744073709551615; rows_written = 18446744073709551615; groups = 12; runs = 18446744073709551615 }
+stops_at_the_greatest = refl
+
+-- a refused `group` leaves what was spent, and so do other commands
+refused_takes_nothing : (old new : Spent) → Spends true 1 two_cities (group_s (codes "town" ∷ [])) (answer GREATEST two_cities (group_s (codes "town" ∷ []))) old new → new ≡ old
+refused_takes_nothing old new h = h
+
+distinct_takes_nothing : (old new : Spent) → Spends true 1 two_cities (Distinct (codes "s") (codes "city" ∷ []) []) (answer GREATEST two_cities (Distinct (codes "s") (codes "city" ∷ []) [])) old new → new ≡ old
+distinct_takes_nothing old new h = h

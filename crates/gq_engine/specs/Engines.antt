@@ -21,6 +21,10 @@ failures_of runs engine = (runs engine.store).failures
 abbrev pub state_of : {H S : Type 0} → (S → Runs) → Engine H S → State
 state_of runs engine = record { database = database engine; failures = failures_of runs engine }
 
+-- how many groups one of its groupings keeps in memory at once
+abbrev pub budget_of : {H S : Type 0} → Engine H S → ℕ
+budget_of engine = engine.budget.entries
+
 -- what its groupings took together
 abbrev pub spent_of : {H S : Type 0} → Engine H S → Spent
 spent_of engine = engine.spent

@@ -4,6 +4,7 @@ use Rattle.std.specs.Io.KnownBytes.{Appends}
 use Rattle.gq_row.specs.declared.value.Value.{Value}
 use Rattle.gq_row.specs.Tables.{PlainTable, has_row}
 use Rattle.gq_table.specs.Changes.{IsDeleted}
+use Rattle.gq_group.specs.declared.grouping.Spent.{Spent}
 use Rattle.gq_command.specs.declared.reader.Item.{Item}
 use Rattle.gq_command.specs.Commands.{Bytes}
 use Rattle.gq_reply.specs.declared.refusal.Refusal.TheVariants.{Memory, StoreFault}
@@ -46,6 +47,11 @@ pub data ComesOver (grouping honest : Bool) (steps : Outcome) (result : Result R
 -- What a grouping came to over a run store: what lists come to; or there was no memory; or the store failed; or, where it isn't honest, to anything.
 abbrev pub GroupsOver : {X : Type 0} → Bool → Result X Refused → Result X Refused → Type 0
 GroupsOver honest steps result = (result ≡ steps) ⊎ ((result ≡ Err (unnumbered Memory)) ⊎ ((result ≡ Err (unnumbered StoreFault)) ⊎ (honest ≡ false)))
+
+-- the rows that a grouping gave, apart from what it took
+abbrev pub rows_in : {X : Type 0} → Result (X × Spent) Refused → Result X Refused
+rows_in (Ok found) = Ok found.0
+rows_in (Err why) = Err why
 
 -- how many failures of the run store a result tells
 abbrev pub faults_in : {X : Type 0} → Result X Refused → ℕ

@@ -108,9 +108,13 @@ other_in db (Some exists) = do
   table ← table_in db exists.table
   Ok (Some table)
 
--- the result rows of a `group` by its plan, of the rows of its table that the condition keeps and that have the match among the rows of the other
+-- the rows that a `group` is about by its plan: those of its table that the condition keeps and that have the match among the rows of the other
+abbrev pub rows_about : GroupPlan → PlainTable → Option PlainTable → List (List Value)
+rows_about plan table other = rows_kept plan.condition.tests plan.matching (other_rows other) table.rows
+
+-- the result rows of a `group` by its plan
 abbrev pub rows_planned : GroupPlan → PlainTable → Option PlainTable → Option (List (List Value))
-rows_planned plan table other = answer_having plan.by plan.shown plan.having.tests (rows_kept plan.condition.tests plan.matching (other_rows other) table.rows)
+rows_planned plan table other = answer_having plan.by plan.shown plan.having.tests (rows_about plan table other)
 
 -- rows are grouped, and aggregates of each group shown
 abbrev pub group : Database → List ℕ → GroupClauses → Outcome

@@ -4,6 +4,7 @@ ghost use Rattle.std.specs.Prelude.{◌≡◌, ◌∷◌, []};
 use crate::catalog::Catalog;
 use crate::grouping::{columns_of, other_table, rows_different, rows_grouped};
 use crate::payloads::{bytes_of, is_lost, stage};
+use crate::spending::both_spent;
 use gq_command::{Command, Item, Payload, Test};
 use gq_group::{Budget, Spent};
 use gq_plan::{GroupClauses, header_of, names_of, plan_distinct, plan_group};
@@ -31,10 +32,11 @@ pub struct Engine<H: KeyHash<Key>, S> {
 impl<H: KeyHash<Key> + Copy, S: RunStore> Engine<H, S> {
     ghost use Rattle.std.specs.Prelude.{◌≡◌, ◌∷◌, [], true};
     ghost use Rattle.gq_command.specs.Commands.{is_command, as_said};
-    ghost use Rattle.gq_engine.specs.Engines.{database, setting_of, failures_of, spent_of, NOTHING_SPENT};
+    ghost use Rattle.gq_engine.specs.Engines.{database, setting_of, failures_of, budget_of, spent_of, NOTHING_SPENT};
     ghost use Rattle.gq_engine.specs.Databases.{IsKeyed};
     ghost use Rattle.gq_engine.specs.Runs.{AnsweredAlike, AnsweredAsLists, KeptUnlessDone, FaultsHappened, is_grouping, takes_no_memory};
     ghost use Rattle.gq_engine.specs.Serving.{Comes, ComesOver, ComesSurely, reply_of};
+    ghost use Rattle.gq_engine.specs.Spending.{GroupSpends, Spends};
     ghost use Rattle.gq_engine.specs.Steps.{outcome, create as created, drop_table as dropped, load_table as loaded, upsert as upserted, delete_row as removed, show_table as shown, group as grouped, distinct as told_apart};
 
     /// An engine without tables, whose keys will be hashed by `hasher`.
@@ -43,6 +45,7 @@ impl<H: KeyHash<Key> + Copy, S: RunStore> Engine<H, S> {
         ensures limits { (setting_of S.runs result).limits ≡ limits.bounds }
         ensures honest { (setting_of S.runs result).honest ≡ (S.runs store).honest }
         ensures failures { failures_of S.runs result ≡ (S.runs store).failures }
+        ensures budget { budget_of result ≡ budget.entries }
         ensures spent { spent_of result ≡ NOTHING_SPENT }
     {
         Engine {
@@ -101,7 +104,11 @@ impl<H: KeyHash<Key> + Copy, S: RunStore> Engine<H, S> {
             (failures_of S.runs self.new) }
         // Only a command that was carried out changes a table.
         ensures kept { KeptUnlessDone result (database self.old) (database self.new) }
+        // Only a `group` that is carried out raises what was spent, by the work of one grouping.
+        ensures spent { Spends (setting_of S.runs self.old).honest (budget_of self.old)
+            (database self.old) command result (spent_of self.old) (spent_of self.new) }
         ensures setting { setting_of S.runs self.new ≡ setting_of S.runs self.old }
+        ensures budget { budget_of self.new ≡ budget_of self.old }
     {
         match self.carry_out(command) {
             Ok(reply) => reply,
@@ -121,6 +128,9 @@ impl<H: KeyHash<Key> + Copy, S: RunStore> Engine<H, S> {
             (outcome (setting_of S.runs self.old).limits (database self.old) command)
             result (database self.old) (database self.new) }
         ensures setting { setting_of S.runs self.new ≡ setting_of S.runs self.old }
+        ensures spent { Spends (setting_of S.runs self.old).honest (budget_of self.old)
+            (database self.old) command (reply_of result) (spent_of self.old) (spent_of self.new) }
+        ensures budget { budget_of self.new ≡ budget_of self.old }
     {
         match command {
             Command::Create {
@@ -165,6 +175,8 @@ impl<H: KeyHash<Key> + Copy, S: RunStore> Engine<H, S> {
             (created (setting_of S.runs self.old).limits (database self.old) name columns key)
             result (database self.old) (database self.new) }
         ensures setting { setting_of S.runs self.new ≡ setting_of S.runs self.old }
+        ensures spent { spent_of self.new ≡ spent_of self.old }
+        ensures budget { budget_of self.new ≡ budget_of self.old }
         ensures failures { failures_of S.runs self.new ≡ failures_of S.runs self.old }
     {
         if self.catalog.get(name.as_str()).is_some() {
@@ -185,6 +197,8 @@ impl<H: KeyHash<Key> + Copy, S: RunStore> Engine<H, S> {
         ensures comes { Comes (upserted (setting_of S.runs self.old).limits (database self.old) name row)
             result (database self.old) (database self.new) }
         ensures setting { setting_of S.runs self.new ≡ setting_of S.runs self.old }
+        ensures spent { spent_of self.new ≡ spent_of self.old }
+        ensures budget { budget_of self.new ≡ budget_of self.old }
         ensures failures { failures_of S.runs self.new ≡ failures_of S.runs self.old }
     {
         self.catalog.upsert(name.as_str(), row, &self.limits)?;
@@ -195,6 +209,8 @@ impl<H: KeyHash<Key> + Copy, S: RunStore> Engine<H, S> {
         ensures surely { ComesSurely (dropped (database self.old) name)
             result (database self.old) (database self.new) }
         ensures setting { setting_of S.runs self.new ≡ setting_of S.runs self.old }
+        ensures spent { spent_of self.new ≡ spent_of self.old }
+        ensures budget { budget_of self.new ≡ budget_of self.old }
         ensures failures { failures_of S.runs self.new ≡ failures_of S.runs self.old }
     {
         self.catalog.remove(name.as_str())?;
@@ -205,6 +221,8 @@ impl<H: KeyHash<Key> + Copy, S: RunStore> Engine<H, S> {
         ensures comes { Comes (loaded (setting_of S.runs self.old).limits (database self.old) name payload)
             result (database self.old) (database self.new) }
         ensures setting { setting_of S.runs self.new ≡ setting_of S.runs self.old }
+        ensures spent { spent_of self.new ≡ spent_of self.old }
+        ensures budget { budget_of self.new ≡ budget_of self.old }
         ensures failures { failures_of S.runs self.new ≡ failures_of S.runs self.old }
     {
         if is_lost(&payload) {
@@ -222,6 +240,8 @@ impl<H: KeyHash<Key> + Copy, S: RunStore> Engine<H, S> {
         ensures surely { ComesSurely (removed (database self.old) name key)
             result (database self.old) (database self.new) }
         ensures setting { setting_of S.runs self.new ≡ setting_of S.runs self.old }
+        ensures spent { spent_of self.new ≡ spent_of self.old }
+        ensures budget { budget_of self.new ≡ budget_of self.old }
         ensures failures { failures_of S.runs self.new ≡ failures_of S.runs self.old }
     {
         let found = self.catalog.delete(name.as_str(), key.cells())?;
@@ -245,13 +265,25 @@ impl<H: KeyHash<Key> + Copy, S: RunStore> Engine<H, S> {
         ensures faults { FaultsHappened (reply_of result ∷ []) (failures_of S.runs self.old)
             (failures_of S.runs self.new) }
         ensures setting { setting_of S.runs self.new ≡ setting_of S.runs self.old }
+        ensures spent { GroupSpends (setting_of S.runs self.old).honest (budget_of self.old)
+            (database self.old) name clauses (reply_of result) (spent_of self.old) (spent_of self.new) }
+        ensures budget { budget_of self.new ≡ budget_of self.old }
     {
         let table = self.catalog.get(name.as_str()).ok_or(Refusal::NoTable)?;
         let others = other_table(&self.catalog, &clauses.exists)?;
         let plan = plan_group(self.alloc, table.schema(), columns_of(others), &clauses)?;
         let header = header_of(self.alloc, clauses.by, clauses.shown.as_slice())?;
         let (hasher, store) = (self.hasher, &mut self.store);
-        let rows = rows_grouped(self.alloc, hasher, table, others, &plan, store, self.budget)?;
+        let (rows, spent) = rows_grouped(
+            self.alloc,
+            hasher,
+            table,
+            others,
+            &plan,
+            store,
+            self.budget,
+        )?;
+        self.spent = both_spent(self.spent, spent);
         Ok(Reply::Rows { header, rows })
     }
 
@@ -268,6 +300,8 @@ impl<H: KeyHash<Key> + Copy, S: RunStore> Engine<H, S> {
         ensures faults { FaultsHappened (reply_of result ∷ []) (failures_of S.runs self.old)
             (failures_of S.runs self.new) }
         ensures setting { setting_of S.runs self.new ≡ setting_of S.runs self.old }
+        ensures spent { spent_of self.new ≡ spent_of self.old }
+        ensures budget { budget_of self.new ≡ budget_of self.old }
     {
         let table = self.catalog.get(name.as_str()).ok_or(Refusal::NoTable)?;
         let plan = plan_distinct(self.alloc, table.schema(), on.as_slice(), tests.as_slice())?;

@@ -1,17 +1,18 @@
 //! Groupings over the run store, by their plans, and the refusals that come of them.
-ghost use Rattle.std.specs.Prelude.{◌≡◌, ◌+◌, ◌≤◌, ◌<◌, All, Ok, Err, IfOk, IfErr, length, option_copied};
+ghost use Rattle.std.specs.Prelude.{◌≡◌, ◌+◌, ◌≤◌, ◌<◌, All, IsTrue, Ok, Err, IfOk, IfErr, length, option_copied};
 ghost use Rattle.gq_query.specs.Selecting.{other_columns};
+ghost use Rattle.gq_query.specs.Work.{IsSpentOn};
 ghost use Rattle.gq_reply.specs.declared.refusal.Refusal.TheVariants.{SumRange};
 ghost use Rattle.gq_reply.specs.Refusals.{unnumbered};
 ghost use Rattle.gq_reply.specs.Outcomes.{some_or};
 ghost use Rattle.gq_plan.specs.Plans.{IsWithin};
 ghost use Rattle.gq_engine.specs.Refusing.{group_refusal};
-ghost use Rattle.gq_engine.specs.Serving.{GroupsOver, faults_in};
-ghost use Rattle.gq_engine.specs.Steps.{keys_planned, other_in, rows_planned};
+ghost use Rattle.gq_engine.specs.Serving.{GroupsOver, faults_in, rows_in};
+ghost use Rattle.gq_engine.specs.Steps.{keys_planned, other_in, rows_about, rows_planned};
 
 use crate::catalog::Catalog;
 use gq_command::Exists;
-use gq_group::Budget;
+use gq_group::{Budget, Spent};
 use gq_plan::{DistinctPlan, GroupPlan};
 use gq_query::{Grouping, Selection, distinct_rows, group_rows};
 use gq_reply::{Refusal, Refused};
@@ -49,7 +50,7 @@ pub fn columns_of<'a, H: KeyHash<Key> + Copy>(table: Option<&'a Table<H>>) -> &'
     }
 }
 
-/// The result rows of a `group`, or the refusal that its grouping comes to.
+/// The result rows of a `group` and what grouping them took, or the refusal that this comes to.
 pub fn rows_grouped<H: KeyHash<Key> + Copy, S: RunStore>(
     alloc: Global,
     hasher: H,
@@ -58,11 +59,15 @@ pub fn rows_grouped<H: KeyHash<Key> + Copy, S: RunStore>(
     plan: &GroupPlan,
     store: &mut S,
     budget: Budget,
-) -> Result<Sequence<Row>, Refused>
+) -> Result<(Sequence<Row>, Spent), Refused>
     requires { IsWithin table.now.heading.columns
         (other_columns (option_copied others)) plan.now }
     ensures rows { GroupsOver (S.runs store.old).honest
-        (some_or SumRange (rows_planned plan.now table.now (option_copied others.entry))) result }
+        (some_or SumRange (rows_planned plan.now table.now (option_copied others.entry)))
+        (rows_in result) }
+    ensures spent { IsTrue (S.runs store.old).honest → IfOk result
+        (λ found. IsSpentOn budget.entries plan.now.by
+        (rows_about plan.now table.now (option_copied others.entry)) found.1) }
     ensures faults { (S.runs store.old).failures + faults_in result ≤ (S.runs store.new).failures }
     ensures honest { (S.runs store.new).honest ≡ (S.runs store.old).honest }
 {
@@ -78,7 +83,7 @@ pub fn rows_grouped<H: KeyHash<Key> + Copy, S: RunStore>(
         having: &plan.having,
     };
     match group_rows(alloc, hasher, &selection, &grouping, store, budget) {
-        Ok(rows) => Ok(rows),
+        Ok(found) => Ok(found),
         Err(why) => Err(refused_by_grouping(why)),
     }
 }

@@ -27,7 +27,8 @@
 //! replacement, each group being the filter of the rows for one distinct key. A read fault leaves
 //! the texts of some first replies, a write fault a front of such texts. The definitions speak of
 //! lists alone (`specs/Steps.antt`, `specs/Runs.antt`); the laws in [`laws`] say that a database is
-//! a finite map, and that only memory refuses what the lists accept.
+//! a finite map, and that only memory refuses what the lists accept. [`Engine::spent`] adds up what the
+//! groupings of `group` commands took (`specs/Spending.antt`).
 #![tactic(auto)]
 
 mod catalog;
@@ -38,6 +39,7 @@ pub mod laws;
 mod payloads;
 mod run;
 mod sending;
+mod spending;
 
 pub use engine::Engine;
 pub use gq_group::{Budget, Spent};

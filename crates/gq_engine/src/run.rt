@@ -53,7 +53,7 @@ pub enum Fault {
 impl<H: KeyHash<Key> + Copy, S: RunStore> Engine<H, S> {
     ghost use Rattle.std.specs.Prelude.{◌≡◌, ◌∷◌, [], IfSome, IfNone};
     ghost use Rattle.gq_command.specs.Items.{IsReady};
-    ghost use Rattle.gq_engine.specs.Engines.{database, failures_of, setting_of, state_of};
+    ghost use Rattle.gq_engine.specs.Engines.{database, failures_of, setting_of, budget_of, state_of};
     ghost use Rattle.gq_engine.specs.Headline.{Ran};
     ghost use Rattle.gq_engine.specs.Serving.{Served};
     ghost use Rattle.gq_reply.specs.Replies.{text, IsLine};
@@ -71,6 +71,7 @@ impl<H: KeyHash<Key> + Copy, S: RunStore> Engine<H, S> {
         ensures ran { Ran (setting_of S.runs self.old) (state_of S.runs self.old) (R.remaining reader)
             (state_of S.runs self.new) (W.contents writer.old) (W.contents writer.new) result }
         ensures setting { setting_of S.runs self.new ≡ setting_of S.runs self.old }
+        ensures budget { budget_of self.new ≡ budget_of self.old }
     {
         let _tables = self.tables();
         let mut script = CommandReader::new(reader);
@@ -98,6 +99,7 @@ impl<H: KeyHash<Key> + Copy, S: RunStore> Engine<H, S> {
         ensures served { Served (setting_of S.runs self.old) (state_of S.runs self.old) item (state_of S.runs self.new)
             (W.contents writer.old) (W.contents writer.new) result }
         ensures setting { setting_of S.runs self.new ≡ setting_of S.runs self.old }
+        ensures budget { budget_of self.new ≡ budget_of self.old }
     {
         let (reply, text) = self.answer(item);
         match text {
@@ -116,6 +118,7 @@ impl<H: KeyHash<Key> + Copy, S: RunStore> Engine<H, S> {
             (failures_of S.runs self.new) }
         ensures kept { KeptUnlessDone result (database self.old) (database self.new) }
         ensures setting { setting_of S.runs self.new ≡ setting_of S.runs self.old }
+        ensures budget { budget_of self.new ≡ budget_of self.old }
     {
         match item {
             Item::Command(command) => return self.execute(command),
@@ -131,6 +134,7 @@ impl<H: KeyHash<Key> + Copy, S: RunStore> Engine<H, S> {
         ensures faults { FaultsHappened (result.0 ∷ []) (failures_of S.runs self.old)
             (failures_of S.runs self.new) }
         ensures setting { setting_of S.runs self.new ≡ setting_of S.runs self.old }
+        ensures budget { budget_of self.new ≡ budget_of self.old }
         ensures text { IfSome result.1 (λ bytes. bytes.items ≡ text result.0) }
         ensures line { IfNone result.1 (IsLine result.0) }
     {

@@ -24,6 +24,8 @@ mod refusal_texts;
 #[cfg(test)]
 mod runs;
 #[cfg(test)]
+mod spent;
+#[cfg(test)]
 mod starved;
 #[cfg(test)]
 mod values;

@@ -2,8 +2,9 @@ use Rattle.std.proofs.Common.{◌∷◌, [], sym, subst}
 use Rattle.std.specs.Prelude.{Ok, Err}
 use Rattle.gq_command.specs.declared.reader.Item.TheVariants as item
 use Rattle.gq_reply.specs.declared.reply.Reply.{Reply}
-use Rattle.gq_engine.specs.Engines.{database, failures_of, setting_of}
+use Rattle.gq_engine.specs.Engines.{budget_of, database, failures_of, setting_of, spent_of}
 use Rattle.gq_engine.specs.Runs.{AnsweredAlike, AnsweredAsLists, FaultsHappened, KeptUnlessDone}
+use Rattle.gq_engine.specs.Spending.{Spends}
 use Rattle.gq_engine.proofs.OrderLemmas.{answered_surely, refused_surely}
 use Rattle.gq_engine.proofs.StoreLemmas.{answered_over, kept_over}
 use Rattle.gq_engine.proofs.engine.Engine.execute.Goals as goal
@@ -38,3 +39,8 @@ pub returns-in-Err-clause-sure : goal.returns-in-Err-clause-sure
 returns-in-Err-clause-sure g c =
     let P : Reply → Type 0 = λ r. AnsweredAsLists (setting_of g.S.RunStore.runs c.args.self.now).limits (database c.args.self.now) (item.Command c.args.command) r (database c.carry_out.new.self) in
     λ none. subst P (sym c.told.ensures) (refused_surely (setting_of g.S.RunStore.runs c.args.self.now).limits (database c.args.self.now) c.args.command c.in-Err.refused (database c.carry_out.new.self) (c.in-Err.ensures.sure none))
+
+pub returns-in-Err-clause-spent : goal.returns-in-Err-clause-spent
+returns-in-Err-clause-spent g c =
+    let P : Reply → Type 0 = λ r. Spends (setting_of g.S.RunStore.runs c.args.self.now).honest (budget_of c.args.self.now) (database c.args.self.now) c.args.command r (spent_of c.args.self.now) (spent_of c.carry_out.new.self) in
+    subst P (sym c.told.ensures) c.in-Err.ensures.spent

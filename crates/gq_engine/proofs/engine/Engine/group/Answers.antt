@@ -1,4 +1,4 @@
-use Rattle.std.proofs.Common.{◌≡◌, ◌⊎◌, ◌∙◌, inr, sym, ap, subst, rules, Option, Some}
+use Rattle.std.proofs.Common.{◌≡◌, ◌⊎◌, ◌∙◌, inr, refl, sym, ap, subst, rules, Option, Some}
 use Rattle.std.specs.Prelude.{Ok, Err, option_copied}
 use Rattle.std.proofs.lemmas.Result.{err_from_is_err_and}
 use Rattle.gq_row.specs.Tables.{PlainTable}
@@ -13,8 +13,8 @@ use Rattle.gq_plan.specs.Plans.{group_plan}
 use Rattle.gq_engine.specs.Databases.{table_at}
 use Rattle.gq_engine.specs.Engines.{database}
 use Rattle.gq_engine.specs.Serving.{Plainly, GroupsOver}
-use Rattle.gq_engine.specs.Steps.{group, other_in, rows_planned}
-use Rattle.gq_engine.proofs.GroupLemmas.{group_alone, group_none, group_planned, plan_comes, refused_over, shown_over}
+use Rattle.gq_engine.specs.Steps.{group, other_in, rows_about, rows_planned}
+use Rattle.gq_engine.proofs.GroupLemmas.{asked_planned, group_alone, group_none, group_planned, plan_comes, refused_over, shown_over}
 use Rattle.gq_engine.proofs.OrderLemmas.{same_tables}
 use Rattle.gq_engine.proofs.StepLemmas.{no_memory, refuses}
 use Rattle.gq_engine.proofs.engine.Engine.group.Goals as goal
@@ -83,3 +83,46 @@ returns-clause-comes g c =
     let steps = group_planned db c.args.name clauses table found other c.in_ok-others.ensures.found plan told in
     let header : c.in_ok-header.header ≡ group_header clauses.by clauses.shown = rw c.as_slice.ensures at c.in_ok-header.ensures in
     shown_over db honest (group db c.args.name clauses) (group_header clauses.by clauses.shown) (rows_planned plan table other) steps c.in_ok-header.header c.in_ok-rows.rows header c.in_ok-rows.ensures.rows
+
+pub returns-in_err-table-clause-spent : goal.returns-in_err-table-clause-spent
+returns-in_err-table-clause-spent g c =
+    let p = err_from_is_err_and c.from_residual.result c.from_residual.ensures.1 in
+    rw p.1 refl
+
+pub returns-in_err-others-clause-spent : goal.returns-in_err-others-clause-spent
+returns-in_err-others-clause-spent g c =
+    let p = err_from_is_err_and c.from_residual-in_err-others.result c.from_residual-in_err-others.ensures.1 in
+    rw p.1 refl
+
+pub returns-in_err-plan-clause-spent : goal.returns-in_err-plan-clause-spent
+returns-in_err-plan-clause-spent g c =
+    let p = err_from_is_err_and c.from_residual-in_err-plan.result c.from_residual-in_err-plan.ensures.1 in
+    rw p.1 refl
+
+pub returns-in_err-header-clause-spent : goal.returns-in_err-header-clause-spent
+returns-in_err-header-clause-spent g c =
+    let p = err_from_is_err_and c.from_residual-in_err-header.result c.from_residual-in_err-header.ensures.1 in
+    rw p.1 refl
+
+pub returns-in_err-rows-clause-spent : goal.returns-in_err-rows-clause-spent
+returns-in_err-rows-clause-spent g c =
+    let p = err_from_is_err_and c.from_residual-in_err-rows.result c.from_residual-in_err-rows.ensures.1 in
+    rw p.1 refl
+
+pub returns-clause-spent : goal.returns-clause-spent
+returns-clause-spent g c =
+    let db = database c.args.self.now in
+    let clauses = c.args.clauses in
+    let table = c.in_ok-table.table.now in
+    let other : Option PlainTable = option_copied c.in_ok-others.others in
+    let plan = c.in_ok-plan.plan in
+    let found : table_at db c.args.name ≡ Some table = search rules in
+    let told : group_plan table.heading.columns (other_columns other) clauses ≡ Ok plan = rw (c.schema.ensures, c.columns_of.ensures) at c.in_ok-plan.ensures.told in
+    record {
+      by = plan.by;
+      rows = rows_about plan table other;
+      asked = asked_planned db c.args.name clauses table found other c.in_ok-others.ensures.found plan told;
+      more = c.in_ok-rows.spent;
+      work = c.in_ok-rows.ensures.spent;
+      sum = c.both_spent-self.ensures;
+    }

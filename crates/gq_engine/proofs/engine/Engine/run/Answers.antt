@@ -6,6 +6,7 @@ use Rattle.gq_engine.proofs.engine.Engine.run.Goals as goal
 pub loop-turn-init : goal.loop-turn-init
 loop-turn-init g c = record {
   setting = refl;
+  budget = refl;
   count = refl;
   few = omega arith;
   going = begin (setting_of g.S.RunStore.runs c.args.self.now) (state_of g.S.RunStore.runs c.args.self.now) (g.R.Read.remaining c.args.reader) c.new-script.result (g.W.Write.contents c.args.writer.now) c.tables-tables.ensures c.new-script.ensures.left c.new-script.ensures.given;
@@ -32,6 +33,7 @@ loop-turn-preserved g c =
     let given = rw c.in-Ok-Some.field-0-is at c.in-Ok-Some.ensures in
     record {
       setting = c.serve.ensures.setting ∙ c.loop-turn.invariant.setting;
+      budget = c.serve.ensures.budget ∙ c.loop-turn.invariant.budget;
       count = c.add.ensures.commands ∙ ap (λ k. k + 1) c.loop-turn.invariant.count;
       few = rw c.add.ensures.refused (few_refused _ _ _ c.loop-turn.invariant.few);
       going = go_on_at (setting_of g.S.RunStore.runs c.args.self.now) (setting_of g.S.RunStore.runs c.loop-turn.self) c.limits.result.now.bounds (state_of g.S.RunStore.runs c.args.self.now) (g.R.Read.remaining c.args.reader) (state_of g.S.RunStore.runs c.loop-turn.self) c.loop-turn.script c.next.new.self
