@@ -11,6 +11,7 @@ use gq_row::{Key, Row};
 use gq_spill::MemStore;
 use std::alloc::{AllocError, Global};
 use std::collections::VecDeque;
+use std::process::Abort;
 use std::test::Fail;
 use sw_probe::{Constant, Fnv1a, KeyHash, LowBits};
 
@@ -26,15 +27,17 @@ fn have_columns(columns: &[usize], rows: &VecDeque<Row>) -> bool
     rows.iter().all(|row| has_columns(columns, row))
 }
 
-/// The counts of the different values of a column, spelled out, in the order of their spellings.
+/// The counts of the different values of a column within a budget of so many entries, spelled out, in
+/// the order of their spellings.
 fn counted<H: KeyHash<Key> + Copy>(
     alloc: Global,
     hasher: H,
     by: &[usize],
     column: usize,
     rows: VecDeque<Row>,
+    entries: u32,
 ) -> Result<Answer, Refusal> {
-    let Some(budget) = Budget::new(2) else {
+    let Some(budget) = Budget::new(entries) else {
         return Err(Refusal::Memory);
     };
     let Ok(mut columns) = Vec::from_slice(alloc, by) else {
@@ -70,58 +73,77 @@ fn counted<H: KeyHash<Key> + Copy>(
     Ok(Answer { spent, groups })
 }
 
-/// What the counts come to under a hasher that spreads keys, one that hashes all alike, and one
-/// between, with a line for each.
+/// What the counts come to under a hasher that spreads keys, one between, and one that hashes all
+/// alike, the last within a budget of one, two and seven, with a line for each.
 fn by_each_hasher(
     alloc: Global,
     by: &[usize],
     column: usize,
     rows: Rows,
 ) -> Result<Vec<String>, AllocError> {
-    let spread = counted(alloc, Fnv1a { seed: 0 }, by, column, rows_of(alloc, rows)?);
-    let alike = counted(alloc, Constant(0), by, column, rows_of(alloc, rows)?);
-    let between = counted(alloc, LowBits(7), by, column, rows_of(alloc, rows)?);
+    let list = rows_of(alloc, rows)?;
+    let spread = counted(alloc, Fnv1a { seed: 0 }, by, column, list, 2);
+    let between = counted(alloc, LowBits(7), by, column, rows_of(alloc, rows)?, 2);
     let mut answers = Vec::new(alloc);
     answers.push(told(alloc, spread)?)?;
-    answers.push(told(alloc, alike)?)?;
     answers.push(told(alloc, between)?)?;
+    for entries in [1, 2, 7] {
+        let list = rows_of(alloc, rows)?;
+        let alike = counted(alloc, Constant(0), by, column, list, entries);
+        answers.push(told(alloc, alike)?)?;
+    }
     Ok(answers)
+}
+
+/// Rows, the columns of their keys, the column whose values are counted, and what comes of it.
+type Case<'a> = (Rows, &'a [usize], usize, &'a str);
+
+const CASES: [Case; 17] = [
+    (Rows::Worked, &[0], 1, "4 rows, 2 groups; 1:1; 2:1"),
+    (Rows::Worked, &[], 1, "4 rows, 1 groups; :2"),
+    (Rows::Worked, &[1], 1, "4 rows, 3 groups; 5:1; 7:1; null:0"),
+    (
+        Rows::Worked,
+        &[1, 0],
+        0,
+        "4 rows, 3 groups; 5,1:1; 7,2:1; null,1:1",
+    ),
+    (Rows::Shared, &[0], 1, "4 rows, 2 groups; 1:1; 2:2"),
+    (Rows::Shared, &[], 1, "4 rows, 1 groups; :2"),
+    (Rows::Shared, &[1], 0, "4 rows, 2 groups; 5:2; 6:1"),
+    (Rows::NullsAlone, &[0], 1, "3 rows, 2 groups; 1:0; 2:0"),
+    (Rows::NullsAlone, &[], 1, "3 rows, 1 groups; :0"),
+    (Rows::NullsAlone, &[1], 0, "3 rows, 1 groups; null:2"),
+    (Rows::None, &[], 1, "0 rows, 1 groups; :0"),
+    (Rows::None, &[0], 1, "0 rows, 0 groups"),
+    (
+        Rows::NullsAndEmptyTexts,
+        &[1],
+        0,
+        "5 rows, 2 groups; '':2; null:3",
+    ),
+    (Rows::NullsAndEmptyTexts, &[], 1, "5 rows, 1 groups; :1"),
+    (Rows::Remainders, &[], 1, "500 rows, 1 groups; :50"),
+    (Rows::Remainders, &[], 0, "500 rows, 1 groups; :500"),
+    (
+        Rows::Tens,
+        &[1],
+        0,
+        "30 rows, 10 groups; 0:3; 1:3; 2:3; 3:3; 4:3; 5:3; 6:3; 7:3; 8:3; 9:3",
+    ),
+];
+
+/// Asserts that each case comes to what is due under each hasher and budget.
+fn assert_cases(rt: &impl Abort, alloc: Global, cases: &[Case]) -> Result<(), Fail> {
+    for (rows, by, column, due) in cases {
+        for found in by_each_hasher(alloc, by, *column, *rows)?.as_slice() {
+            assert_eq!(rt; found.as_str(), *due);
+        }
+    }
+    Ok(())
 }
 
 #[test]
 fn worked_counts(rt: HostRuntime) -> Result<(), Fail> {
-    let alloc = rt.alloc();
-    for (rows, by, column, due) in [
-        (Rows::Worked, &[0usize][..], 1, "4 rows, 2 groups; 1:1; 2:1"),
-        (Rows::Worked, &[], 1, "4 rows, 1 groups; :2"),
-        (Rows::Worked, &[1], 1, "4 rows, 3 groups; 5:1; 7:1; null:0"),
-        (
-            Rows::Worked,
-            &[1, 0],
-            0,
-            "4 rows, 3 groups; 5,1:1; 7,2:1; null,1:1",
-        ),
-        (Rows::Shared, &[0], 1, "4 rows, 2 groups; 1:1; 2:2"),
-        (Rows::Shared, &[], 1, "4 rows, 1 groups; :2"),
-        (Rows::Shared, &[1], 0, "4 rows, 2 groups; 5:2; 6:1"),
-        (Rows::NullsAlone, &[0], 1, "3 rows, 2 groups; 1:0; 2:0"),
-        (Rows::NullsAlone, &[], 1, "3 rows, 1 groups; :0"),
-        (Rows::NullsAlone, &[1], 0, "3 rows, 1 groups; null:2"),
-        (Rows::None, &[], 1, "0 rows, 1 groups; :0"),
-        (Rows::None, &[0], 1, "0 rows, 0 groups"),
-        (
-            Rows::NullsAndEmptyTexts,
-            &[1],
-            0,
-            "5 rows, 2 groups; '':2; null:3",
-        ),
-        (Rows::NullsAndEmptyTexts, &[], 1, "5 rows, 1 groups; :1"),
-        (Rows::Remainders, &[], 1, "500 rows, 1 groups; :50"),
-        (Rows::Remainders, &[], 0, "500 rows, 1 groups; :500"),
-    ] {
-        for found in by_each_hasher(alloc, by, column, rows)?.as_slice() {
-            assert_eq!(rt; found.as_str(), due);
-        }
-    }
-    Ok(())
+    assert_cases(&rt, rt.alloc(), &CASES)
 }

@@ -10,8 +10,9 @@ use gq_group::{Budget, Refusal};
 use gq_row::{Key, Row};
 use gq_select::distinct;
 use gq_spill::MemStore;
-use std::alloc::Global;
+use std::alloc::{AllocError, Global};
 use std::collections::VecDeque;
+use std::process::Abort;
 use std::test::Fail;
 use sw_probe::{Constant, Fnv1a, KeyHash, LowBits};
 
@@ -27,14 +28,16 @@ fn have_columns(columns: &[usize], rows: &VecDeque<Row>) -> bool
     rows.iter().all(|row| has_columns(columns, row))
 }
 
-/// The different keys of some rows, spelled out, in the order of their spellings.
+/// The different keys of some rows within a budget of so many entries, spelled out, in the order of
+/// their spellings.
 fn keys<H: KeyHash<Key> + Copy>(
     alloc: Global,
     hasher: H,
     columns: &[usize],
     rows: VecDeque<Row>,
+    entries: u32,
 ) -> Result<Answer, Refusal> {
-    let Some(budget) = Budget::new(2) else {
+    let Some(budget) = Budget::new(entries) else {
         return Err(Refusal::Memory);
     };
     let Ok(by) = Vec::from_slice(alloc, columns) else {
@@ -66,31 +69,57 @@ fn keys<H: KeyHash<Key> + Copy>(
     Ok(Answer { spent, groups })
 }
 
-#[test]
-fn worked_keys(rt: HostRuntime) -> Result<(), Fail> {
-    let alloc = rt.alloc();
-    for (rows, columns, due) in [
-        (Rows::Worked, &[0usize][..], "4 rows, 2 groups; 1:; 2:"),
-        (Rows::Worked, &[1], "4 rows, 3 groups; 5:; 7:; null:"),
-        (
-            Rows::Worked,
-            &[1, 0],
-            "4 rows, 3 groups; 5,1:; 7,2:; null,1:",
-        ),
-        (
-            Rows::NullsAndEmptyTexts,
-            &[1],
-            "5 rows, 2 groups; '':; null:",
-        ),
-        (Rows::PastTheEdge, &[0], "2 rows, 1 groups; 1:"),
-        (Rows::None, &[0], "0 rows, 0 groups"),
-    ] {
-        let spread = keys(alloc, Fnv1a { seed: 0 }, columns, rows_of(alloc, rows)?);
-        let alike = keys(alloc, Constant(0), columns, rows_of(alloc, rows)?);
-        let between = keys(alloc, LowBits(7), columns, rows_of(alloc, rows)?);
-        assert_eq!(rt; told(alloc, spread)?.as_str(), due);
-        assert_eq!(rt; told(alloc, alike)?.as_str(), due);
-        assert_eq!(rt; told(alloc, between)?.as_str(), due);
+/// What the keys come to under a hasher that spreads keys, one between, and one that hashes all alike,
+/// the last within a budget of one, two and seven, with a line for each.
+fn by_each_hasher(alloc: Global, columns: &[usize], rows: Rows) -> Result<Vec<String>, AllocError> {
+    let spread = keys(alloc, Fnv1a { seed: 0 }, columns, rows_of(alloc, rows)?, 2);
+    let between = keys(alloc, LowBits(7), columns, rows_of(alloc, rows)?, 2);
+    let mut answers = Vec::new(alloc);
+    answers.push(told(alloc, spread)?)?;
+    answers.push(told(alloc, between)?)?;
+    for entries in [1, 2, 7] {
+        let alike = keys(alloc, Constant(0), columns, rows_of(alloc, rows)?, entries);
+        answers.push(told(alloc, alike)?)?;
+    }
+    Ok(answers)
+}
+
+/// Rows, the columns of their keys, and what comes of it.
+type Case<'a> = (Rows, &'a [usize], &'a str);
+
+const CASES: [Case; 7] = [
+    (Rows::Worked, &[0], "4 rows, 2 groups; 1:; 2:"),
+    (Rows::Worked, &[1], "4 rows, 3 groups; 5:; 7:; null:"),
+    (
+        Rows::Worked,
+        &[1, 0],
+        "4 rows, 3 groups; 5,1:; 7,2:; null,1:",
+    ),
+    (
+        Rows::NullsAndEmptyTexts,
+        &[1],
+        "5 rows, 2 groups; '':; null:",
+    ),
+    (Rows::PastTheEdge, &[0], "2 rows, 1 groups; 1:"),
+    (Rows::None, &[0], "0 rows, 0 groups"),
+    (
+        Rows::Tens,
+        &[1],
+        "30 rows, 10 groups; 0:; 1:; 2:; 3:; 4:; 5:; 6:; 7:; 8:; 9:",
+    ),
+];
+
+/// Asserts that each case comes to what is due under each hasher and budget.
+fn assert_cases(rt: &impl Abort, alloc: Global, cases: &[Case]) -> Result<(), Fail> {
+    for (rows, columns, due) in cases {
+        for found in by_each_hasher(alloc, columns, *rows)?.as_slice() {
+            assert_eq!(rt; found.as_str(), *due);
+        }
     }
     Ok(())
+}
+
+#[test]
+fn worked_keys(rt: HostRuntime) -> Result<(), Fail> {
+    assert_cases(&rt, rt.alloc(), &CASES)
 }

@@ -11,6 +11,7 @@ use gq_row::{Key, Row, Text, Value};
 use gq_spill::{MemStore, RunStore};
 use std::alloc::{AllocError, Global};
 use std::collections::VecDeque;
+use std::process::Abort;
 use std::test::Fail;
 use sw_probe::{Constant, Fnv1a, KeyHash, LowBits};
 
@@ -54,18 +55,19 @@ fn grouped<H: KeyHash<Key> + Copy>(
     rows: VecDeque<Row>,
 ) -> Result<Answer, Refusal> {
     let mut store = MemStore::new(alloc);
-    grouped_over(alloc, hasher, spec, rows, &mut store)
+    grouped_over(alloc, hasher, spec, rows, &mut store, 2)
 }
 
-/// The same over a store.
+/// The same over a store, within a budget of so many entries.
 pub(crate) fn grouped_over<H: KeyHash<Key> + Copy, S: RunStore>(
     alloc: Global,
     hasher: H,
     spec: &GroupSpec,
     rows: VecDeque<Row>,
     store: &mut S,
+    entries: u32,
 ) -> Result<Answer, Refusal> {
-    let Some(budget) = Budget::new(2) else {
+    let Some(budget) = Budget::new(entries) else {
         return Err(Refusal::Memory);
     };
     if rows.len() > 1_000_000 || !fit(spec, &rows) || !are_even(&rows) {
@@ -113,6 +115,7 @@ pub(crate) enum Rows {
     PastTheEdge,
     AtTheEdge,
     Remainders,
+    Tens,
 }
 
 pub(crate) fn row(alloc: Global, values: &[Option<i64>]) -> Result<Row, AllocError> {
@@ -132,6 +135,15 @@ fn named(alloc: Global, n: i64, name: Option<&str>) -> Result<Row, AllocError> {
         None => Value::Null,
     };
     Ok(Row::new(vec![in alloc; Value::Int(n), name]?))
+}
+
+/// The numbers below one, each with its remainder by another.
+fn remainders(alloc: Global, end: i64, by: i64) -> Result<VecDeque<Row>, AllocError> {
+    let mut list = VecDeque::new(alloc);
+    for n in 0..end {
+        list.push_back(row(alloc, &[Some(n), n.checked_rem(by)])?)?;
+    }
+    Ok(list)
 }
 
 pub(crate) fn rows_of(alloc: Global, rows: Rows) -> Result<VecDeque<Row>, AllocError> {
@@ -178,11 +190,8 @@ pub(crate) fn rows_of(alloc: Global, rows: Rows) -> Result<VecDeque<Row>, AllocE
             list.push_back(row(alloc, &[Some(1), Some(1)])?)?;
             list.push_back(row(alloc, &[Some(1), Some(-1)])?)?;
         }
-        Rows::Remainders => {
-            for n in 0..500i64 {
-                list.push_back(row(alloc, &[Some(n), Some(n % 50)])?)?;
-            }
-        }
+        Rows::Remainders => return remainders(alloc, 500, 50),
+        Rows::Tens => return remainders(alloc, 30, 10),
     }
     Ok(list)
 }
@@ -208,89 +217,108 @@ fn by_each_hasher(alloc: Global, spec: &GroupSpec, rows: Rows) -> Result<Vec<Str
     Ok(answers)
 }
 
-#[test]
-fn worked_groups(rt: HostRuntime) -> Result<(), Fail> {
-    let alloc = rt.alloc();
-    let all = [
-        (AggKind::CountAll, 99),
-        (AggKind::Count, 1),
-        (AggKind::Sum, 1),
-        (AggKind::Min, 1),
-        (AggKind::Max, 0),
-    ];
-    let count = [(AggKind::Count, 1)];
-    let counts_and_sum = [(AggKind::CountAll, 0), (AggKind::Sum, 1)];
-    for (rows, by, aggs, due) in [
-        (
-            Rows::Worked,
-            &[0usize][..],
-            &count[..],
-            "4 rows, 2 groups; 1:2; 2:1",
-        ),
-        (
-            Rows::Worked,
-            &[0],
-            &all,
-            "4 rows, 2 groups; 1:3,2,10,5,1; 2:1,1,7,7,2",
-        ),
-        (Rows::Worked, &[], &all, "4 rows, 1 groups; :4,3,17,5,2"),
-        (
-            Rows::Worked,
-            &[1, 0],
-            &[],
-            "4 rows, 3 groups; 5,1:; 7,2:; null,1:",
-        ),
-        (
-            Rows::None,
-            &[],
-            &counts_and_sum,
-            "0 rows, 1 groups; :0,null",
-        ),
-        (Rows::None, &[0], &counts_and_sum, "0 rows, 0 groups"),
-        (
-            Rows::NullsAndEmptyTexts,
-            &[1],
-            &[(AggKind::CountAll, 0)],
-            "5 rows, 2 groups; '':2; null:3",
-        ),
-        (
-            Rows::PastTheEdge,
-            &[0],
-            &counts_and_sum,
-            "a sum is out of range",
-        ),
-        (
-            Rows::AtTheEdge,
-            &[0],
-            &counts_and_sum,
-            "3 rows, 1 groups; 1:3,9223372036854775807",
-        ),
-    ] {
+/// Rows, the columns that they are grouped by, what is asked of each group, and what comes of it.
+type Case<'a> = (Rows, &'a [usize], &'a [(AggKind, usize)], &'a str);
+
+const COUNT: &[(AggKind, usize)] = &[(AggKind::Count, 1)];
+
+const COUNT_AND_SUM: &[(AggKind, usize)] = &[(AggKind::CountAll, 0), (AggKind::Sum, 1)];
+
+const ALL: &[(AggKind, usize)] = &[
+    (AggKind::CountAll, 99),
+    (AggKind::Count, 1),
+    (AggKind::Sum, 1),
+    (AggKind::Min, 1),
+    (AggKind::Max, 0),
+];
+
+const CASES: [Case; 9] = [
+    (Rows::Worked, &[0], COUNT, "4 rows, 2 groups; 1:2; 2:1"),
+    (
+        Rows::Worked,
+        &[0],
+        ALL,
+        "4 rows, 2 groups; 1:3,2,10,5,1; 2:1,1,7,7,2",
+    ),
+    (Rows::Worked, &[], ALL, "4 rows, 1 groups; :4,3,17,5,2"),
+    (
+        Rows::Worked,
+        &[1, 0],
+        &[],
+        "4 rows, 3 groups; 5,1:; 7,2:; null,1:",
+    ),
+    (Rows::None, &[], COUNT_AND_SUM, "0 rows, 1 groups; :0,null"),
+    (Rows::None, &[0], COUNT_AND_SUM, "0 rows, 0 groups"),
+    (
+        Rows::NullsAndEmptyTexts,
+        &[1],
+        &[(AggKind::CountAll, 0)],
+        "5 rows, 2 groups; '':2; null:3",
+    ),
+    (
+        Rows::PastTheEdge,
+        &[0],
+        COUNT_AND_SUM,
+        "a sum is out of range",
+    ),
+    (
+        Rows::AtTheEdge,
+        &[0],
+        COUNT_AND_SUM,
+        "3 rows, 1 groups; 1:3,9223372036854775807",
+    ),
+];
+
+/// Asserts that each case comes to what is due under each hasher.
+fn assert_cases(rt: &impl Abort, alloc: Global, cases: &[Case]) -> Result<(), Fail> {
+    for (rows, by, aggs, due) in cases {
         let spec = spec(alloc, by, aggs)?;
-        for found in by_each_hasher(alloc, &spec, rows)?.as_slice() {
-            assert_eq!(rt; found.as_str(), due);
+        for found in by_each_hasher(alloc, &spec, *rows)?.as_slice() {
+            assert_eq!(rt; found.as_str(), *due);
         }
     }
     Ok(())
 }
 
 #[test]
-fn five_hundred_rows_in_fifty_groups(rt: HostRuntime) -> Result<(), Fail> {
-    let alloc = rt.alloc();
-    let spec = spec(alloc, &[1], &[(AggKind::CountAll, 0), (AggKind::Sum, 0)])?;
-    let mut due = Vec::new(alloc);
+fn worked_groups(rt: HostRuntime) -> Result<(), Fail> {
+    assert_cases(&rt, rt.alloc(), &CASES)
+}
+
+/// The numbers 0 to 49, each with how many of the numbers below 500 have it as their remainder by 50,
+/// and with their sum.
+fn fifty(alloc: Global) -> Result<Vec<String>, AllocError> {
+    let mut groups = Vec::new(alloc);
     for g in 0..50u8 {
         let sum = 10 * i64::from(g) + 2250;
-        due.push(format!(in alloc; "{g}:10,{sum}")?)?;
+        groups.push(format!(in alloc; "{g}:10,{sum}")?)?;
     }
-    due.sort()?;
+    groups.sort()?;
+    Ok(groups)
+}
+
+/// What the counts and sums of the remainders come to.
+pub(crate) fn fifty_told(alloc: Global) -> Result<String, AllocError> {
     let mut text = String::from_str(alloc, "500 rows, 50 groups")?;
-    for group in due.as_slice() {
+    for group in fifty(alloc)?.as_slice() {
         text.push_str("; ")?;
         text.push_str(group.as_str())?;
     }
+    Ok(text)
+}
+
+/// Asks for the count and the sum of the numbers of each remainder.
+pub(crate) fn counts_and_sums(alloc: Global) -> Result<GroupSpec, AllocError> {
+    spec(alloc, &[1], &[(AggKind::CountAll, 0), (AggKind::Sum, 0)])
+}
+
+#[test]
+fn five_hundred_rows_in_fifty_groups(rt: HostRuntime) -> Result<(), Fail> {
+    let alloc = rt.alloc();
+    let spec = counts_and_sums(alloc)?;
+    let due = fifty_told(alloc)?;
     for found in by_each_hasher(alloc, &spec, Rows::Remainders)?.as_slice() {
-        assert_eq!(rt; found.as_str(), text.as_str());
+        assert_eq!(rt; found.as_str(), due.as_str());
     }
     Ok(())
 }

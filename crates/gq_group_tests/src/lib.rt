@@ -1,12 +1,15 @@
 //! Tests of running aggregates, of groups, and of conditions, matches and different keys: worked
 //! examples whose answers were written by hand, under hashers that spread keys and hashers that do
-//! not, and groups over stores in which one call goes wrong.
+//! not; how many rows and runs groups past the budget take; and groups over stores in which one call
+//! goes wrong.
 #![tactic(auto)]
 
 #[cfg(test)]
 mod aggregates;
 #[cfg(test)]
 mod conditions;
+#[cfg(test)]
+mod counting;
 #[cfg(test)]
 mod distinct;
 #[cfg(test)]
@@ -21,5 +24,7 @@ mod list_sink;
 mod list_source;
 #[cfg(test)]
 mod spelled;
+#[cfg(test)]
+mod spilled;
 #[cfg(test)]
 mod troubled;

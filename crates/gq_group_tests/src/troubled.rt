@@ -1,19 +1,26 @@
 //! Groups over stores in which one call goes wrong.
-use crate::groups::{Rows, grouped_over, rows_of, spec, told};
+use crate::counting::Counting;
+use crate::groups::{Rows, counts_and_sums, fifty_told, grouped_over, rows_of, spec, told};
 use gq_agg::AggKind;
+use gq_row::Key;
 use gq_spill::{FuseStore, MemStore, Trouble};
 use std::alloc::{AllocError, Global};
+use std::process::Abort;
 use std::test::Fail;
-use sw_probe::Fnv1a;
+use sw_probe::{Constant, Fnv1a, KeyHash};
 
-// What comes of the groups of some rows over a store with some trouble.
+const FAILED: &str = "the store failed";
+
+const DAMAGED: &str = "a run is damaged";
+
+// What comes of counting some rows over a store with some trouble.
 fn over(alloc: Global, by: &[usize], rows: Rows, trouble: Trouble) -> Result<String, AllocError> {
     let spec = spec(alloc, by, &[(AggKind::CountAll, 0)])?;
     let mut store = FuseStore::new(MemStore::new(alloc), trouble);
     let rows = rows_of(alloc, rows)?;
     told(
         alloc,
-        grouped_over(alloc, Fnv1a { seed: 0 }, &spec, rows, &mut store),
+        grouped_over(alloc, Fnv1a { seed: 0 }, &spec, rows, &mut store, 2),
     )
 }
 
@@ -26,7 +33,7 @@ fn each_call_of_the_store_fails_in_turn(rt: HostRuntime) -> Result<(), Fail> {
         if found.as_str() == "4 rows, 3 groups; 5,1:2; 7,2:1; null,1:1" {
             break;
         }
-        assert_eq!(rt; found.as_str(), "the store failed");
+        assert_eq!(rt; found.as_str(), FAILED);
         last = call;
     }
     // A run is made, written to and read.
@@ -34,22 +41,92 @@ fn each_call_of_the_store_fails_in_turn(rt: HostRuntime) -> Result<(), Fail> {
     Ok(())
 }
 
-#[test]
-fn a_call_of_many_fails(rt: HostRuntime) -> Result<(), Fail> {
-    let alloc = rt.alloc();
-    for call in [1, 2, 10, 100, 999] {
-        let found = over(alloc, &[1], Rows::Remainders, Trouble::Fail(call))?;
-        assert_eq!(rt; found.as_str(), "the store failed");
+/// What comes of grouping 500 rows within a budget of ten over a store with some trouble, and how
+/// many runs are left.
+fn remainders_over<H: KeyHash<Key> + Copy>(
+    alloc: Global,
+    hasher: H,
+    trouble: Trouble,
+) -> Result<(String, u64), AllocError> {
+    let spec = counts_and_sums(alloc)?;
+    let rows = rows_of(alloc, Rows::Remainders)?;
+    let mut store = Counting::new(alloc, FuseStore::new(MemStore::new(alloc), trouble));
+    let found = grouped_over(alloc, hasher, &spec, rows, &mut store, 10);
+    Ok((told(alloc, found)?, store.live))
+}
+
+/// Asserts that no groups come where a call from the first to the last fails, one in so many of them,
+/// and that no run is left.
+fn assert_fails<H: KeyHash<Key> + Copy>(
+    rt: &impl Abort,
+    alloc: Global,
+    hasher: H,
+    first: u64,
+    last: u64,
+    step: usize,
+) -> Result<(), Fail> {
+    assert!(rt; 0 < step);
+    for call in (first..=last).step_by(step) {
+        let (found, live) = remainders_over(alloc, hasher, Trouble::Fail(call))?;
+        assert_eq!(rt; found.as_str(), FAILED, "call {call}");
+        assert_eq!(rt; live, 0, "call {call}");
     }
     Ok(())
 }
 
+/// Asserts that the groups come where no call before this one fails, and that no run is left.
+fn assert_ends_before<H: KeyHash<Key> + Copy>(
+    rt: &impl Abort,
+    alloc: Global,
+    hasher: H,
+    trouble: Trouble,
+) -> Result<(), Fail> {
+    let (found, live) = remainders_over(alloc, hasher, trouble)?;
+    assert_eq!(rt; found.as_str(), fifty_told(alloc)?.as_str());
+    assert_eq!(rt; live, 0);
+    Ok(())
+}
+
+/// The first reading makes a run and writes the ten rows of each of forty keys there, and the second
+/// reads it at once.
+#[test]
+fn each_call_of_a_reading_fails(rt: HostRuntime) -> Result<(), Fail> {
+    let alloc = rt.alloc();
+    assert_fails(&rt, alloc, Constant(0), 1, 1 + 400 + 1, 1)?;
+    assert_fails(&rt, alloc, Fnv1a { seed: 0 }, 1, 1 + 400 + 1, 5)
+}
+
+/// Four readings write the rows of forty, thirty, twenty and ten keys, and each of the four runs is made,
+/// and read at once.
+#[test]
+fn calls_of_later_readings_fail(rt: HostRuntime) -> Result<(), Fail> {
+    let alloc = rt.alloc();
+    let last = 4 + 1_000 + 4;
+    assert_fails(&rt, alloc, Constant(0), 403, last, 11)?;
+    assert_fails(&rt, alloc, Constant(0), last, last, 1)?;
+    assert_ends_before(&rt, alloc, Constant(0), Trouble::Fail(last + 1))
+}
+
+/// Asserts that no groups come where a read is cut short, and that no run is left.
+fn assert_damaged<H: KeyHash<Key> + Copy>(
+    rt: &impl Abort,
+    alloc: Global,
+    hasher: H,
+    reads: &[u64],
+) -> Result<(), Fail> {
+    for read in reads {
+        let (found, live) = remainders_over(alloc, hasher, Trouble::Short(*read))?;
+        assert_eq!(rt; found.as_str(), DAMAGED, "read {read}");
+        assert_eq!(rt; live, 0, "read {read}");
+    }
+    Ok(())
+}
+
+/// Under one hash for all there are four reads, and a fifth is never cut short.
 #[test]
 fn a_read_cut_short_is_no_groups(rt: HostRuntime) -> Result<(), Fail> {
     let alloc = rt.alloc();
-    for read in [1, 2, 5, 9] {
-        let found = over(alloc, &[1], Rows::Remainders, Trouble::Short(read))?;
-        assert_eq!(rt; found.as_str(), "a run is damaged");
-    }
-    Ok(())
+    assert_damaged(&rt, alloc, Constant(0), &[1, 2, 3, 4])?;
+    assert_damaged(&rt, alloc, Fnv1a { seed: 0 }, &[1, 2])?;
+    assert_ends_before(&rt, alloc, Constant(0), Trouble::Short(5))
 }
