@@ -4,6 +4,8 @@ use Rattle.std.specs.Char.{digit_value}
 use Rattle.std.specs.List.{list_all}
 use Rattle.std.specs.Str.Parse.{without_leading_plus}
 use Rattle.std.specs.Prelude.{ℤ, pos}
+use Rattle.clap.specs.Faults.{turn_fault}
+use Rattle.clap.specs.Walk.{Row, Walk, idle, nothing_held, option, walk_from, walked}
 use Rattle.clap.specs.Words.{NarrowsTo, Text}
 use Rattle.clap.specs.declared.builder.value_parser.ValueParser.{ValueParser}
 use Rattle.clap.specs.declared.builder.value_parser.ValueParser.TheVariants.{Unsigned}
@@ -11,8 +13,9 @@ use Rattle.clap.specs.ValueTests.{is_numeral, is_unsigned_in}
 use Rattle.clap.specs.declared.error.kind.ErrorKind.TheVariants.{ArgumentConflict, InvalidValue, UnknownArgument, ValueValidation}
 use Rattle.clap.proofs.OnLiterals.{clap_on_literals}
 use Rattle.clap.proofs.WalkLemmas.{both}
-use Rattle.gq_shell.specs.CommandLine.{Names, BudgetsWorked, TakesOneBudget, seed_of, faults_of, has_dash, is_budget, is_seed, number_of, script_of, budget_of}
+use Rattle.gq_shell.specs.CommandLine.{BudgetsWorked, DEFAULTS, Names, TakesOneBudget, asked_of, faults_of, has_dash, is_budget, is_seed, number_of}
 use Rattle.gq_shell.proofs.LineLemmas.{no-dash}
+use Rattle.gq_shell.proofs.StepLemmas.{RULES, SHAPE, begin, faults-from, holding, next-word, path-turn, path-waits, path-walked, row}
 use Rattle.gq_shell.proofs.SeedLemmas.{same-test as seed-test}
 
 -- clap's parser of numbers, narrowed to budgets
@@ -53,6 +56,68 @@ same-test text = ap (λ b. is_numeral (without_leading_plus text) && b) (by-size
         let small : nat_lt (number_of text) (2 ^ 64) ≡ true = lt-ltb (number_of text) (2 ^ 64) (omega arith) in
         absurd (true≢false (sym small ∙ e))
 
+-- ---- word by word
+
+passes : (text : Text) → is_budget text ≡ true → is_unsigned_in 1 1048576 text ≡ true
+passes text is = same-test text ∙ is
+
+-- the option waits for its value; and its value waits to be put into its row
+abbrev waits : List Row → ℕ → Walk
+waits rows position = holding rows (Some (codes "budget", [])) (option (codes "budget")) position
+
+abbrev has-value : List Row → Text → ℕ → Walk
+has-value rows budget position = holding rows (Some (codes "budget", budget ∷ [])) idle position
+
+option-turn : turn_fault SHAPE [] (walk_from nothing_held) (codes "--budget") ≡ []
+unfolding clap_on_literals
+option-turn = refl
+
+option-walked : walked RULES [] (walk_from nothing_held) (codes "--budget") ≡ waits [] 1
+unfolding clap_on_literals
+option-walked = refl
+
+late-option-turn : (path : Text) → turn_fault SHAPE [] (path-waits [] path) (codes "--budget") ≡ []
+unfolding clap_on_literals
+late-option-turn path = refl
+
+late-option-walked : (path : Text) → walked RULES [] (path-waits [] path) (codes "--budget") ≡ waits (row (codes "SCRIPT") path ∷ []) 2
+unfolding clap_on_literals
+late-option-walked path = refl
+
+value-turn : (rows : List Row) (position : ℕ) (c : ℕ) (cs : Text) → (c == 45) ≡ false → turn_fault SHAPE [] (waits rows position) (c ∷ cs) ≡ []
+unfolding clap_on_literals
+value-turn rows position c cs plain = rw plain (rw (no-dash c cs plain) refl)
+
+value-walked : (rows : List Row) (position : ℕ) (c : ℕ) (cs : Text) → (c == 45) ≡ false → walked RULES [] (waits rows position) (c ∷ cs) ≡ has-value rows (c ∷ cs) position
+unfolding clap_on_literals
+value-walked rows position c cs plain = rw plain (rw (no-dash c cs plain) refl)
+
+late-path-turn : (budget path : Text) → is_budget budget ≡ true → has_dash path ≡ false → turn_fault SHAPE [] (has-value [] budget 1) path ≡ []
+unfolding clap_on_literals
+late-path-turn budget [] is plain = rw (passes budget is) refl
+late-path-turn budget (c ∷ cs) is plain = rw plain (rw (no-dash c cs plain) (rw (passes budget is) refl))
+
+late-path-walked : (budget path : Text) → has_dash path ≡ false → walked RULES [] (has-value [] budget 1) path ≡ path-waits (row (codes "budget") budget ∷ []) path
+unfolding clap_on_literals
+late-path-walked budget [] plain = refl
+late-path-walked budget (c ∷ cs) plain = rw plain (rw (no-dash c cs plain) refl)
+
+pub joined-turn : (budget : Text) → is_budget budget ≡ true → turn_fault SHAPE [] (walk_from nothing_held) (codes "--budget=" ++ budget) ≡ []
+unfolding clap_on_literals
+joined-turn budget is = rw (passes budget is) refl
+
+pub joined-walked : (budget : Text) → walked RULES [] (walk_from nothing_held) (codes "--budget=" ++ budget) ≡ holding (row (codes "budget") budget ∷ []) None idle 1
+unfolding clap_on_literals
+joined-walked budget = refl
+
+end-on-path : (budget path : Text) → faults-from (path-waits (row (codes "budget") budget ∷ []) path) [] ≡ []
+unfolding clap_on_literals
+end-on-path budget path = refl
+
+end-on-value : (path budget : Text) → is_budget budget ≡ true → faults-from (has-value (row (codes "SCRIPT") path ∷ []) budget 2) [] ≡ []
+unfolding clap_on_literals
+end-on-value path budget is = rw (passes budget is) refl
+
 -- ---- alone
 
 alone-accepted : (name budget : Text) → is_budget budget ≡ true → has_dash budget ≡ false → faults_of (name ∷ codes "--budget" ∷ budget ∷ []) ≡ []
@@ -60,172 +125,109 @@ unfolding clap_on_literals
 alone-accepted name [] is plain = absurd (true≢false (sym is))
 alone-accepted name (c ∷ cs) is plain = rw plain (rw (no-dash c cs plain) (rw (same-test (c ∷ cs)) (rw is refl)))
 
-alone-script : (name budget : Text) → has_dash budget ≡ false → script_of (name ∷ codes "--budget" ∷ budget ∷ []) ≡ None
+alone-asked : (name budget : Text) → has_dash budget ≡ false → asked_of (name ∷ codes "--budget" ∷ budget ∷ []) ≡ record DEFAULTS { budget = number_of budget }
 unfolding clap_on_literals
-alone-script name [] plain = refl
-alone-script name (c ∷ cs) plain = rw plain (rw (no-dash c cs plain) refl)
+alone-asked name [] plain = refl
+alone-asked name (c ∷ cs) plain = rw plain (rw (no-dash c cs plain) refl)
 
-alone-other : (name budget : Text) → has_dash budget ≡ false → seed_of (name ∷ codes "--budget" ∷ budget ∷ []) ≡ 0
-unfolding clap_on_literals
-alone-other name [] plain = refl
-alone-other name (c ∷ cs) plain = rw plain (rw (no-dash c cs plain) refl)
-
-alone-budget : (name budget : Text) → has_dash budget ≡ false → budget_of (name ∷ codes "--budget" ∷ budget ∷ []) ≡ number_of budget
-unfolding clap_on_literals
-alone-budget name [] plain = refl
-alone-budget name (c ∷ cs) plain = rw plain (rw (no-dash c cs plain) refl)
-
-budget-alone : (name budget : Text) → is_budget budget ≡ true → Names (name ∷ codes "--budget" ∷ budget ∷ []) None 0 (number_of budget)
+budget-alone : (name budget : Text) → is_budget budget ≡ true → Names (name ∷ codes "--budget" ∷ budget ∷ []) (record DEFAULTS { budget = number_of budget })
 budget-alone name budget is =
     let plain = budget-plain budget is in
-    record {
-      accepted = alone-accepted name budget is plain;
-      script_is = alone-script name budget plain;
-      budget_is = alone-budget name budget plain;
-      seed_is = alone-other name budget plain;
-    }
+    record { accepted = alone-accepted name budget is plain; asked_is = alone-asked name budget plain }
 
 -- ---- before a path
 
 before-accepted : (name budget path : Text) → is_budget budget ≡ true → has_dash budget ≡ false → has_dash path ≡ false → faults_of (name ∷ codes "--budget" ∷ budget ∷ path ∷ []) ≡ []
-unfolding clap_on_literals
 before-accepted name [] path is plain p_plain = absurd (true≢false (sym is))
-before-accepted name (c ∷ cs) [] is plain p_plain = rw plain (rw (no-dash c cs plain) (rw (same-test (c ∷ cs)) (rw is refl)))
-before-accepted name (c ∷ cs) (p ∷ ps) is plain p_plain =
-    rw plain (rw (no-dash c cs plain) (rw p_plain (rw (no-dash p ps p_plain) (rw (same-test (c ∷ cs)) (rw is refl)))))
+before-accepted name (c ∷ cs) path is plain p_plain =
+    begin name (codes "--budget" ∷ (c ∷ cs) ∷ path ∷ [])
+    ∙ next-word (walk_from nothing_held) (waits [] 1) (codes "--budget") ((c ∷ cs) ∷ path ∷ []) option-turn option-walked
+    ∙ next-word (waits [] 1) (has-value [] (c ∷ cs) 1) (c ∷ cs) (path ∷ []) (value-turn [] 1 c cs plain) (value-walked [] 1 c cs plain)
+    ∙ next-word (has-value [] (c ∷ cs) 1) (path-waits (row (codes "budget") (c ∷ cs) ∷ []) path) path [] (late-path-turn (c ∷ cs) path is p_plain) (late-path-walked (c ∷ cs) path p_plain)
+    ∙ end-on-path (c ∷ cs) path
 
-before-script : (name budget path : Text) → has_dash budget ≡ false → has_dash path ≡ false → script_of (name ∷ codes "--budget" ∷ budget ∷ path ∷ []) ≡ Some path
+before-asked : (name budget path : Text) → has_dash budget ≡ false → has_dash path ≡ false → asked_of (name ∷ codes "--budget" ∷ budget ∷ path ∷ []) ≡ record DEFAULTS { script = Some path; budget = number_of budget }
 unfolding clap_on_literals
-before-script name [] [] plain p_plain = refl
-before-script name [] (p ∷ ps) plain p_plain = rw p_plain (rw (no-dash p ps p_plain) refl)
-before-script name (c ∷ cs) [] plain p_plain = rw plain (rw (no-dash c cs plain) refl)
-before-script name (c ∷ cs) (p ∷ ps) plain p_plain = rw plain (rw (no-dash c cs plain) (rw p_plain (rw (no-dash p ps p_plain) refl)))
+before-asked name [] [] plain p_plain = refl
+before-asked name [] (p ∷ ps) plain p_plain = rw p_plain (rw (no-dash p ps p_plain) refl)
+before-asked name (c ∷ cs) [] plain p_plain = rw plain (rw (no-dash c cs plain) refl)
+before-asked name (c ∷ cs) (p ∷ ps) plain p_plain = rw plain (rw (no-dash c cs plain) (rw p_plain (rw (no-dash p ps p_plain) refl)))
 
-before-other : (name budget path : Text) → has_dash budget ≡ false → has_dash path ≡ false → seed_of (name ∷ codes "--budget" ∷ budget ∷ path ∷ []) ≡ 0
-unfolding clap_on_literals
-before-other name [] [] plain p_plain = refl
-before-other name [] (p ∷ ps) plain p_plain = rw p_plain (rw (no-dash p ps p_plain) refl)
-before-other name (c ∷ cs) [] plain p_plain = rw plain (rw (no-dash c cs plain) refl)
-before-other name (c ∷ cs) (p ∷ ps) plain p_plain = rw plain (rw (no-dash c cs plain) (rw p_plain (rw (no-dash p ps p_plain) refl)))
-
-before-budget : (name budget path : Text) → has_dash budget ≡ false → has_dash path ≡ false → budget_of (name ∷ codes "--budget" ∷ budget ∷ path ∷ []) ≡ number_of budget
-unfolding clap_on_literals
-before-budget name [] [] plain p_plain = refl
-before-budget name [] (p ∷ ps) plain p_plain = rw p_plain (rw (no-dash p ps p_plain) refl)
-before-budget name (c ∷ cs) [] plain p_plain = rw plain (rw (no-dash c cs plain) refl)
-before-budget name (c ∷ cs) (p ∷ ps) plain p_plain = rw plain (rw (no-dash c cs plain) (rw p_plain (rw (no-dash p ps p_plain) refl)))
-
-budget-before : (name budget path : Text) → is_budget budget ≡ true → has_dash path ≡ false → Names (name ∷ codes "--budget" ∷ budget ∷ path ∷ []) (Some path) 0 (number_of budget)
+budget-before : (name budget path : Text) → is_budget budget ≡ true → has_dash path ≡ false → Names (name ∷ codes "--budget" ∷ budget ∷ path ∷ []) (record DEFAULTS { script = Some path; budget = number_of budget })
 budget-before name budget path is p_plain =
     let plain = budget-plain budget is in
-    record {
-      accepted = before-accepted name budget path is plain p_plain;
-      script_is = before-script name budget path plain p_plain;
-      budget_is = before-budget name budget path plain p_plain;
-      seed_is = before-other name budget path plain p_plain;
-    }
+    record { accepted = before-accepted name budget path is plain p_plain; asked_is = before-asked name budget path plain p_plain }
 
 -- ---- behind a path
 
 behind-accepted : (name budget path : Text) → is_budget budget ≡ true → has_dash budget ≡ false → has_dash path ≡ false → faults_of (name ∷ path ∷ codes "--budget" ∷ budget ∷ []) ≡ []
-unfolding clap_on_literals
 behind-accepted name [] path is plain p_plain = absurd (true≢false (sym is))
-behind-accepted name (c ∷ cs) [] is plain p_plain = rw plain (rw (no-dash c cs plain) (rw (same-test (c ∷ cs)) (rw is refl)))
-behind-accepted name (c ∷ cs) (p ∷ ps) is plain p_plain =
-    rw p_plain (rw (no-dash p ps p_plain) (rw plain (rw (no-dash c cs plain) (rw (same-test (c ∷ cs)) (rw is refl)))))
+behind-accepted name (c ∷ cs) path is plain p_plain =
+    let rows = row (codes "SCRIPT") path ∷ [] in
+    begin name (path ∷ codes "--budget" ∷ (c ∷ cs) ∷ [])
+    ∙ next-word (walk_from nothing_held) (path-waits [] path) path (codes "--budget" ∷ (c ∷ cs) ∷ []) (path-turn [] path p_plain) (path-walked [] path p_plain)
+    ∙ next-word (path-waits [] path) (waits rows 2) (codes "--budget") ((c ∷ cs) ∷ []) (late-option-turn path) (late-option-walked path)
+    ∙ next-word (waits rows 2) (has-value rows (c ∷ cs) 2) (c ∷ cs) [] (value-turn rows 2 c cs plain) (value-walked rows 2 c cs plain)
+    ∙ end-on-value path (c ∷ cs) is
 
-behind-script : (name budget path : Text) → has_dash budget ≡ false → has_dash path ≡ false → script_of (name ∷ path ∷ codes "--budget" ∷ budget ∷ []) ≡ Some path
+behind-asked : (name budget path : Text) → has_dash budget ≡ false → has_dash path ≡ false → asked_of (name ∷ path ∷ codes "--budget" ∷ budget ∷ []) ≡ record DEFAULTS { script = Some path; budget = number_of budget }
 unfolding clap_on_literals
-behind-script name [] [] plain p_plain = refl
-behind-script name [] (p ∷ ps) plain p_plain = rw p_plain (rw (no-dash p ps p_plain) refl)
-behind-script name (c ∷ cs) [] plain p_plain = rw plain (rw (no-dash c cs plain) refl)
-behind-script name (c ∷ cs) (p ∷ ps) plain p_plain = rw p_plain (rw (no-dash p ps p_plain) (rw plain (rw (no-dash c cs plain) refl)))
+behind-asked name [] [] plain p_plain = refl
+behind-asked name [] (p ∷ ps) plain p_plain = rw p_plain (rw (no-dash p ps p_plain) refl)
+behind-asked name (c ∷ cs) [] plain p_plain = rw plain (rw (no-dash c cs plain) refl)
+behind-asked name (c ∷ cs) (p ∷ ps) plain p_plain = rw p_plain (rw (no-dash p ps p_plain) (rw plain (rw (no-dash c cs plain) refl)))
 
-behind-other : (name budget path : Text) → has_dash budget ≡ false → has_dash path ≡ false → seed_of (name ∷ path ∷ codes "--budget" ∷ budget ∷ []) ≡ 0
-unfolding clap_on_literals
-behind-other name [] [] plain p_plain = refl
-behind-other name [] (p ∷ ps) plain p_plain = rw p_plain (rw (no-dash p ps p_plain) refl)
-behind-other name (c ∷ cs) [] plain p_plain = rw plain (rw (no-dash c cs plain) refl)
-behind-other name (c ∷ cs) (p ∷ ps) plain p_plain = rw p_plain (rw (no-dash p ps p_plain) (rw plain (rw (no-dash c cs plain) refl)))
-
-behind-budget : (name budget path : Text) → has_dash budget ≡ false → has_dash path ≡ false → budget_of (name ∷ path ∷ codes "--budget" ∷ budget ∷ []) ≡ number_of budget
-unfolding clap_on_literals
-behind-budget name [] [] plain p_plain = refl
-behind-budget name [] (p ∷ ps) plain p_plain = rw p_plain (rw (no-dash p ps p_plain) refl)
-behind-budget name (c ∷ cs) [] plain p_plain = rw plain (rw (no-dash c cs plain) refl)
-behind-budget name (c ∷ cs) (p ∷ ps) plain p_plain = rw p_plain (rw (no-dash p ps p_plain) (rw plain (rw (no-dash c cs plain) refl)))
-
-budget-behind : (name budget path : Text) → is_budget budget ≡ true → has_dash path ≡ false → Names (name ∷ path ∷ codes "--budget" ∷ budget ∷ []) (Some path) 0 (number_of budget)
+budget-behind : (name budget path : Text) → is_budget budget ≡ true → has_dash path ≡ false → Names (name ∷ path ∷ codes "--budget" ∷ budget ∷ []) (record DEFAULTS { script = Some path; budget = number_of budget })
 budget-behind name budget path is p_plain =
     let plain = budget-plain budget is in
-    record {
-      accepted = behind-accepted name budget path is plain p_plain;
-      script_is = behind-script name budget path plain p_plain;
-      budget_is = behind-budget name budget path plain p_plain;
-      seed_is = behind-other name budget path plain p_plain;
-    }
+    record { accepted = behind-accepted name budget path is plain p_plain; asked_is = behind-asked name budget path plain p_plain }
 
 -- ---- in one word
 
-joined-alone : (name budget : Text) → is_budget budget ≡ true → Names (name ∷ (codes "--budget=" ++ budget) ∷ []) None 0 (number_of budget)
+joined-alone : (name budget : Text) → is_budget budget ≡ true → Names (name ∷ (codes "--budget=" ++ budget) ∷ []) (record DEFAULTS { budget = number_of budget })
 unfolding clap_on_literals
-joined-alone name budget is = record {
-  accepted = rw (same-test budget) (rw is refl);
-  script_is = refl;
-  budget_is = refl;
-  seed_is = refl;
-}
+joined-alone name budget is = record { accepted = rw (same-test budget) (rw is refl); asked_is = refl }
 
-joined-before : (name budget path : Text) → is_budget budget ≡ true → has_dash path ≡ false → Names (name ∷ (codes "--budget=" ++ budget) ∷ path ∷ []) (Some path) 0 (number_of budget)
-unfolding clap_on_literals
-joined-before name budget [] is plain = record {
-  accepted = rw (same-test budget) (rw is refl);
-  script_is = refl;
-  budget_is = refl;
-  seed_is = refl;
-}
-joined-before name budget (p ∷ ps) is plain = record {
-  accepted = rw plain (rw (no-dash p ps plain) (rw (same-test budget) (rw is refl)));
-  script_is = rw plain (rw (no-dash p ps plain) refl);
-  budget_is = rw plain (rw (no-dash p ps plain) refl);
-  seed_is = rw plain (rw (no-dash p ps plain) refl);
-}
+joined-accepted : (name budget path : Text) → is_budget budget ≡ true → has_dash path ≡ false → faults_of (name ∷ (codes "--budget=" ++ budget) ∷ path ∷ []) ≡ []
+joined-accepted name budget path is plain =
+    let rows = row (codes "budget") budget ∷ [] in
+    begin name ((codes "--budget=" ++ budget) ∷ path ∷ [])
+    ∙ next-word (walk_from nothing_held) (holding rows None idle 1) (codes "--budget=" ++ budget) (path ∷ []) (joined-turn budget is) (joined-walked budget)
+    ∙ next-word (holding rows None idle 1) (path-waits rows path) path [] (path-turn rows path plain) (path-walked rows path plain)
+    ∙ end-on-path budget path
 
-joined-behind : (name budget path : Text) → is_budget budget ≡ true → has_dash path ≡ false → Names (name ∷ path ∷ (codes "--budget=" ++ budget) ∷ []) (Some path) 0 (number_of budget)
+joined-asked : (name budget path : Text) → has_dash path ≡ false → asked_of (name ∷ (codes "--budget=" ++ budget) ∷ path ∷ []) ≡ record DEFAULTS { script = Some path; budget = number_of budget }
 unfolding clap_on_literals
-joined-behind name budget [] is plain = record {
-  accepted = rw (same-test budget) (rw is refl);
-  script_is = refl;
-  budget_is = refl;
-  seed_is = refl;
-}
+joined-asked name budget [] plain = refl
+joined-asked name budget (p ∷ ps) plain = rw plain (rw (no-dash p ps plain) refl)
+
+joined-before : (name budget path : Text) → is_budget budget ≡ true → has_dash path ≡ false → Names (name ∷ (codes "--budget=" ++ budget) ∷ path ∷ []) (record DEFAULTS { script = Some path; budget = number_of budget })
+joined-before name budget path is plain = record { accepted = joined-accepted name budget path is plain; asked_is = joined-asked name budget path plain }
+
+joined-behind : (name budget path : Text) → is_budget budget ≡ true → has_dash path ≡ false → Names (name ∷ path ∷ (codes "--budget=" ++ budget) ∷ []) (record DEFAULTS { script = Some path; budget = number_of budget })
+unfolding clap_on_literals
+joined-behind name budget [] is plain = record { accepted = rw (same-test budget) (rw is refl); asked_is = refl }
 joined-behind name budget (p ∷ ps) is plain = record {
   accepted = rw plain (rw (no-dash p ps plain) (rw (same-test budget) (rw is refl)));
-  script_is = rw plain (rw (no-dash p ps plain) refl);
-  budget_is = rw plain (rw (no-dash p ps plain) refl);
-  seed_is = rw plain (rw (no-dash p ps plain) refl);
+  asked_is = rw plain (rw (no-dash p ps plain) refl);
 }
 
 -- ---- beside a seed
 
 behind-seed-word : (name seed budget : Text) → is_seed seed ≡ true → is_budget budget ≡ true
-    → Names (name ∷ (codes "--seed=" ++ seed) ∷ (codes "--budget=" ++ budget) ∷ []) None (number_of seed) (number_of budget)
+    → Names (name ∷ (codes "--seed=" ++ seed) ∷ (codes "--budget=" ++ budget) ∷ []) (record DEFAULTS { seed = number_of seed; budget = number_of budget })
 unfolding clap_on_literals
 behind-seed-word name seed budget is_s is_b = record {
   accepted = rw (seed-test seed) (rw is_s (rw (same-test budget) (rw is_b refl)));
-  script_is = refl;
-  seed_is = refl;
-  budget_is = refl;
+  asked_is = refl;
 }
 
 before-seed-word : (name seed budget : Text) → is_seed seed ≡ true → is_budget budget ≡ true
-    → Names (name ∷ (codes "--budget=" ++ budget) ∷ (codes "--seed=" ++ seed) ∷ []) None (number_of seed) (number_of budget)
+    → Names (name ∷ (codes "--budget=" ++ budget) ∷ (codes "--seed=" ++ seed) ∷ []) (record DEFAULTS { seed = number_of seed; budget = number_of budget })
 unfolding clap_on_literals
 before-seed-word name seed budget is_s is_b = record {
   accepted = rw (same-test budget) (rw is_b (rw (seed-test seed) (rw is_s refl)));
-  script_is = refl;
-  seed_is = refl;
-  budget_is = refl;
+  asked_is = refl;
 }
 
 -- ---- mistakes
@@ -268,11 +270,11 @@ takes-one-budget = record {
 pub budgets-worked : BudgetsWorked
 unfolding clap_on_literals
 budgets-worked = record {
-  ten = λ name. record { accepted = refl; script_is = refl; seed_is = refl; budget_is = refl };
-  least = λ name. record { accepted = refl; script_is = refl; seed_is = refl; budget_is = refl };
-  greatest = λ name. record { accepted = refl; script_is = refl; seed_is = refl; budget_is = refl };
+  ten = λ name. record { accepted = refl; asked_is = refl };
+  least = λ name. record { accepted = refl; asked_is = refl };
+  greatest = λ name. record { accepted = refl; asked_is = refl };
   none = λ name. refl;
   too_great = λ name. refl;
   letter = λ name. refl;
-  with_seed = λ name. record { accepted = refl; script_is = refl; seed_is = refl; budget_is = refl };
+  with_seed = λ name. record { accepted = refl; asked_is = refl };
 }

@@ -1,6 +1,9 @@
 mod BudgetLemmas
+mod FolderLemmas
 mod GivenLemmas
 mod LineLemmas
 mod SeedLemmas
+mod StatsLemmas
 mod StatusLemmas
+mod StepLemmas
 mod WordsLemmas

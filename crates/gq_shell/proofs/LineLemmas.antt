@@ -4,7 +4,7 @@ use Rattle.clap.specs.Words.{Text}
 use Rattle.clap.specs.Lexer.{strip_byte}
 use Rattle.clap.specs.declared.error.kind.ErrorKind.TheVariants.{DisplayHelp, UnknownArgument}
 use Rattle.clap.proofs.OnLiterals.{clap_on_literals}
-use Rattle.gq_shell.specs.CommandLine.{Names, TakesOnePath, budget_of, faults_of, has_dash, script_of, seed_of}
+use Rattle.gq_shell.specs.CommandLine.{DEFAULTS, Names, TakesOnePath, asked_of, faults_of, has_dash}
 
 pub no-dash : (c : ℕ) (cs : Text) → (c == 45) ≡ false → strip_byte 45 (c ∷ cs) ≡ None
 no-dash c cs plain = rw plain refl
@@ -14,10 +14,10 @@ unfolding clap_on_literals
 path-accepted name [] plain = refl
 path-accepted name (c ∷ cs) plain = rw plain (rw (no-dash c cs plain) refl)
 
-path-named : (name path : Text) → has_dash path ≡ false → script_of (name ∷ path ∷ []) ≡ Some path
+path-asked : (name path : Text) → has_dash path ≡ false → asked_of (name ∷ path ∷ []) ≡ record DEFAULTS { script = Some path }
 unfolding clap_on_literals
-path-named name [] plain = refl
-path-named name (c ∷ cs) plain = rw plain (rw (no-dash c cs plain) refl)
+path-asked name [] plain = refl
+path-asked name (c ∷ cs) plain = rw plain (rw (no-dash c cs plain) refl)
 
 helped-late : (name path : Text) → has_dash path ≡ false → faults_of (name ∷ path ∷ codes "--help" ∷ []) ≡ DisplayHelp ∷ []
 unfolding clap_on_literals
@@ -32,36 +32,19 @@ second-refused name (c ∷ cs) [] one_plain two_plain = rw one_plain (rw (no-das
 second-refused name (c ∷ cs) (d ∷ ds) one_plain two_plain =
     rw one_plain (rw (no-dash c cs one_plain) (rw two_plain (rw (no-dash d ds two_plain) refl)))
 
--- a path alone comes with no seed and no budget
-no-seed-named : (name path : Text) → has_dash path ≡ false → seed_of (name ∷ path ∷ []) ≡ 0
-unfolding clap_on_literals
-no-seed-named name [] plain = refl
-no-seed-named name (c ∷ cs) plain = rw plain (rw (no-dash c cs plain) refl)
-
-no-budget-named : (name path : Text) → has_dash path ≡ false → budget_of (name ∷ path ∷ []) ≡ 65536
-unfolding clap_on_literals
-no-budget-named name [] plain = refl
-no-budget-named name (c ∷ cs) plain = rw plain (rw (no-dash c cs plain) refl)
-
-one-path : (name path : Text) → has_dash path ≡ false → Names (name ∷ path ∷ []) (Some path) 0 65536
-one-path name path plain = record {
-  accepted = path-accepted name path plain;
-  script_is = path-named name path plain;
-  seed_is = no-seed-named name path plain;
-  budget_is = no-budget-named name path plain;
-}
+one-path : (name path : Text) → has_dash path ≡ false → Names (name ∷ path ∷ []) (record DEFAULTS { script = Some path })
+one-path name path plain = record { accepted = path-accepted name path plain; asked_is = path-asked name path plain }
 
 pub takes-one-path : TakesOnePath
 unfolding clap_on_literals
 takes-one-path = record {
-  nothing = λ name. record { accepted = refl; script_is = refl; seed_is = refl; budget_is = refl };
+  nothing = λ name. record { accepted = refl; asked_is = refl };
   path = one-path;
-  dash = λ name. record { accepted = refl; script_is = refl; seed_is = refl; budget_is = refl };
-  any_path = λ name path. record { accepted = refl; script_is = refl; seed_is = refl; budget_is = refl };
+  dash = λ name. record { accepted = refl; asked_is = refl };
+  any_path = λ name path. record { accepted = refl; asked_is = refl };
   help = λ name. refl;
   short_help = λ name. refl;
   late_help = helped-late;
   two_paths = second-refused;
-  spill = λ name more. refl;
-  stats = λ name more. refl;
+  no_option = λ name more. refl;
 }

@@ -1,16 +1,18 @@
 -- What the program did, told by the words of its command line, what opening a path gives, its two streams and its exit status.
-use Rattle.std.specs.Prelude.{◌≡◌, ◌≢◌, ◌⊎◌, ℕ, true, List, [], codes, string_bytes, option_map, Option, Some, None, Result, Ok, Err}
+use Rattle.std.specs.Prelude.{◌≡◌, ◌≢◌, ◌⊎◌, ℕ, IsTrue, not, List, [], codes, string_bytes, is_some, Option, Some, None, Result, Ok, Err}
 use Rattle.std.specs.IoError.{error_kind}
 use Rattle.std.specs.declared.io.Error.{Error}
 use Rattle.std.specs.declared.io.ErrorKind.TheVariants as kind
 use Rattle.clap.specs.Words.{Text}
 use Rattle.gq_row.specs.Limits.{GREATEST}
 use Rattle.gq_command.specs.Commands.{Bytes}
+use Rattle.gq_group.specs.declared.grouping.Spent.{Spent}
 use Rattle.gq_engine.specs.Headline.{State}
 use Rattle.gq_engine.specs.Runs.{Setting}
-use Rattle.gq_shell.specs.Session.{EndedWith}
+use Rattle.gq_shell.specs.CommandLine.{Asked}
+use Rattle.gq_shell.specs.Session.{EndedWith, report_of}
 use Rattle.gq_shell.specs.Streams.{Stream, IsUntouched, Got, GotFront}
-use Rattle.gq_shell.specs.Words.{Reads}
+use Rattle.gq_shell.specs.Words.{Reads, asked_by}
 use Rattle.gq_shell.specs.declared.words.BadLine.{BadLine}
 use Rattle.gq_shell.specs.declared.words.BadLine.TheVariants.{Help, Mistake, Memory}
 use Rattle.gq_shell.specs.declared.words.Options.{Options}
@@ -41,18 +43,19 @@ AnsweredBadLine (Help text) replies errors status = Helped (string_bytes text) r
 AnsweredBadLine (Mistake text) replies errors status = IsUntouched replies × Stopped errors (string_bytes text) 2 status
 AnsweredBadLine Memory replies errors status = IsUntouched replies × StoppedForMemory errors status
 
--- the limits of the program's engine, and its run store, which keeps runs in memory and doesn't lie
-abbrev pub PROGRAM : Setting
-PROGRAM = record { limits = GREATEST; honest = true }
+-- the limits of the program's engine, and whether its run store reads back what was written: in memory it does, and of a folder nobody can say so
+abbrev pub setting_by : Option Text → Setting
+setting_by folder = record { limits = GREATEST; honest = not (is_some folder) }
 
 -- no tables
 abbrev pub NOTHING : State
 NOTHING = record { database = []; failures = 0 }
 
--- A session of an engine without tables read this script.
-pub record RanScript (script : Option Bytes) (replies errors : Stream) (status : ℕ) : Type 0 where
+-- A session of an engine without tables read this script, and reported its work where that was asked for.
+pub record RanScript (asked : Asked) (script : Option Bytes) (replies errors : Stream) (status : ℕ) : Type 0 where
   pub new : State
-  pub ended : EndedWith PROGRAM NOTHING script new replies errors status
+  pub spent : Spent
+  pub ended : EndedWith (setting_by asked.spill) NOTHING script new (report_of asked.stats spent) replies errors status
 
 -- Where scripts come from: the bytes of the standard input, and what opening a path may give.
 pub record Sources (S : Type 0) : Type 1 where
@@ -61,19 +64,25 @@ pub record Sources (S : Type 0) : Type 1 where
   pub opens : Text → Result S Error → Type 0
 
 -- what opening a path gave was run; or it could not be opened
-abbrev pub RanOpened : {S : Type 0} → Sources S → Result S Error → Stream → Stream → ℕ → Type 0
-RanOpened sources (Ok script) replies errors status = RanScript (sources.remaining script) replies errors status
-RanOpened sources (Err e) replies errors status = IsUntouched replies × StoppedBy e (codes "groupsh: cannot open script\n") 3 errors status
+abbrev pub RanOpened : {S : Type 0} → Sources S → Asked → Result S Error → Stream → Stream → ℕ → Type 0
+RanOpened sources asked (Ok script) replies errors status = RanScript asked (sources.remaining script) replies errors status
+RanOpened sources asked (Err e) replies errors status = IsUntouched replies × StoppedBy e (codes "groupsh: cannot open script\n") 3 errors status
 
 -- without a path the standard input is the script
-abbrev pub RanNamed : {S : Type 0} → Sources S → Option Text → Stream → Stream → ℕ → Type 0
-RanNamed sources None replies errors status = RanScript sources.input replies errors status
-RanNamed {S} sources (Some path) replies errors status =
-    (opened : Result S Error) × sources.opens path opened × RanOpened sources opened replies errors status
+abbrev pub RanNamed : {S : Type 0} → Sources S → Asked → Option Text → Stream → Stream → ℕ → Type 0
+RanNamed sources asked None replies errors status = RanScript asked sources.input replies errors status
+RanNamed {S} sources asked (Some path) replies errors status =
+    (opened : Result S Error) × sources.opens path opened × RanOpened sources asked opened replies errors status
+
+-- what was asked for was run; or there was no memory for a run store in a folder
+abbrev pub RanAsked : {S : Type 0} → Sources S → Asked → Stream → Stream → ℕ → Type 0
+RanAsked sources asked replies errors status =
+    RanNamed sources asked asked.script replies errors status
+    ⊎ (IsTrue (is_some asked.spill) × IsUntouched replies × StoppedForMemory errors status)
 
 -- what was done about a command line as it was read
 abbrev pub Did : {S : Type 0} → Sources S → Result Options BadLine → Stream → Stream → ℕ → Type 0
-Did sources (Ok options) replies errors status = RanNamed sources (option_map (λ s. s.now) options.script) replies errors status
+Did sources (Ok options) replies errors status = RanAsked sources (asked_by options) replies errors status
 Did sources (Err bad) replies errors status = AnsweredBadLine bad replies errors status
 
 -- The command line was read, and what it asks for was done.

@@ -1,6 +1,7 @@
 -- What a session did, and what its status stands for.
-use Rattle.std.specs.Prelude.{◌≡◌, ◌==◌, ℕ, [], if◌then◌else◌, codes, Option, Result, Ok, Err}
+use Rattle.std.specs.Prelude.{◌≡◌, ◌==◌, ◌++◌, ℕ, Bool, [], if◌then◌else◌, codes, decimal, Option, Result, Ok, Err}
 use Rattle.gq_command.specs.Commands.{Bytes}
+use Rattle.gq_group.specs.declared.grouping.Spent.{Spent}
 use Rattle.gq_engine.specs.declared.run.Summary.{Summary}
 use Rattle.gq_engine.specs.declared.run.Fault.{Fault}
 use Rattle.gq_engine.specs.declared.run.Fault.TheVariants.{Read, Write}
@@ -13,15 +14,23 @@ abbrev pub status_of : Result Summary Fault → ℕ
 status_of (Ok summary) = if summary.refused == 0 then 0 else 1
 status_of (Err fault) = 3
 
--- what the standard error says
-abbrev pub complaint : Result Summary Fault → Bytes
-complaint (Ok summary) = []
-complaint (Err Read) = codes "groupsh: read fault\n"
-complaint (Err Write) = codes "groupsh: write fault\n"
+-- the line on the work of a session's groupings
+abbrev pub work_line : Spent → Bytes
+work_line spent = codes "groupsh: read " ++ decimal spent.rows_read ++ codes ", written " ++ decimal spent.rows_written ++ codes ", groups " ++ decimal spent.groups ++ codes ", runs " ++ decimal spent.runs ++ codes "\n"
 
--- The engine ran and ended in the way for which the status stands; of a fault the standard error was told, as far as it took it.
-pub record EndedWith (setting : Setting) (old : State) (script : Option Bytes) (new : State) (replies errors : Stream) (status : ℕ) : Type 0 where
+-- the same where it is asked for, and else nothing
+abbrev pub report_of : Bool → Spent → Bytes
+report_of stats spent = if stats then work_line spent else []
+
+-- what the standard error says: of a fault its line, and otherwise the report
+abbrev pub errors_text : Bytes → Result Summary Fault → Bytes
+errors_text report (Ok summary) = report
+errors_text report (Err Read) = codes "groupsh: read fault\n"
+errors_text report (Err Write) = codes "groupsh: write fault\n"
+
+-- The engine ran and ended in the way for which the status stands; the standard error was told of a fault, or otherwise the report, as far as it took it.
+pub record EndedWith (setting : Setting) (old : State) (script : Option Bytes) (new : State) (report : Bytes) (replies errors : Stream) (status : ℕ) : Type 0 where
   pub ended : Result Summary Fault
   pub ran : Ran setting old script new replies.before replies.after ended
   pub status_is : status ≡ status_of ended
-  pub told : GotFront errors (complaint ended)
+  pub told : GotFront errors (errors_text report ended)

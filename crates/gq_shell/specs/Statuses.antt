@@ -7,17 +7,18 @@ use Rattle.gq_engine.specs.Runs.{Setting}
 use Rattle.gq_shell.specs.Session.{EndedWith}
 use Rattle.gq_shell.specs.Streams.{Stream}
 
--- one session's script, streams and states, its status aside
+-- one session's script, streams, states and report, its status aside
 pub record Course : Type 0 where
   pub setting : Setting
   pub old : State
   pub script : Bytes
   pub new : State
+  pub report : Bytes
   pub replies : Stream
   pub errors : Stream
 
 abbrev pub Ends : Course → ℕ → Type 0
-Ends c status = EndedWith c.setting c.old (Some c.script) c.new c.replies c.errors status
+Ends c status = EndedWith c.setting c.old (Some c.script) c.new c.report c.replies c.errors status
 
 -- each item of the script was answered, and these are the counts
 abbrev pub AnsweredAll : Course → Summary → Type 0

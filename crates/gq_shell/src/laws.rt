@@ -1,6 +1,6 @@
 //! Laws: what the definitions come to. Each is the contract of a function that does nothing.
-ghost use Rattle.gq_shell.specs.CommandLine.{BudgetsWorked, SeedsWorked};
-ghost use Rattle.gq_shell.specs.CommandLine.{TakesOneBudget, TakesOnePath, TakesOneSeed};
+ghost use Rattle.gq_shell.specs.CommandLine.{BudgetsWorked, FoldersWorked, SeedsWorked};
+ghost use Rattle.gq_shell.specs.CommandLine.{TakesOneBudget, TakesOneFolder, TakesOnePath, TakesOneSeed, TakesStats};
 ghost use Rattle.gq_shell.specs.Statuses.{StatusesTell};
 
 /// The program takes one path, or none, and tells help from mistakes.
@@ -18,6 +18,17 @@ pub fn takes_one_seed()
 pub fn takes_one_budget()
     ensures vary { TakesOneBudget }
     ensures worked { BudgetsWorked }
+{}
+
+/// Besides these it takes one folder, before or behind them.
+pub fn takes_one_folder()
+    ensures vary { TakesOneFolder }
+    ensures worked { FoldersWorked }
+{}
+
+/// Besides these it takes the flag for the report, once.
+pub fn takes_stats()
+    ensures { TakesStats }
 {}
 
 /// What a session's status tells: all accepted, some refused, or stopped by a fault.

@@ -9,21 +9,25 @@ use crate::script::run_script;
 use crate::stopping::{answer_bad_line, answer_error};
 use crate::words::read_words;
 use std::alloc::Global;
+use std::fs::Files;
 use std::io::{self, Read, Write};
 
 /// Reads the command line, opens the script and runs it, and answers the exit status.
 ///
-/// `words` begin with the program's name, or are the error in reading them; `opener` opens a path;
-/// `input` is the standard input, `replies` the standard output and `errors` the standard error.
-pub fn run_program<R, S, F, W, E>(
+/// `words` begin with the program's name, or are the error in reading them; `files` has the folder
+/// of a run store, and `opener` opens a script's path; `input` is the standard input, `replies` the
+/// standard output and `errors` the standard error.
+pub fn run_program<D, R, S, F, W, E>(
     alloc: Global,
     words: io::Result<Vec<String>>,
+    files: &D,
     opener: F,
     input: R,
     replies: &mut W,
     errors: &mut E,
 ) -> u8
 where
+    D: Files,
     R: Read + Drop,
     S: Read + Drop,
     F: FnOnce(&str) -> io::Result<S>,
@@ -48,7 +52,7 @@ where
         }
     };
     match read_words(alloc, words.as_slice()) {
-        Ok(options) => run_script(alloc, options, opener, input, replies, errors),
+        Ok(options) => run_script(alloc, options, files, opener, input, replies, errors),
         Err(bad) => answer_bad_line(&bad, replies, errors),
     }
 }

@@ -1,23 +1,84 @@
 //! The script that a command line names, opened and run.
-ghost use Rattle.std.specs.Prelude.{option_map};
+ghost use Rattle.std.specs.Prelude.{◌≡◌, [], max, min};
 ghost use Rattle.std.specs.Fn.{FnOnceReturnsAt};
-ghost use Rattle.gq_shell.specs.Program.{RanNamed};
+ghost use Rattle.gq_row.specs.Limits.{GREATEST};
+ghost use Rattle.gq_engine.specs.Engines.{setting_of, state_of};
+ghost use Rattle.gq_shell.specs.Program.{NOTHING, RanAsked, RanNamed, RanScript, setting_by};
 ghost use Rattle.gq_shell.specs.Streams.{stream};
+ghost use Rattle.gq_shell.specs.Words.{asked_by};
 
 use crate::session::session;
-use crate::stopping::answer_error;
+use crate::stopping::{answer_error, stop_for_memory};
 use crate::words::Options;
-use gq_engine::{Budget, Engine, MemStore};
+use gq_dir::DirStore;
+use gq_engine::{Budget, Engine, MemStore, RunStore};
 use gq_row::Limits;
-use std::alloc::Global;
+use std::alloc::{AllocError, Global};
+use std::fs::Files;
 use std::io::{self, Read, Write};
 use sw_probe::Fnv1a;
 
 /// Runs a script in a new engine under the greatest limits, with the seed and the budget given and a
-/// run store in memory, and answers the exit status. The script is what `opener` gives for the path, and `input` where there
-/// is no path.
-pub fn run_script<R, S, F, W, E>(
+/// run store in the folder given, or in memory where there is none; and answers the exit status.
+/// The script is what `opener` gives for the path, and `input` where there is no path.
+pub fn run_script<D, R, S, F, W, E>(
     alloc: Global,
+    options: Options,
+    files: &D,
+    opener: F,
+    input: R,
+    replies: &mut W,
+    errors: &mut E,
+) -> u8
+where
+    D: Files,
+    R: Read + Drop,
+    S: Read + Drop,
+    F: FnOnce(&str) -> io::Result<S>,
+    W: Write,
+    E: Write,
+    requires { F.IsAlwaysCallable opener }
+    ensures { RanAsked
+        (record {
+          input = R.remaining input;
+          remaining = S.remaining;
+          opens = λ name opened. FnOnceReturnsAt F.FnOnce opener name opened;
+        })
+        (asked_by options.entry) (stream W.contents replies.old replies.new)
+        (stream E.contents errors.old errors.new) result }
+{
+    match options.spill {
+        None => {
+            let mut engine = engine_over(alloc, options, MemStore::new(alloc));
+            run_in(&mut engine, options, opener, input, replies, errors)
+        }
+        Some(folder) => match DirStore::new(alloc, files, folder) {
+            Ok(store) => {
+                let mut engine = engine_over(alloc, options, store);
+                run_in(&mut engine, options, opener, input, replies, errors)
+            }
+            Err(AllocError) => stop_for_memory(errors),
+        },
+    }
+}
+
+// An engine without tables over a run store.
+fn engine_over<T: RunStore>(alloc: Global, options: Options, store: T) -> Engine<Fnv1a, T>
+    ensures setting { setting_of T.runs result ≡ record { limits = GREATEST; honest = (T.runs store).honest } }
+    ensures state { state_of T.runs result ≡ record { database = []; failures = (T.runs store).failures } }
+{
+    Engine::new(
+        alloc,
+        Fnv1a { seed: options.seed },
+        store,
+        budget_of(options.budget),
+        Limits::greatest(),
+    )
+}
+
+// Opens the script, and runs it in an engine.
+fn run_in<T, R, S, F, W, E>(
+    engine: &mut Engine<Fnv1a, T>,
     options: Options,
     opener: F,
     input: R,
@@ -25,39 +86,58 @@ pub fn run_script<R, S, F, W, E>(
     errors: &mut E,
 ) -> u8
 where
+    T: RunStore,
     R: Read + Drop,
     S: Read + Drop,
     F: FnOnce(&str) -> io::Result<S>,
     W: Write,
     E: Write,
-    requires { F.IsAlwaysCallable opener }
+    requires callable { F.IsAlwaysCallable opener }
+    requires setting { setting_of T.runs engine.old ≡ setting_by (asked_by options).spill }
+    requires state { state_of T.runs engine.old ≡ NOTHING }
     ensures { RanNamed
         (record {
           input = R.remaining input;
           remaining = S.remaining;
           opens = λ name opened. FnOnceReturnsAt F.FnOnce opener name opened;
         })
-        (option_map (λ s. s.now) options.entry.script) (stream W.contents replies.old replies.new)
+        (asked_by options.entry) (asked_by options.entry).script (stream W.contents replies.old replies.new)
         (stream E.contents errors.old errors.new) result }
 {
-    let mut engine = Engine::new(
-        alloc,
-        Fnv1a { seed: options.seed },
-        MemStore::new(alloc),
-        budget_of(options.budget),
-        Limits::greatest(),
-    );
     match options.script {
-        None => session(&mut engine, input, replies, errors),
+        None => run_open(engine, options, input, replies, errors),
         Some(path) => match opener(path) {
-            Ok(script) => session(&mut engine, script, replies, errors),
+            Ok(script) => run_open(engine, options, script, replies, errors),
             Err(error) => answer_error(&error, "groupsh: cannot open script\n", 3, errors),
         },
     }
 }
 
+// Runs a script that is open.
+fn run_open<T, R, W, E>(
+    engine: &mut Engine<Fnv1a, T>,
+    options: Options,
+    script: R,
+    replies: &mut W,
+    errors: &mut E,
+) -> u8
+where
+    T: RunStore,
+    R: Read + Drop,
+    W: Write,
+    E: Write,
+    requires setting { setting_of T.runs engine.old ≡ setting_by (asked_by options).spill }
+    requires state { state_of T.runs engine.old ≡ NOTHING }
+    ensures { RanScript (asked_by options.entry) (R.remaining script)
+        (stream W.contents replies.old replies.new) (stream E.contents errors.old errors.new) result }
+{
+    session(engine, script, replies, errors, options.stats)
+}
+
 // The budget of a number, or the nearest one.
-fn budget_of(entries: u64) -> Budget {
+fn budget_of(entries: u64) -> Budget
+    ensures { result.entries ≡ max 1 (min entries 1_048_576) }
+{
     match Budget::new(entries.clamp(1, 1_048_576) as u32) {
         Some(budget) => budget,
         None => unreachable!(),

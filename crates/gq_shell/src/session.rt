@@ -1,9 +1,10 @@
 //! One run of an engine, from a script's bytes to the exit status.
 ghost use Rattle.std.specs.Prelude.{◌≡◌};
-ghost use Rattle.gq_engine.specs.Engines.{setting_of, state_of};
-ghost use Rattle.gq_shell.specs.Session.{EndedWith, status_of, complaint};
+ghost use Rattle.gq_engine.specs.Engines.{setting_of, spent_of, state_of};
+ghost use Rattle.gq_shell.specs.Session.{EndedWith, errors_text, report_of, status_of};
 ghost use Rattle.gq_shell.specs.Streams.{stream};
 
+use crate::report::report_of;
 use crate::telling::tell;
 use gq_engine::{Engine, Fault, RunStore, Summary};
 use gq_row::Key;
@@ -11,21 +12,24 @@ use std::io::{Read, Write};
 use sw_probe::KeyHash;
 
 /// Runs a script: reads it from the reader, writes the reply to each command, and answers the exit
-/// status. A fault is told to `errors`; one in telling it is passed over.
+/// status. A fault is told to `errors`, and where there is none and `stats` asks for it, what the
+/// groupings took; a fault in telling it is passed over.
 pub fn session<H: KeyHash<Key> + Copy, S: RunStore, R: Read + Drop, W: Write, E: Write>(
     engine: &mut Engine<H, S>,
     reader: R,
     writer: &mut W,
     errors: &mut E,
+    stats: bool,
 ) -> u8
     // What was written is as the engine ran, and the status stands for how that ended.
     ensures ended { EndedWith (setting_of S.runs engine.old) (state_of S.runs engine.old) (R.remaining reader)
-        (state_of S.runs engine.new) (stream W.contents writer.old writer.new)
-        (stream E.contents errors.old errors.new) result }
+        (state_of S.runs engine.new) (report_of stats (spent_of engine.new))
+        (stream W.contents writer.old writer.new) (stream E.contents errors.old errors.new) result }
     ensures setting { setting_of S.runs engine.new ≡ setting_of S.runs engine.old }
 {
     let ended = engine.run(reader, writer);
-    let _told = tell(complaint(&ended), errors);
+    let report = report_of(stats, engine.spent());
+    let _told = tell(errors_text(&ended, report.as_str()), errors);
     status_of(&ended)
 }
 
@@ -41,12 +45,12 @@ fn status_of(ended: &Result<Summary, Fault>) -> u8
     }
 }
 
-/// What the standard error says of a run.
-fn complaint(ended: &Result<Summary, Fault>) -> &'static str
-    ensures { result.now ≡ complaint ended.now }
+/// What the standard error says of a run: a fault's line, or else the report.
+fn errors_text<'a>(ended: &Result<Summary, Fault>, report: &'a str) -> &'a str
+    ensures { result.now ≡ errors_text report.now ended.now }
 {
     match ended {
-        Ok(_summary) => "",
+        Ok(_summary) => report,
         Err(Fault::Read) => "groupsh: read fault\n",
         Err(Fault::Write) => "groupsh: write fault\n",
     }

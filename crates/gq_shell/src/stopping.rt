@@ -1,5 +1,5 @@
 //! What the program says where no script is run, and the exit status of that.
-ghost use Rattle.gq_shell.specs.Program.{AnsweredBadLine, Stopped, StoppedBy};
+ghost use Rattle.gq_shell.specs.Program.{AnsweredBadLine, Stopped, StoppedBy, StoppedForMemory};
 ghost use Rattle.gq_shell.specs.Streams.{stream};
 
 use crate::telling::{CutShort, tell};
@@ -17,7 +17,7 @@ pub fn answer_bad_line<W: Write, E: Write>(bad: &BadLine, replies: &mut W, error
             Err(CutShort) => stop("groupsh: write fault\n", 3, errors),
         },
         BadLine::Mistake(text) => stop(text.as_str(), 2, errors),
-        BadLine::Memory => stop("groupsh: out of memory\n", 3, errors),
+        BadLine::Memory => stop_for_memory(errors),
     }
 }
 
@@ -26,10 +26,17 @@ pub fn answer_error<E: Write>(error: &Error, text: &str, status: u8, errors: &mu
     ensures { StoppedBy error.now text.now status (stream E.contents errors.old errors.new) result }
 {
     if error.kind() == ErrorKind::OutOfMemory {
-        stop("groupsh: out of memory\n", 3, errors)
+        stop_for_memory(errors)
     } else {
         stop(text, status, errors)
     }
+}
+
+/// Tells want of memory before a run, and answers its status.
+pub fn stop_for_memory<E: Write>(errors: &mut E) -> u8
+    ensures { StoppedForMemory (stream E.contents errors.old errors.new) result }
+{
+    stop("groupsh: out of memory\n", 3, errors)
 }
 
 // Tells why nothing is run, and answers the status. A fault in telling it is passed over.

@@ -1,14 +1,17 @@
 //! Command lines and what they ask for, sessions with their statuses, and the program over streams
 //! in memory.
 use crate::program::run_program;
+use crate::report::report_of;
 use crate::session::session;
 use crate::telling::CutShort;
-use crate::words::{BadLine, read_words};
-use gq_engine::{Budget, Engine, MemStore};
+use crate::words::{BadLine, Options, read_words};
+use gq_engine::{Budget, Engine, MemStore, Spent};
 use gq_row::{Bounds, Limits};
 use std::alloc::{AllocError, Global};
 use std::io::{self, ErrorKind, Read, Write};
 use std::test::Fail;
+use std::time::SystemTime;
+use std::{env, fs};
 use sw_probe::Fnv1a;
 
 fn owned(alloc: Global, words: &[&str]) -> Result<Vec<String>, AllocError> {
@@ -32,52 +35,156 @@ fn fresh(alloc: Global, limits: Limits) -> Result<Engine<Fnv1a, MemStore>, Fail>
     ))
 }
 
-/// Each command line, and the script, the seed and the budget that it names.
+const DEFAULTS: Options<'static> = Options {
+    script: None,
+    seed: 0,
+    budget: 65_536,
+    spill: None,
+    stats: false,
+};
+
+fn scripted(script: &str) -> Options {
+    Options {
+        script: Some(script),
+        ..DEFAULTS
+    }
+}
+
+fn seeded(seed: u64) -> Options<'static> {
+    Options { seed, ..DEFAULTS }
+}
+
+fn spilling(folder: &str) -> Options {
+    Options {
+        spill: Some(folder),
+        ..DEFAULTS
+    }
+}
+
+/// Whether a command line names these options.
+fn names(alloc: Global, line: &[&str], due: Options) -> Result<bool, Fail> {
+    let words = owned(alloc, line)?;
+    match read_words(alloc, words.as_slice()) {
+        Ok(options) => Ok(options == due),
+        Err(_) => Ok(false),
+    }
+}
+
 #[test]
-fn command_lines(rt: HostRuntime) -> Result<(), Fail> {
-    let cases: [(&[&str], Option<&str>, u64, u64); 21] = [
-        (&["groupsh"], None, 0, 65_536),
-        (&["groupsh", "a.gq"], Some("a.gq"), 0, 65_536),
-        (&["groupsh", ""], Some(""), 0, 65_536),
-        (&["groupsh", "-"], Some("-"), 0, 65_536),
-        (&["groupsh", "--", "a.gq"], Some("a.gq"), 0, 65_536),
-        (&["groupsh", "--", "--help"], Some("--help"), 0, 65_536),
-        (&["groupsh", "--"], None, 0, 65_536),
-        (&["groupsh", "--seed", "5"], None, 5, 65_536),
-        (&["groupsh", "--seed", "5", "a.gq"], Some("a.gq"), 5, 65_536),
-        (&["groupsh", "--seed=5", "a.gq"], Some("a.gq"), 5, 65_536),
-        (&["groupsh", "a.gq", "--seed", "5"], Some("a.gq"), 5, 65_536),
-        (&["groupsh", "a.gq", "--seed=5"], Some("a.gq"), 5, 65_536),
-        (&["groupsh", "--seed", "+042"], None, 42, 65_536),
-        (&["groupsh", "--seed", "0", "7"], Some("7"), 0, 65_536),
+fn command_lines_with_scripts(rt: HostRuntime) -> Result<(), Fail> {
+    let cases: [(&[&str], Options); 8] = [
+        (&["groupsh"], DEFAULTS),
+        (&["groupsh", "a.gq"], scripted("a.gq")),
+        (&["groupsh", ""], scripted("")),
+        (&["groupsh", "-"], scripted("-")),
+        (&["groupsh", "--", "a.gq"], scripted("a.gq")),
+        (&["groupsh", "--", "--help"], scripted("--help")),
+        (&["groupsh", "--"], DEFAULTS),
+        (&["groupsh", "--", "--seed=5"], scripted("--seed=5")),
+    ];
+    for (line, due) in cases {
+        assert!(rt; names(rt.alloc(), line, due)?, "{line:?}");
+    }
+    Ok(())
+}
+
+#[test]
+fn command_lines_with_numbers(rt: HostRuntime) -> Result<(), Fail> {
+    let cases: [(&[&str], Options); 10] = [
+        (&["groupsh", "--seed", "5"], seeded(5)),
+        (
+            &["groupsh", "a.gq", "--seed=5"],
+            Options {
+                seed: 5,
+                ..scripted("a.gq")
+            },
+        ),
+        (&["groupsh", "--seed", "+042"], seeded(42)),
+        (
+            &["groupsh", "--seed", "0", "7"],
+            scripted("7"),
+        ),
         (
             &["groupsh", "--seed=18446744073709551615"],
-            None,
-            u64::MAX,
-            65_536,
+            seeded(u64::MAX),
         ),
-        (&["groupsh", "--", "--seed=5"], Some("--seed=5"), 0, 65_536),
-        (&["groupsh", "--budget", "1"], None, 0, 1),
+        (
+            &["groupsh", "--budget", "1"],
+            Options {
+                budget: 1,
+                ..DEFAULTS
+            },
+        ),
         (
             &["groupsh", "--budget=1048576", "a.gq"],
-            Some("a.gq"),
-            0,
-            1_048_576,
+            Options {
+                budget: 1_048_576,
+                ..scripted("a.gq")
+            },
         ),
-        (&["groupsh", "a.gq", "--budget", "+07"], Some("a.gq"), 0, 7),
-        (&["groupsh", "--budget=10", "--seed=5"], None, 5, 10),
-        (&["groupsh", "--seed", "5", "--budget", "10"], None, 5, 10),
+        (
+            &["groupsh", "a.gq", "--budget", "+07"],
+            Options {
+                budget: 7,
+                ..scripted("a.gq")
+            },
+        ),
+        (
+            &["groupsh", "--budget=10", "--seed=5"],
+            Options {
+                budget: 10,
+                ..seeded(5)
+            },
+        ),
+        (
+            &["groupsh", "--seed", "5", "--budget", "10"],
+            Options {
+                budget: 10,
+                ..seeded(5)
+            },
+        ),
     ];
-    for (words, script, seed, budget) in cases {
-        let words = owned(rt.alloc(), words)?;
-        match read_words(rt.alloc(), words.as_slice()) {
-            Ok(options) => {
-                assert!(rt; options.script == script, "{words:?}");
-                assert!(rt; options.seed == seed, "{words:?}");
-                assert!(rt; options.budget == budget, "{words:?}");
-            }
-            Err(other) => assert!(rt; false, "{words:?}: {other:?}"),
-        }
+    for (line, due) in cases {
+        assert!(rt; names(rt.alloc(), line, due)?, "{line:?}");
+    }
+    Ok(())
+}
+
+#[test]
+fn command_lines_with_folders_and_reports(rt: HostRuntime) -> Result<(), Fail> {
+    let cases: [(&[&str], Options); 8] = [
+        (&["groupsh", "--spill", "d"], spilling("d")),
+        (&["groupsh", "--spill=-d"], spilling("-d")),
+        (&["groupsh", "--spill", "-"], spilling("-")),
+        (&["groupsh", "--spill="], spilling("")),
+        (&["groupsh", "--spill", ""], spilling("")),
+        (
+            &["groupsh", "--stats"],
+            Options {
+                stats: true,
+                ..DEFAULTS
+            },
+        ),
+        (
+            &["groupsh", "a.gq", "--stats"],
+            Options {
+                stats: true,
+                ..scripted("a.gq")
+            },
+        ),
+        (
+            &["groupsh", "--stats", "--spill", "d", "--budget=1", "--seed", "7", "a.gq"],
+            Options {
+                script: Some("a.gq"),
+                seed: 7,
+                budget: 1,
+                spill: Some("d"),
+                stats: true,
+            },
+        ),
+    ];
+    for (line, due) in cases {
+        assert!(rt; names(rt.alloc(), line, due)?, "{line:?}");
     }
     Ok(())
 }
@@ -85,7 +192,7 @@ fn command_lines(rt: HostRuntime) -> Result<(), Fail> {
 /// Each command line that is none, and what is wrong with it.
 #[test]
 fn mistakes(rt: HostRuntime) -> Result<(), Fail> {
-    let cases: [(&[&str], &str); 21] = [
+    let cases: [(&[&str], &str); 25] = [
         (&["groupsh", "a.gq", "b.gq"], "argument 'b.gq' found\n"),
         (&["groupsh", "--budget", "0"], "0 is not in 1..=1048576"),
         (
@@ -104,8 +211,27 @@ fn mistakes(rt: HostRuntime) -> Result<(), Fail> {
             &["groupsh", "--budget=1", "--budget", "1"],
             "cannot be used multiple times",
         ),
-        (&["groupsh", "--spill", "d"], "argument '--spill' found\n"),
-        (&["groupsh", "--stats"], "argument '--stats' found\n"),
+        (
+            &["groupsh", "--spill"],
+            "a value is required for '--spill <DIR>'",
+        ),
+        (
+            &["groupsh", "--spill", "--stats"],
+            "a value is required for '--spill <DIR>'",
+        ),
+        (&["groupsh", "--spill", "-d"], "argument '-d' found\n"),
+        (
+            &["groupsh", "--spill=d", "--spill=d"],
+            "cannot be used multiple times",
+        ),
+        (
+            &["groupsh", "--stats", "--stats"],
+            "cannot be used multiple times",
+        ),
+        (
+            &["groupsh", "--stats=x"],
+            "unexpected value 'x' for '--stats' found",
+        ),
         (&["groupsh", "-x"], "argument '-x' found\n"),
         (&["groupsh", "--version"], "argument '--version' found\n"),
         (&["groupsh", "--see", "7"], "argument '--see' found\n"),
@@ -218,7 +344,7 @@ fn statuses(rt: HostRuntime) -> Result<(), Fail> {
         let mut engine = fresh(rt.alloc(), Limits::greatest())?;
         let mut replies = Vec::new(rt.alloc());
         let mut errors = Vec::new(rt.alloc());
-        let answered = session(&mut engine, script, &mut replies, &mut errors);
+        let answered = session(&mut engine, script, &mut replies, &mut errors, false);
         assert_eq!(rt; answered, status);
         assert_eq!(rt; replies.as_slice(), due);
         assert!(rt; errors.is_empty());
@@ -299,7 +425,7 @@ fn read_faults(rt: HostRuntime) -> Result<(), Fail> {
         let script = Broken {
             bytes: b"create s (a int)\nupsert s (1)",
         };
-        let status = session(&mut engine, script, &mut replies, &mut errors);
+        let status = session(&mut engine, script, &mut replies, &mut errors, false);
         assert_eq!(rt; status, 3);
         assert_eq!(rt; replies.as_slice(), b"ok 0\n".as_slice());
         assert_eq!(rt; errors.as_slice(), b"groupsh: read fault\n".as_slice());
@@ -314,7 +440,7 @@ fn write_faults(rt: HostRuntime) -> Result<(), Fail> {
         let mut replies = Narrow::new(rt.alloc(), 4, error);
         let mut errors = Narrow::new(rt.alloc(), 1000, None);
         let script: &[u8] = b"create s (a int)\nupsert s (1)\n";
-        let status = session(&mut engine, script, &mut replies, &mut errors);
+        let status = session(&mut engine, script, &mut replies, &mut errors, false);
         assert_eq!(rt; status, 3);
         assert_eq!(rt; replies.written.as_slice(), b"ok 0\nok".as_slice());
         assert_eq!(rt;
@@ -333,12 +459,8 @@ fn a_standard_error_that_takes_little(rt: HostRuntime) -> Result<(), Fail> {
             let mut engine = fresh(rt.alloc(), Limits::greatest())?;
             let mut replies = Vec::new(rt.alloc());
             let mut errors = Narrow::new(rt.alloc(), room, error);
-            let status = session(
-                &mut engine,
-                Broken { bytes: b"" },
-                &mut replies,
-                &mut errors,
-            );
+            let script = Broken { bytes: b"" };
+            let status = session(&mut engine, script, &mut replies, &mut errors, true);
             assert_eq!(rt; status, 3);
             let told: &[u8] = b"groupsh: read fault\n";
             let (front, _rest) = told.split_at((2 * room).min(told.len()));
@@ -348,9 +470,72 @@ fn a_standard_error_that_takes_little(rt: HostRuntime) -> Result<(), Fail> {
     Ok(())
 }
 
-/// What the program answers and writes, where its files are these two.
+/// The status of a session, and what it wrote on each stream.
+fn run_session(alloc: Global, script: &[u8], stats: bool) -> Result<(u8, Vec<u8>, Vec<u8>), Fail> {
+    let mut engine = fresh(alloc, Limits::greatest())?;
+    let mut replies = Vec::new(alloc);
+    let mut errors = Vec::new(alloc);
+    let status = session(&mut engine, script, &mut replies, &mut errors, stats);
+    Ok((status, replies, errors))
+}
+
+/// A script with two groups, and with one.
+fn grouped() -> &'static [u8] {
+    b"create b (id int, n int)\nupsert b (1, 5)\nupsert b (2, 7)\ngroup b by id show sum(n)\ngroup b show count(*)\n".as_slice()
+}
+
+#[test]
+fn reports(rt: HostRuntime) -> Result<(), Fail> {
+    let cases: [(&[u8], &[u8]); 3] = [
+        (b"", b"groupsh: read 0, written 0, groups 0, runs 0\n"),
+        (
+            b"creat\n",
+            b"groupsh: read 0, written 0, groups 0, runs 0\n",
+        ),
+        (
+            grouped(),
+            b"groupsh: read 4, written 0, groups 3, runs 0\n",
+        ),
+    ];
+    for (script, due) in cases {
+        let (status, replies, errors) = run_session(rt.alloc(), script, true)?;
+        let (again, same, none) = run_session(rt.alloc(), script, false)?;
+        assert_eq!(rt; errors.as_slice(), due);
+        assert!(rt; none.is_empty());
+        assert_eq!(rt; status, again);
+        assert_eq!(rt; replies.as_slice(), same.as_slice());
+    }
+    Ok(())
+}
+
+/// The line of the greatest numbers, and a standard error that takes a front of it.
+#[test]
+fn long_reports(rt: HostRuntime) -> Result<(), Fail> {
+    let line = report_of(
+        true,
+        Spent {
+            rows_read: u64::MAX,
+            rows_written: u64::MAX - 1,
+            groups: u64::MAX - 2,
+            runs: u64::MAX - 3,
+        },
+    );
+    assert_eq!(rt;
+        line.as_str(),
+        "groupsh: read 18446744073709551615, written 18446744073709551614, groups 18446744073709551613, runs 18446744073709551612\n"
+    );
+    let mut engine = fresh(rt.alloc(), Limits::greatest())?;
+    let mut replies = Vec::new(rt.alloc());
+    let mut errors = Narrow::new(rt.alloc(), 7, None);
+    let status = session(&mut engine, grouped(), &mut replies, &mut errors, true);
+    assert_eq!(rt; status, 0);
+    assert_eq!(rt; errors.written.as_slice(), b"groupsh: read ".as_slice());
+    Ok(())
+}
+
+/// What the program answers and writes, where its scripts are these.
 fn run_in_memory(
-    alloc: Global,
+    rt: &HostRuntime,
     words: io::Result<Vec<String>>,
     input: &[u8],
 ) -> (u8, Vec<u8>, Vec<u8>) {
@@ -363,9 +548,17 @@ fn run_in_memory(
             _ => Err(ErrorKind::NotFound.into()),
         }
     };
-    let mut replies = Vec::new(alloc);
-    let mut errors = Vec::new(alloc);
-    let status = run_program(alloc, words, opener, input, &mut replies, &mut errors);
+    let mut replies = Vec::new(rt.alloc());
+    let mut errors = Vec::new(rt.alloc());
+    let status = run_program(
+        rt.alloc(),
+        words,
+        rt,
+        opener,
+        input,
+        &mut replies,
+        &mut errors,
+    );
     (status, replies, errors)
 }
 
@@ -377,7 +570,8 @@ fn programs(rt: HostRuntime) -> Result<(), Fail> {
     let both = b"ok 0\nerr 1 Syntax\n".as_slice();
     let unopened = b"groupsh: cannot open script\n".as_slice();
     let full = b"groupsh: out of memory\n".as_slice();
-    let cases: [(&[&str], u8, &[u8], &[u8]); 9] = [
+    let unworked = b"groupsh: read 0, written 0, groups 0, runs 0\n".as_slice();
+    let cases: [(&[&str], u8, &[u8], &[u8]); 13] = [
         (&["groupsh"], 1, refused, b""),
         (&["groupsh", "--seed=7"], 1, refused, b""),
         (&["groupsh", "--seed", "7", "-"], 1, both, b""),
@@ -387,10 +581,14 @@ fn programs(rt: HostRuntime) -> Result<(), Fail> {
         (&["groupsh", "b.gq"], 3, b"", unopened),
         (&["groupsh", "locked"], 3, b"", unopened),
         (&["groupsh", "large"], 3, b"", full),
+        (&["groupsh", "--stats"], 1, refused, unworked),
+        (&["groupsh", "a.gq", "--stats"], 0, b"ok 0\n", unworked),
+        (&["groupsh", "--stats", "b.gq"], 3, b"", unopened),
+        (&["groupsh", "--spill=a.gq", "-"], 1, both, b""),
     ];
     for (words, status, due, told) in cases {
         let words = owned(rt.alloc(), words)?;
-        let (answered, replies, errors) = run_in_memory(rt.alloc(), Ok(words), input);
+        let (answered, replies, errors) = run_in_memory(&rt, Ok(words), input);
         assert_eq!(rt; answered, status);
         assert_eq!(rt; replies.as_slice(), due);
         assert_eq!(rt; errors.as_slice(), told);
@@ -407,7 +605,7 @@ fn command_lines_that_run_nothing(rt: HostRuntime) -> Result<(), Fail> {
     ];
     for (words, status, replies_front, errors_front) in cases {
         let words = owned(rt.alloc(), words)?;
-        let (answered, replies, errors) = run_in_memory(rt.alloc(), Ok(words), b"creat\n");
+        let (answered, replies, errors) = run_in_memory(&rt, Ok(words), b"creat\n");
         assert_eq!(rt; answered, status);
         assert_eq!(rt; replies.is_empty(), replies_front.is_empty());
         assert_eq!(rt; errors.is_empty(), errors_front.is_empty());
@@ -428,10 +626,58 @@ fn words_that_cannot_be_had(rt: HostRuntime) -> Result<(), Fail> {
         ),
     ];
     for (kind, status, told) in cases {
-        let (answered, replies, errors) = run_in_memory(rt.alloc(), Err(kind.into()), b"creat\n");
+        let (answered, replies, errors) = run_in_memory(&rt, Err(kind.into()), b"creat\n");
         assert_eq!(rt; answered, status);
         assert!(rt; replies.is_empty());
         assert_eq!(rt; errors.as_slice(), told);
     }
+    Ok(())
+}
+
+/// The path of a folder that there isn't yet.
+fn fresh_folder(rt: &HostRuntime) -> Result<String, Fail> {
+    let now = SystemTime::now(rt)?.duration_since(SystemTime::UNIX_EPOCH);
+    let nanos = match now {
+        Ok(age) => age.as_nanos(),
+        Err(_) => 0,
+    };
+    let name = format!(in rt.alloc(); "groupsh-shell-{nanos}")?;
+    let path = env::temp_dir(rt)?.join(rt.alloc(), name.as_str())?;
+    let text = path.as_path().to_str().ok_or("the path is a text")?;
+    Ok(String::from_str(rt.alloc(), text)?)
+}
+
+/// Rows that are put aside stand in the folder, and are gone at the end; where there is no such
+/// folder that is told, and the tables stay.
+#[test]
+fn folders(rt: HostRuntime) -> Result<(), Fail> {
+    let alloc = rt.alloc();
+    let folder = fresh_folder(&rt)?;
+    let script = b"create b (id int)\nupsert b (1)\nupsert b (2)\ngroup b by id show count(*)\nshow b\n";
+    let cases: [(u8, &[u8], &[u8]); 2] = [
+        (
+            1,
+            b"ok 0\nok 1\nok 1\nerr 16 StoreFault\nok 2\nid\n1\n2\n",
+            b"groupsh: read 0, written 0, groups 0, runs 0\n",
+        ),
+        (
+            0,
+            b"ok 0\nok 1\nok 1\nok 2\nid,count(*)\n1,1\n2,1\nok 2\nid\n1\n2\n",
+            b"groupsh: read 2, written 1, groups 2, runs 1\n",
+        ),
+    ];
+    for (due, shown, told) in cases {
+        let line = ["groupsh", "--stats", "--budget=1", "--spill", folder.as_str()];
+        let words = owned(alloc, &line)?;
+        let (status, replies, errors) = run_in_memory(&rt, Ok(words), script);
+        assert_eq!(rt; status, due);
+        assert_eq!(rt; replies.as_slice(), shown);
+        assert_eq!(rt; errors.as_slice(), told);
+        if due == 1 {
+            fs::create_dir(&rt, folder.as_str())?;
+        }
+    }
+    // A folder that isn't empty can't be removed so.
+    fs::remove_dir(&rt, folder.as_str())?;
     Ok(())
 }

@@ -1,15 +1,15 @@
 //! The program's command line.
 ghost use Rattle.std.specs.Prelude.{◌≡◌, false, IfOk, codes, map, string_bytes};
 ghost use Rattle.clap.specs.Words.{app_of, found_of, kind_of, one_text, rule_of};
-ghost use Rattle.gq_shell.specs.CommandLine.{BUDGET, LINE, SEED, is_budget, is_seed};
-ghost use Rattle.gq_shell.specs.Words.{IsReadAs, IsToldAs, Reads};
+ghost use Rattle.gq_shell.specs.CommandLine.{BUDGET, LINE, SCRIPT, SEED, SPILL, STATS, is_budget, is_seed};
+ghost use Rattle.gq_shell.specs.Words.{IsReadAs, IsReadAsFlag, IsToldAs, Reads};
 
 use clap::error::ErrorKind;
-use clap::{Arg, ArgMatches, Command, Error, value_parser};
+use clap::{Arg, ArgAction, ArgMatches, Command, Error, value_parser};
 use std::alloc::{AllocError, Global};
 
 /// What a command line asks for.
-#[derive(Clone, Copy, Debug)]
+#[derive(Clone, Copy, Debug, PartialEq, Eq)]
 pub struct Options<'a> {
     /// The path of the script. Without one the script is the standard input.
     pub script: Option<&'a str>,
@@ -17,6 +17,10 @@ pub struct Options<'a> {
     pub seed: u64,
     /// How many groups are kept in memory at once: 1 to 1,048,576. No reply depends on it.
     pub budget: u64,
+    /// The folder where rows that are put aside stand. Without one they stand in memory.
+    pub spill: Option<&'a str>,
+    /// Whether the work of the groupings is reported.
+    pub stats: bool,
 }
 
 /// Why a command line asks for no run.
@@ -88,20 +92,47 @@ fn seed_option<'a>(alloc: Global) -> Arg<'a>
         .help("Seed of the hash that tables use; no reply depends on it")
 }
 
+fn spill_option<'a>(alloc: Global) -> Arg<'a>
+    ensures rule { rule_of result ≡ SPILL }
+    ensures local { result.global ≡ false }
+{
+    Arg::new(alloc, "spill")
+        .long("spill")
+        .value_name("DIR")
+        .help("Folder for the rows that are put aside; without it, they stay in memory")
+}
+
+fn stats_option<'a>(alloc: Global) -> Arg<'a>
+    ensures rule { rule_of result ≡ STATS }
+    ensures local { result.global ≡ false }
+{
+    Arg::new(alloc, "stats")
+        .long("stats")
+        .action(ArgAction::SetTrue)
+        .value_parser(value_parser!(bool))
+        .help("Tell on standard error, at the end, what grouping took: rows, groups and runs")
+}
+
+fn script_word<'a>(alloc: Global) -> Arg<'a>
+    ensures rule { rule_of result ≡ SCRIPT }
+    ensures local { result.global ≡ false }
+{
+    Arg::new(alloc, "SCRIPT").help("File with the script; without it, standard input is read")
+}
+
 // The command line that the program takes.
 fn command_line<'a>(alloc: Global) -> Result<Command<'a>, AllocError>
     ensures { IfOk result (λ c. app_of c ≡ LINE) }
 {
-    let script = Arg::new(alloc, "SCRIPT").help(
-        "File with the script; without it, standard input is read",
-    );
     Command::new(alloc, "groupsh")
         .bin_name("groupsh")?
         .about(ABOUT)
         .after_help(MORE)
         .arg(budget_option(alloc))?
         .arg(seed_option(alloc))?
-        .arg(script)
+        .arg(spill_option(alloc))?
+        .arg(stats_option(alloc))?
+        .arg(script_word(alloc))
 }
 
 // The seed among the matches.
@@ -116,6 +147,13 @@ fn budget_in(matches: &ArgMatches) -> u64
     ensures { IsReadAs is_budget 65536 (one_text (found_of matches.now) (codes "budget")) result }
 {
     matches.get_one("budget").unwrap_or(65_536)
+}
+
+// Whether the matches have the flag for the report.
+fn stats_in(matches: &ArgMatches) -> bool
+    ensures { IsReadAsFlag (one_text (found_of matches.now) (codes "stats")) result }
+{
+    matches.get_flag("stats")
 }
 
 // What clap answers in place of matches.
@@ -145,6 +183,8 @@ pub fn read_words<'a>(alloc: Global, words: &'a [String]) -> Result<Options<'a>,
             script: matches.get_str("SCRIPT"),
             seed: seed_in(&matches),
             budget: budget_in(&matches),
+            spill: matches.get_str("spill"),
+            stats: stats_in(&matches),
         }),
         Err(error) => Err(bad_line(alloc, &error)),
     }
