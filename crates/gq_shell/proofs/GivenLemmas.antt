@@ -64,7 +64,7 @@ option-at k name parser lt named reads only xs d rules =
       id = own_name;
       reads = ap (λ (r : Rule). r.parser) (is k d lt) ∙ reads;
       unique = λ j e low same. let below : j < 5 = omega arith in
-        only j below (sym (ap₂ bytes_eq (ap (λ (r : Rule). r.id) (is j e below)) own_name) ∙ same);
+          only j below (sym (ap₂ bytes_eq (ap (λ (r : Rule). r.id) (is j e below)) own_name) ∙ same);
     }
 
 only-budget : (j : ℕ) → j < 5 → bytes_eq (name_at j) (codes "budget") ≡ true → j ≡ 0

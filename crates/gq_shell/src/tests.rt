@@ -100,10 +100,7 @@ fn command_lines_with_numbers(rt: HostRuntime) -> Result<(), Fail> {
             },
         ),
         (&["groupsh", "--seed", "+042"], seeded(42)),
-        (
-            &["groupsh", "--seed", "0", "7"],
-            scripted("7"),
-        ),
+        (&["groupsh", "--seed", "0", "7"], scripted("7")),
         (
             &["groupsh", "--seed=18446744073709551615"],
             seeded(u64::MAX),
@@ -173,7 +170,16 @@ fn command_lines_with_folders_and_reports(rt: HostRuntime) -> Result<(), Fail> {
             },
         ),
         (
-            &["groupsh", "--stats", "--spill", "d", "--budget=1", "--seed", "7", "a.gq"],
+            &[
+                "groupsh",
+                "--stats",
+                "--spill",
+                "d",
+                "--budget=1",
+                "--seed",
+                "7",
+                "a.gq",
+            ],
             Options {
                 script: Some("a.gq"),
                 seed: 7,
@@ -492,10 +498,7 @@ fn reports(rt: HostRuntime) -> Result<(), Fail> {
             b"creat\n",
             b"groupsh: read 0, written 0, groups 0, runs 0\n",
         ),
-        (
-            grouped(),
-            b"groupsh: read 4, written 0, groups 3, runs 0\n",
-        ),
+        (grouped(), b"groupsh: read 4, written 0, groups 3, runs 0\n"),
     ];
     for (script, due) in cases {
         let (status, replies, errors) = run_session(rt.alloc(), script, true)?;
@@ -653,7 +656,8 @@ fn fresh_folder(rt: &HostRuntime) -> Result<String, Fail> {
 fn folders(rt: HostRuntime) -> Result<(), Fail> {
     let alloc = rt.alloc();
     let folder = fresh_folder(&rt)?;
-    let script = b"create b (id int)\nupsert b (1)\nupsert b (2)\ngroup b by id show count(*)\nshow b\n";
+    let script =
+        b"create b (id int)\nupsert b (1)\nupsert b (2)\ngroup b by id show count(*)\nshow b\n";
     let cases: [(u8, &[u8], &[u8]); 2] = [
         (
             1,
@@ -667,7 +671,13 @@ fn folders(rt: HostRuntime) -> Result<(), Fail> {
         ),
     ];
     for (due, shown, told) in cases {
-        let line = ["groupsh", "--stats", "--budget=1", "--spill", folder.as_str()];
+        let line = [
+            "groupsh",
+            "--stats",
+            "--budget=1",
+            "--spill",
+            folder.as_str(),
+        ];
         let words = owned(alloc, &line)?;
         let (status, replies, errors) = run_in_memory(&rt, Ok(words), script);
         assert_eq!(rt; status, due);

@@ -28,14 +28,14 @@ returns-in-Ok-try_get_matches_from c =
     record {
       accepted = ap (λ (a : App). fault_of a given) (sym line_is) ∙ free;
       asked_is = same-asked _ _
-        (sym (c.get_str.ensures ∙ named (codes "SCRIPT")))
-        (ap (λ o. option_map_or number_of o 0) (sym (shown (codes "seed")))
-        ∙ number-named is_seed 0 _ c.seed_in.result c.seed_in.ensures (given-seed c.in-Ok.line found line_is parsed))
-        (ap (λ o. option_map_or number_of o 65536) (sym (shown (codes "budget")))
-        ∙ number-named is_budget 65536 _ c.budget_in.result c.budget_in.ensures (given-budget c.in-Ok.line found line_is parsed))
-        (sym (c.get_str-in-Ok-try_get_matches_from.ensures ∙ named (codes "spill")))
-        (ap (λ o. option_map_or is_set o false) (sym (shown (codes "stats")))
-        ∙ flag-named _ c.stats_in.result c.stats_in.ensures (given-stats c.in-Ok.line found line_is parsed));
+          (sym (c.get_str.ensures ∙ named (codes "SCRIPT")))
+          (ap (λ o. option_map_or number_of o 0) (sym (shown (codes "seed")))
+          ∙ number-named is_seed 0 _ c.seed_in.result c.seed_in.ensures (given-seed c.in-Ok.line found line_is parsed))
+          (ap (λ o. option_map_or number_of o 65536) (sym (shown (codes "budget")))
+          ∙ number-named is_budget 65536 _ c.budget_in.result c.budget_in.ensures (given-budget c.in-Ok.line found line_is parsed))
+          (sym (c.get_str-in-Ok-try_get_matches_from.ensures ∙ named (codes "spill")))
+          (ap (λ o. option_map_or is_set o false) (sym (shown (codes "stats")))
+          ∙ flag-named _ c.stats_in.result c.stats_in.ensures (given-stats c.in-Ok.line found line_is parsed));
     }
 
 pub returns-in-Err : goal.returns-in-Err
