@@ -1,8 +1,9 @@
 //! Tests of the engine and of the crates that it stands on, from the values up to whole runs.
 //!
 //! They try what no contract says: that calls succeed where memory is ample, and answer what the
-//! language's rules say, written here by hand; what a run does at each limit and one past it; and
-//! readers and writers that fail. They stand here so that the crates below are proved without them.
+//! language's rules say, written here by hand; what a run does at each limit and one past it;
+//! readers, writers and run stores that fail, and stores that lie; and scripts while memory runs out.
+//! They stand here so that the crates below are proved without them.
 #![tactic(auto)]
 
 #[cfg(test)]
@@ -18,6 +19,8 @@ mod limits;
 #[cfg(test)]
 mod lines;
 #[cfg(test)]
+mod lying;
+#[cfg(test)]
 mod payloads;
 #[cfg(test)]
 mod refusal_texts;
@@ -26,6 +29,10 @@ mod runs;
 #[cfg(test)]
 mod spent;
 #[cfg(test)]
+mod spilling;
+#[cfg(test)]
 mod starved;
+#[cfg(test)]
+mod starved_queries;
 #[cfg(test)]
 mod values;

@@ -3,6 +3,7 @@ use crate::engines::engine;
 use gq_engine::Fault;
 use gq_row::{Bounds, Limits};
 use std::alloc::Global;
+use std::process::Abort;
 use std::test::Fail;
 
 /// The greatest bounds, and a field's place among them.
@@ -36,25 +37,30 @@ fn with(field: &str, value: u64) -> Bounds {
     bounds
 }
 
-#[test]
-fn limits_from_one_to_the_greatest(rt: HostRuntime) {
-    for (field, greatest) in FIELDS {
-        for value in [1, greatest] {
+/// Asserts that each field takes values from one to its greatest, and no others.
+fn assert_fields(rt: &impl Abort, fields: &[(&str, u64)]) {
+    for (field, greatest) in fields {
+        for value in [1, *greatest] {
             let made = Limits::new(with(field, value));
             assert!(rt;
                 made.is_some_and(|limits| limits.bounds == with(field, value)),
                 "{field} {value}"
             );
         }
-        for value in [0, greatest + 1, u64::MAX] {
+        for value in [0, greatest.saturating_add(1), u64::MAX] {
             assert!(rt;
                 Limits::new(with(field, value)).is_none(),
                 "{field} {value}"
             );
         }
-        let bounds = with(field, greatest);
+        let bounds = with(field, *greatest);
         assert!(rt; bounds == Limits::greatest().bounds, "{field}");
     }
+}
+
+#[test]
+fn limits_from_one_to_the_greatest(rt: HostRuntime) {
+    assert_fields(&rt, &FIELDS);
 }
 
 /// What a run under limits writes, and whether a read fault ended it.
@@ -158,37 +164,40 @@ const CASES: [(&str, u64, &[u8], &[u8]); 17] = [
     ("script", 3, b"\xEF\xBB\xBF", b""),
 ];
 
-#[test]
-fn each_limit_and_one_past_it(rt: HostRuntime) -> Result<(), Fail> {
-    for (field, value, script, due) in CASES {
-        let Some(limits) = Limits::new(with(field, value)) else {
+/// Asserts that each script writes what stands beside it, and ends in a read fault or does not.
+fn assert_cases(
+    rt: &impl Abort,
+    alloc: Global,
+    cases: &[(&str, u64, &[u8], &[u8])],
+    faults: bool,
+) -> Result<(), Fail> {
+    for (field, value, script, due) in cases {
+        let Some(limits) = Limits::new(with(field, *value)) else {
             return Err(Fail::new("no limits"));
         };
-        let (written, faulted) = run(rt.alloc(), limits, script);
-        assert_eq!(rt; written.as_slice(), due, "{field} {value}");
-        assert!(rt; !faulted, "{field} {value}");
+        let (written, faulted) = run(alloc, limits, script);
+        assert_eq!(rt; written.as_slice(), *due, "{field} {value}");
+        assert!(rt; faulted == faults, "{field} {value}");
     }
     Ok(())
 }
 
-/// A script of one byte more than its limit: the lines that are whole within the limit are
-/// answered, and then a read fault comes.
+#[test]
+fn each_limit_and_one_past_it(rt: HostRuntime) -> Result<(), Fail> {
+    assert_cases(&rt, rt.alloc(), &CASES, false)
+}
+
+/// Scripts of one byte more than their limit: the lines that are whole within the limit are answered,
+/// and then a read fault comes.
+const PAST: [(&str, u64, &[u8], &[u8]); 5] = [
+    ("script", 16, b"create a (x int)\n", b""),
+    ("script", 17, b"create a (x int)\n\n", b"ok 0\n"),
+    ("script", 18, b"\xEF\xBB\xBFcreate a (x int)", b""),
+    ("script", 2, b"\xEF\xBB\xBF", b""),
+    ("script", 1, b"\n\n", b""),
+];
+
 #[test]
 fn a_script_past_its_limit(rt: HostRuntime) -> Result<(), Fail> {
-    let cases: [(u64, &[u8], &[u8]); 5] = [
-        (16, b"create a (x int)\n", b""),
-        (17, b"create a (x int)\n\n", b"ok 0\n"),
-        (18, b"\xEF\xBB\xBFcreate a (x int)", b""),
-        (2, b"\xEF\xBB\xBF", b""),
-        (1, b"\n\n", b""),
-    ];
-    for (value, script, due) in cases {
-        let Some(limits) = Limits::new(with("script", value)) else {
-            return Err(Fail::new("no limits"));
-        };
-        let (written, faulted) = run(rt.alloc(), limits, script);
-        assert_eq!(rt; written.as_slice(), due, "{value}");
-        assert!(rt; faulted, "{value}");
-    }
-    Ok(())
+    assert_cases(&rt, rt.alloc(), &PAST, true)
 }

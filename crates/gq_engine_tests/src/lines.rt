@@ -5,7 +5,7 @@ use gq_command::{
     Aggregate, Command, CommandReader, Item, LineRefusal, Payload, ReadFault, parse_line,
 };
 use gq_row::{Bounds, Kind, Limits, Value};
-use std::alloc::Global;
+use std::alloc::{AllocError, Global};
 use std::io::{ErrorKind, Read};
 use std::process::Abort;
 use std::test::Fail;
@@ -255,45 +255,51 @@ fn what_a_group_says(rt: HostRuntime) -> Result<(), Fail> {
     Ok(())
 }
 
-/// Each limit of a line, at the limit and one past it.
+/// Lines under small limits: each limit of a line, at the limit and one past it.
+const SMALL_LINES: [(&[u8], char); 23] = [
+    (b"create abcd (a int)", 'c'),
+    (b"create abcde (a int)", 'L'),
+    (b"create \"ab\"\"d\" (a int)", 'c'),
+    (b"create a (abcde int)", 'L'),
+    (b"create a (b int, key (abcde))", 'L'),
+    (b"upsert abcde (1)", 'L'),
+    (b"group a by abcd show count(*)", 'g'),
+    (b"group a by abcde show count(*)", 'L'),
+    (b"group abcde by a show count(*)", 'L'),
+    (b"create a (b int, c int)", 'c'),
+    (b"create a (b int, c int, d int)", 'L'),
+    (b"upsert a ('12345')", 'u'),
+    (b"upsert a ('123456')", 'L'),
+    (b"upsert a ('1234''6')", 'L'),
+    (b"drop abcd", 'd'),
+    (b"drop abcde", 'L'),
+    (b"show abcd", 's'),
+    (b"show abcde", 'L'),
+    (b"load abcd", 'o'),
+    (b"load abcde", 'L'),
+    (b"delete abcd ('12345')", 'x'),
+    (b"delete abcde ('12345')", 'L'),
+    (b"delete abcd ('123456')", 'L'),
+];
+
 #[test]
 fn limits_of_a_line(rt: HostRuntime) -> Result<(), Fail> {
-    let cases: [(&[u8], char); 23] = [
-        (b"create abcd (a int)", 'c'),
-        (b"create abcde (a int)", 'L'),
-        (b"create \"ab\"\"d\" (a int)", 'c'),
-        (b"create a (abcde int)", 'L'),
-        (b"create a (b int, key (abcde))", 'L'),
-        (b"upsert abcde (1)", 'L'),
-        (b"group a by abcd show count(*)", 'g'),
-        (b"group a by abcde show count(*)", 'L'),
-        (b"group abcde by a show count(*)", 'L'),
-        (b"create a (b int, c int)", 'c'),
-        (b"create a (b int, c int, d int)", 'L'),
-        (b"upsert a ('12345')", 'u'),
-        (b"upsert a ('123456')", 'L'),
-        (b"upsert a ('1234''6')", 'L'),
-        (b"drop abcd", 'd'),
-        (b"drop abcde", 'L'),
-        (b"show abcd", 's'),
-        (b"show abcde", 'L'),
-        (b"load abcd", 'o'),
-        (b"load abcde", 'L'),
-        (b"delete abcd ('12345')", 'x'),
-        (b"delete abcde ('12345')", 'L'),
-        (b"delete abcd ('123456')", 'L'),
-    ];
     let Some(limits) = small(40, 1000) else {
         return Err(Fail::new("no limits"));
     };
-    for (line, want) in cases {
-        let got = letter(&parse_line(rt.alloc(), line, &limits));
-        assert_eq!(rt; got, want, "{line:?}");
-    }
-    // A line of 40 bytes and one of 41; the length comes before all else.
+    assert_letters(&rt, rt.alloc(), &limits, &SMALL_LINES);
+    Ok(())
+}
+
+/// A line of 40 bytes and one of 41; the length comes before all else.
+#[test]
+fn length_of_a_line(rt: HostRuntime) -> Result<(), Fail> {
+    let Some(limits) = small(40, 1000) else {
+        return Err(Fail::new("no limits"));
+    };
     let line: &[u8] = b"upsert a (1, 2, 3, 4, 5, 6, 7, 8, 9, 10)x";
-    assert_eq!(rt; letter(&parse_line(rt.alloc(), &line[..40], &limits)), 'u');
-    assert_eq!(rt; letter(&parse_line(rt.alloc(), line, &limits)), 'T');
+    let lines = [(&line[..40], 'u'), (line, 'T')];
+    assert_letters(&rt, rt.alloc(), &limits, &lines);
     Ok(())
 }
 
@@ -308,68 +314,77 @@ pub fn letter_of(given: Result<Option<Item>, ReadFault>) -> char {
 }
 
 /// The same of the reader's next item.
-pub fn next_letter<R: Read>(
-    alloc: std::alloc::Global,
-    reader: &mut CommandReader<R>,
-    limits: &Limits,
-) -> char {
+fn next_letter<R: Read>(alloc: Global, reader: &mut CommandReader<R>, limits: &Limits) -> char {
     letter_of(reader.next(alloc, limits))
 }
 
 /// Scripts under small limits, each with what every `next` of its reader gives.
-const SCRIPTS: [(&[u8], &[char]); 19] = [
-    (b"", &['.', '.']),
-    (b"\xEF\xBB\xBF", &['.']),
-    (b"\xEF\xBB\xBFupsert s (1)", &['u', '.', '.']),
-    (b"\xEF\xBB\xBF\xEF\xBB\xBFupsert s (1)", &['S', '.']),
-    (b"\n\r\n \t\n-- note\n  --\n", &['.']),
-    (b"upsert s (1)\r\nupsert s (2)\n", &['u', 'u', '.']),
-    (b"upsert s (1)\r", &['S', '.']),
-    (b"-\nshow s\n- -\n", &['S', 's', 'S', '.']),
+const SCRIPTS: [(&[u8], &str); 19] = [
+    (b"", ".."),
+    (b"\xEF\xBB\xBF", "."),
+    (b"\xEF\xBB\xBFupsert s (1)", "u.."),
+    (b"\xEF\xBB\xBF\xEF\xBB\xBFupsert s (1)", "S."),
+    (b"\n\r\n \t\n-- note\n  --\n", "."),
+    (b"upsert s (1)\r\nupsert s (2)\n", "uu."),
+    (b"upsert s (1)\r", "S."),
+    (b"-\nshow s\n- -\n", "SsS."),
     (
         b"                                              -- long\n                                              \nupsert s (1)",
-        &['u', '.'],
+        "u.",
     ),
     (
         b"upsert s (1, 1, 1, 1, 1, 1, 1, 1, 1, 1, 1)\nupsert s (1)",
-        &['T', 'u', '.'],
+        "Tu.",
     ),
-    (b"load s\nid\n\\.\nupsert s (1)", &['b', 'u', '.']),
-    (
-        b" \tLoad,\r\n\\\n\\.x\n\\.\r\nupsert s (1)",
-        &['S', 'u', '.'],
-    ),
-    (b"loads\nupsert s (1)", &['S', 'u', '.']),
-    (b"\"load\" s\nupsert s (1)", &['S', 'u', '.']),
-    (
-        b"load s\n-- note\n\n\\.\\.\nupsert s (1)\n\\. \n",
-        &['o', '.'],
-    ),
-    (b"load s\nupsert s (1)\n\\.", &['b', '.']),
-    (b"load s\nupsert s (1)\n\\.\r", &['o', '.']),
+    (b"load s\nid\n\\.\nupsert s (1)", "bu."),
+    (b" \tLoad,\r\n\\\n\\.x\n\\.\r\nupsert s (1)", "Su."),
+    (b"loads\nupsert s (1)", "Su."),
+    (b"\"load\" s\nupsert s (1)", "Su."),
+    (b"load s\n-- note\n\n\\.\\.\nupsert s (1)\n\\. \n", "o."),
+    (b"load s\nupsert s (1)\n\\.", "b."),
+    (b"load s\nupsert s (1)\n\\.\r", "o."),
     (
         b"load s -- and more than forty bytes of line\nid\n\\.\nupsert s (1)",
-        &['T', 'u', '.'],
+        "Tu.",
     ),
-    (b"create abcde (a int)\nupsert s (1)", &['L', 'u', '.']),
+    (b"create abcde (a int)\nupsert s (1)", "Lu."),
 ];
+
+/// What so many calls of `next` give.
+pub fn letters<R: Read>(
+    alloc: Global,
+    reader: &mut CommandReader<R>,
+    limits: &Limits,
+    count: usize,
+) -> Result<String, AllocError> {
+    let mut letters = String::new(alloc);
+    for _ in 0..count {
+        letters.push(next_letter(alloc, reader, limits))?;
+    }
+    Ok(letters)
+}
+
+/// Asserts that each script gives the items that stand beside it.
+fn assert_items(
+    rt: &impl Abort,
+    alloc: Global,
+    limits: &Limits,
+    scripts: &[(&[u8], &str)],
+) -> Result<(), Fail> {
+    for (script, wants) in scripts {
+        let mut reader = CommandReader::new(*script);
+        let found = letters(alloc, &mut reader, limits, wants.len())?;
+        assert_eq!(rt; found.as_str(), *wants, "{script:?}");
+    }
+    Ok(())
+}
 
 #[test]
 fn items_of_a_script(rt: HostRuntime) -> Result<(), Fail> {
     let Some(limits) = small(40, 1000) else {
         return Err(Fail::new("no limits"));
     };
-    for (script, wants) in SCRIPTS {
-        let mut reader = CommandReader::new(script);
-        for want in wants {
-            assert_eq!(rt;
-                next_letter(rt.alloc(), &mut reader, &limits),
-                *want,
-                "{script:?}"
-            );
-        }
-    }
-    Ok(())
+    assert_items(&rt, rt.alloc(), &limits, &SCRIPTS)
 }
 
 #[test]
@@ -379,13 +394,12 @@ fn limit_of_a_script(rt: HostRuntime) -> Result<(), Fail> {
         return Err(Fail::new("no limits"));
     };
     let mut reader = CommandReader::new(script);
-    for want in ['u', 'u', '.', '.'] {
-        assert_eq!(rt; next_letter(rt.alloc(), &mut reader, &whole), want);
-    }
+    assert_eq!(rt;
+        letters(rt.alloc(), &mut reader, &whole, 4)?.as_str(),
+        "uu.."
+    );
     let mut reader = CommandReader::new(script);
-    for want in ['u', 'F', 'F'] {
-        assert_eq!(rt; next_letter(rt.alloc(), &mut reader, &less), want);
-    }
+    assert_eq!(rt; letters(rt.alloc(), &mut reader, &less, 3)?.as_str(), "uFF");
     // A fault is for good, whatever limits come then.
     assert_eq!(rt; next_letter(rt.alloc(), &mut reader, &whole), 'F');
     Ok(())
@@ -398,18 +412,24 @@ fn pieces_of_any_size(rt: HostRuntime) -> Result<(), Fail> {
     let limits = Limits::greatest();
     for size in 1..50 {
         let mut reader = CommandReader::new(Pieces::of(SCRIPT, size));
-        for want in ['u', 's', 'u', '.', '.'] {
-            assert_eq!(rt;
-                next_letter(rt.alloc(), &mut reader, &limits),
-                want,
-                "{size}"
-            );
-        }
+        let found = letters(rt.alloc(), &mut reader, &limits, 5)?;
+        assert_eq!(rt; found.as_str(), "usu..", "{size}");
     }
     Ok(())
 }
 
-/// Each failing read is a fault for good; what came before it whole is answered.
+/// The items of that script where a read fails behind so many bytes: what came before it whole, and
+/// then a fault for good.
+fn until_a_fault(bytes: usize) -> &'static str {
+    match bytes {
+        0..=16 => "FF",
+        17..=31 => "uFF",
+        32..=44 => "usFF",
+        45 => "usuFF",
+        _ => "usu.FF",
+    }
+}
+
 #[test]
 fn failing_reads(rt: HostRuntime) -> Result<(), Fail> {
     let limits = Limits::greatest();
@@ -424,33 +444,9 @@ fn failing_reads(rt: HostRuntime) -> Result<(), Fail> {
                 ErrorKind::Other
             },
         });
-        // The bytes that come before the failing read.
-        let bytes = fails_at - 1;
-        for (letter, end) in [
-            ('u', 17),
-            ('s', 32),
-            ('u', SCRIPT.len() + 1),
-            ('.', SCRIPT.len() + 2),
-        ] {
-            if bytes < end {
-                break;
-            }
-            assert_eq!(rt;
-                next_letter(rt.alloc(), &mut reader, &limits),
-                letter,
-                "{fails_at}"
-            );
-        }
-        assert_eq!(rt;
-            next_letter(rt.alloc(), &mut reader, &limits),
-            'F',
-            "{fails_at}"
-        );
-        assert_eq!(rt;
-            next_letter(rt.alloc(), &mut reader, &limits),
-            'F',
-            "{fails_at}"
-        );
+        let wants = until_a_fault(fails_at - 1);
+        let found = letters(rt.alloc(), &mut reader, &limits, wants.len())?;
+        assert_eq!(rt; found.as_str(), wants, "{fails_at}");
     }
     Ok(())
 }

@@ -1,6 +1,6 @@
 //! Loads with their payloads, as a reader gives them. What is expected is written by hand.
 use crate::devices::Pieces;
-use crate::lines::{letter_of, next_letter, small};
+use crate::lines::{letter_of, letters, small};
 use gq_command::{Command, CommandReader, Item, Payload, ReadFault};
 use gq_row::Limits;
 use std::alloc::{AllocError, Global};
@@ -49,16 +49,16 @@ fn is_load(given: &Result<Option<Item>, ReadFault>, name: &str, bytes: &[u8]) ->
 }
 
 /// Asserts that a reader of pieces of this size gives the items.
-fn assert_gives(rt: &impl Abort, alloc: Global, size: usize) {
+fn assert_gives(rt: &impl Abort, alloc: Global, items: &[Wanted], size: usize) {
     let limits = Limits::greatest();
     let mut reader = CommandReader::new(Pieces::of(SCRIPT, size));
-    for wanted in ITEMS {
+    for wanted in items {
         let given = reader.next(alloc, &limits);
         match wanted {
             Wanted::Load(name, bytes) => {
                 assert!(rt; is_load(&given, name, bytes), "{name} by {size}");
             }
-            Wanted::Other(want) => assert_eq!(rt; letter_of(given), want, "{size}"),
+            Wanted::Other(want) => assert_eq!(rt; letter_of(given), *want, "{size}"),
         }
     }
 }
@@ -67,7 +67,7 @@ fn assert_gives(rt: &impl Abort, alloc: Global, size: usize) {
 #[test]
 fn cut_at_each_byte(rt: HostRuntime) -> Result<(), Fail> {
     for size in 1..SCRIPT.len().saturating_add(2) {
-        assert_gives(&rt, rt.alloc(), size);
+        assert_gives(&rt, rt.alloc(), &ITEMS, size);
     }
     Ok(())
 }
@@ -82,6 +82,29 @@ fn long(alloc: Global, lines: usize) -> Result<Vec<u8>, AllocError> {
     Ok(script)
 }
 
+/// Whether bytes are so many of its lines.
+fn are_lines(bytes: &[u8], lines: usize) -> bool {
+    let line: &[u8] = b"\\.345678\r\n";
+    bytes.len() / 10 == lines && bytes.chunks_exact(10).all(|chunk| chunk == line)
+}
+
+/// Whether a `next` gave a load of so many lines.
+fn is_long(given: &Result<Option<Item>, ReadFault>, lines: usize) -> bool {
+    match given {
+        Ok(
+            Some(
+                Item::Command(
+                    Command::Load {
+                        payload: Payload::Bytes(payload),
+                        ..
+                    },
+                ),
+            ),
+        ) => payload.len() % 10 == 0 && are_lines(payload.as_slice(), lines),
+        _ => false,
+    }
+}
+
 /// A payload that goes over many of the reader's buffers.
 #[test]
 fn longer_than_a_buffer(rt: HostRuntime) -> Result<(), Fail> {
@@ -91,29 +114,46 @@ fn longer_than_a_buffer(rt: HostRuntime) -> Result<(), Fail> {
     for size in [1, 7, 4096, 8191, 65536] {
         let mut reader = CommandReader::new(Pieces::of(script.as_slice(), size));
         let given = reader.next(rt.alloc(), &limits);
-        let Ok(
-            Some(
-                Item::Command(
-                    Command::Load {
-                        payload: Payload::Bytes(payload),
-                        ..
-                    },
-                ),
-            ),
-        ) = &given
-        else {
-            return Err(Fail::new("no load"));
-        };
-        assert_eq!(rt; payload.len(), 10 * LINES);
-        assert!(rt;
-            payload
-                .as_slice()
-                .chunks_exact(10)
-                .all(|line| line == b"\\.345678\r\n".as_slice()),
-            "{size}"
-        );
-        assert_eq!(rt; next_letter(rt.alloc(), &mut reader, &limits), 'u');
-        assert_eq!(rt; next_letter(rt.alloc(), &mut reader, &limits), '.');
+        assert!(rt; is_long(&given, LINES), "{size}");
+        let found = letters(rt.alloc(), &mut reader, &limits, 2)?;
+        assert_eq!(rt; found.as_str(), "u.", "{size}");
+    }
+    Ok(())
+}
+
+/// What stands before a payload's hundred bytes and behind them, and the items of such a script.
+const FRAMES: [(&[u8], &[u8], &str); 6] = [
+    (b"load s\n", b"\\.\nupsert s (1)", "bu."),
+    (b"load s\nx", b"\\.\nupsert s (1)", "tu."),
+    (b"load s,\nx", b"\\.\nupsert s (1)", "Su."),
+    (b"load abcde\n", b"\\.\nupsert s (1)", "Lu."),
+    (b"load s\nx", b"upsert s (1)\n\\. ", "o.."),
+    (b"load s\n", b"\\", "o.."),
+];
+
+/// A hundred bytes in lines, framed.
+fn framed(alloc: Global, front: &[u8], end: &[u8]) -> Result<Vec<u8>, AllocError> {
+    let mut script = Vec::from_slice(alloc, front)?;
+    for _ in 0..20 {
+        script.extend_from_slice(b"1234\n")?;
+    }
+    script.extend_from_slice(end)?;
+    Ok(script)
+}
+
+/// Asserts that each frame gives the items that stand beside it, in pieces of a size.
+fn assert_frames(
+    rt: &impl Abort,
+    alloc: Global,
+    limits: &Limits,
+    frames: &[(&[u8], &[u8], &str)],
+    size: usize,
+) -> Result<(), Fail> {
+    for (front, end, wants) in frames {
+        let script = framed(alloc, front, end)?;
+        let mut reader = CommandReader::new(Pieces::of(script.as_slice(), size));
+        let found = letters(alloc, &mut reader, limits, wants.len())?;
+        assert_eq!(rt; found.as_str(), *wants, "{front:?}, {size}");
     }
     Ok(())
 }
@@ -125,82 +165,44 @@ fn limit_of_a_payload(rt: HostRuntime) -> Result<(), Fail> {
     let Some(limits) = small(40, 1000) else {
         return Err(Fail::new("no limits"));
     };
-    let cases: [(&[u8], &[u8], [char; 3]); 6] = [
-        (b"load s\n", b"\\.\nupsert s (1)", ['b', 'u', '.']),
-        (b"load s\nx", b"\\.\nupsert s (1)", ['t', 'u', '.']),
-        (b"load s,\nx", b"\\.\nupsert s (1)", ['S', 'u', '.']),
-        (b"load abcde\n", b"\\.\nupsert s (1)", ['L', 'u', '.']),
-        (b"load s\nx", b"upsert s (1)\n\\. ", ['o', '.', '.']),
-        (b"load s\n", b"\\", ['o', '.', '.']),
-    ];
-    for (front, end, wants) in cases {
-        for size in [1, 7, 1000] {
-            let mut script = Vec::from_slice(rt.alloc(), front)?;
-            for _ in 0..20 {
-                script.extend_from_slice(b"1234\n")?;
-            }
-            script.extend_from_slice(end)?;
-            let mut reader = CommandReader::new(Pieces::of(script.as_slice(), size));
-            for want in wants {
-                assert_eq!(rt;
-                    next_letter(rt.alloc(), &mut reader, &limits),
-                    want,
-                    "{front:?}, {size}"
-                );
-            }
-        }
+    for size in [1, 7, 1000] {
+        assert_frames(&rt, rt.alloc(), &limits, &FRAMES, size)?;
     }
     Ok(())
 }
 
-/// Each failing read is a fault, in a payload too, and no part of the payload is given. So is the
-/// first byte past the script's limit.
+/// Each failing read is a fault, in a payload too, and no part of the payload is given. The mark's line
+/// ends with the fifteenth byte.
 #[test]
 fn faults_within_a_payload(rt: HostRuntime) -> Result<(), Fail> {
-    let script: &[u8] = b"load s\nid\n1\n\\.\nshow s";
+    let limits = Limits::greatest();
     for fails_at in 1..23 {
         let mut reader = CommandReader::new(Pieces {
-            bytes: script,
+            bytes: LOAD_AND_SHOW,
             size: 1,
             fails_at,
             error: ErrorKind::Other,
         });
-        // The mark's line ends with the fifteenth byte.
-        if fails_at > 15 {
-            assert_eq!(rt;
-                next_letter(rt.alloc(), &mut reader, &Limits::greatest()),
-                'b',
-                "{fails_at}"
-            );
-        }
-        assert_eq!(rt;
-            next_letter(rt.alloc(), &mut reader, &Limits::greatest()),
-            'F',
-            "{fails_at}"
-        );
-        assert_eq!(rt;
-            next_letter(rt.alloc(), &mut reader, &Limits::greatest()),
-            'F',
-            "{fails_at}"
-        );
+        let wants = if fails_at > 15 { "bFF" } else { "FF" };
+        let found = letters(rt.alloc(), &mut reader, &limits, wants.len())?;
+        assert_eq!(rt; found.as_str(), wants, "{fails_at}");
     }
+    Ok(())
+}
+
+const LOAD_AND_SHOW: &[u8] = b"load s\nid\n1\n\\.\nshow s";
+
+/// The first byte past the script's limit is a fault, too.
+#[test]
+fn a_script_limit_within_a_payload(rt: HostRuntime) -> Result<(), Fail> {
     for most in 1..21 {
         let Some(limits) = small(40, most) else {
             return Err(Fail::new("no limits"));
         };
-        let mut reader = CommandReader::new(Pieces::of(script, 3));
-        if most >= 15 {
-            assert_eq!(rt;
-                next_letter(rt.alloc(), &mut reader, &limits),
-                'b',
-                "{most}"
-            );
-        }
-        assert_eq!(rt;
-            next_letter(rt.alloc(), &mut reader, &limits),
-            'F',
-            "{most}"
-        );
+        let mut reader = CommandReader::new(Pieces::of(LOAD_AND_SHOW, 3));
+        let wants = if most >= 15 { "bF" } else { "F" };
+        let found = letters(rt.alloc(), &mut reader, &limits, wants.len())?;
+        assert_eq!(rt; found.as_str(), wants, "{most}");
     }
     Ok(())
 }

@@ -2,10 +2,12 @@
 use crate::devices::Pieces;
 use crate::engines::engine;
 use gq_command::parse_line;
-use gq_engine::{Refusal, Reply, Summary, reply_text};
+use gq_engine::{Engine, MemStore, Refusal, Reply, Summary, reply_text};
 use gq_row::{Limits, Value};
 use std::alloc::{AllocError, Global};
+use std::process::Abort;
 use std::test::Fail;
+use sw_probe::Fnv1a;
 
 /// Lines of a script, each with its reply.
 pub const STATIONS: [(&[u8], &[u8]); 5] = [
@@ -45,43 +47,88 @@ pub fn replies_to_front(alloc: Global, count: usize) -> Result<Vec<u8>, AllocErr
     Ok(replies)
 }
 
-#[test]
-fn a_run_counts_its_commands_and_refusals(rt: HostRuntime) -> Result<(), Fail> {
-    let cases: [(&[u8], &[u8], u64, u64); 4] = [
-        (b"", b"", 0, 0),
-        (b"\n-- nothing\n", b"", 0, 0),
-        (b"create t (a int)\nupsert t (1)\n", b"ok 0\nok 1\n", 2, 0),
-        (
-            b"creat t (a int)\ncreate t (a int)\nupsert u (1)\n",
-            b"err 1 Syntax\nok 0\nerr 3 NoTable\n",
-            3,
-            2,
-        ),
-    ];
+/// Scripts, what they write, how many commands they have, and how many of them are refused.
+const COUNTED: [(&[u8], &[u8], u64, u64); 4] = [
+    (b"", b"", 0, 0),
+    (b"\n-- nothing\n", b"", 0, 0),
+    (b"create t (a int)\nupsert t (1)\n", b"ok 0\nok 1\n", 2, 0),
+    (
+        b"creat t (a int)\ncreate t (a int)\nupsert u (1)\n",
+        b"err 1 Syntax\nok 0\nerr 3 NoTable\n",
+        3,
+        2,
+    ),
+];
+
+/// Asserts that each script writes and counts what stands beside it.
+fn assert_counted(rt: &impl Abort, alloc: Global, cases: &[(&[u8], &[u8], u64, u64)]) {
     for (script, due, commands, refused) in cases {
-        let mut engine = engine(rt.alloc(), Limits::greatest());
-        let mut written = Vec::new(rt.alloc());
-        let ended = engine.run(script, &mut written);
-        assert_eq!(rt; written.as_slice(), due);
-        assert!(rt; ended == Ok(Summary { commands, refused }), "{script:?}");
+        let mut engine = engine(alloc, Limits::greatest());
+        let mut written = Vec::new(alloc);
+        let ended = engine.run(*script, &mut written);
+        assert_eq!(rt; written.as_slice(), *due);
+        let summary = Summary {
+            commands: *commands,
+            refused: *refused,
+        };
+        assert!(rt; ended == Ok(summary), "{script:?}");
     }
-    Ok(())
 }
 
 #[test]
-fn tables_stay_from_run_to_run(rt: HostRuntime) -> Result<(), Fail> {
-    let mut engine = engine(rt.alloc(), Limits::greatest());
-    for (line, reply) in STATIONS {
-        let mut written = Vec::new(rt.alloc());
-        let ended = engine.run(line, &mut written);
-        assert_eq!(rt; written.as_slice(), reply);
-        assert!(rt;
-            ended
-                == Ok(Summary {
-                    commands: 1,
-                    refused: 0
+fn a_run_counts_its_commands_and_refusals(rt: HostRuntime) {
+    assert_counted(&rt, rt.alloc(), &COUNTED);
+}
+
+/// Asserts that each line is answered with the reply beside it, in a run of its own.
+fn assert_answers(rt: &impl Abort, alloc: Global, lines: &[(&[u8], &[u8])]) {
+    let mut engine = engine(alloc, Limits::greatest());
+    for (line, reply) in lines {
+        let mut written = Vec::new(alloc);
+        let ended = engine.run(*line, &mut written);
+        assert_eq!(rt; written.as_slice(), *reply);
+        let summary = Summary {
+            commands: 1,
+            refused: 0,
+        };
+        assert!(rt; ended == Ok(summary));
+    }
+}
+
+#[test]
+fn tables_stay_from_run_to_run(rt: HostRuntime) {
+    assert_answers(&rt, rt.alloc(), &STATIONS);
+}
+
+/// Whether a reply has one row, of `Rome` and 2, where it has rows.
+fn is_rome_twice(reply: &Reply) -> bool {
+    match reply {
+        Reply::Rows { header, rows } => {
+            header.len() == 2
+                && rows.len() == 1
+                && rows.as_slice().iter().all(|row| {
+                    matches!(row.cells(), [Value::Text(city), Value::Int(2)] if city.as_str() == "Rome")
                 })
-        );
+        }
+        _ => true,
+    }
+}
+
+/// Asserts that each line's command is carried out with the reply beside it.
+fn assert_carried_out(
+    rt: &impl Abort,
+    alloc: Global,
+    engine: &mut Engine<Fnv1a, MemStore>,
+    lines: &[(&[u8], &[u8])],
+) -> Result<(), Fail> {
+    let limits = Limits::greatest();
+    for (line, due) in lines {
+        let Ok(command) = parse_line(alloc, line, &limits) else {
+            return Err(Fail::new("a line says no command"));
+        };
+        let reply = engine.execute(command);
+        assert!(rt; !reply.is_refusal() && is_rome_twice(&reply));
+        assert_eq!(rt; reply_text(alloc, &reply)?.as_slice(), *due);
     }
     Ok(())
 }
@@ -90,23 +137,7 @@ fn tables_stay_from_run_to_run(rt: HostRuntime) -> Result<(), Fail> {
 fn commands_carried_out_one_by_one(rt: HostRuntime) -> Result<(), Fail> {
     let limits = Limits::greatest();
     let mut engine = engine(rt.alloc(), limits);
-    for (line, due) in STATIONS {
-        let Ok(command) = parse_line(rt.alloc(), line, &limits) else {
-            return Err(Fail::new("a line says no command"));
-        };
-        let reply = engine.execute(command);
-        assert!(rt; !reply.is_refusal());
-        assert_eq!(rt; reply_text(rt.alloc(), &reply)?.as_slice(), due);
-        if let Reply::Rows { header, rows } = &reply {
-            assert_eq!(rt; header.len(), 2);
-            assert_eq!(rt; rows.len(), 1);
-            for row in rows.as_slice() {
-                assert!(rt;
-                    matches!(row.cells(), [Value::Text(city), Value::Int(2)] if city.as_str() == "Rome")
-                );
-            }
-        }
-    }
+    assert_carried_out(&rt, rt.alloc(), &mut engine, &STATIONS)?;
     let Ok(command) = parse_line(rt.alloc(), b"upsert s (null, 'x')", &limits) else {
         return Err(Fail::new("a line says no command"));
     };
@@ -120,6 +151,7 @@ fn commands_carried_out_one_by_one(rt: HostRuntime) -> Result<(), Fail> {
             }
         )
     );
+    assert!(rt; reply.is_refusal());
     assert_eq!(rt;
         reply_text(rt.alloc(), &reply)?.as_slice(),
         b"err 8 NullKey\n".as_slice()

@@ -1,6 +1,6 @@
-//! A script of changes, and a grouping, while memory runs out. Each command is answered and carried
-//! out as over plain lists, or answered Memory, and then the tables are as before it.
-use crate::engines::engine_with;
+//! A script of changes while memory runs out. Each command is answered and carried out as over plain
+//! lists, or answered Memory, and then the tables are as before it.
+use crate::engines::{engine_with, joined};
 use gq_engine::{Engine, MemStore};
 use gq_row::{Key, Limits};
 use starved_tests::{POOL, POOLS, Starved};
@@ -39,9 +39,9 @@ fn is_refused(line: &[u8]) -> bool {
 }
 
 /// The commands that were not answered Memory, as a script.
-fn carried_out(alloc: Global, answers: &[u8]) -> Result<Vec<u8>, AllocError> {
+fn carried_out(alloc: Global, commands: &[&[u8]], answers: &[u8]) -> Result<Vec<u8>, AllocError> {
     let mut script = Vec::new(alloc);
-    for (command, line) in COMMANDS.iter().zip(answers.split(|byte| *byte == b'\n')) {
+    for (command, line) in commands.iter().zip(answers.split(|byte| *byte == b'\n')) {
         if !is_refused(line) {
             script.extend_from_slice(command)?;
         }
@@ -71,7 +71,7 @@ fn are_right<H: KeyHash<Key> + Copy>(
 ) -> Result<bool, AllocError> {
     let mut other = engine_with(alloc, hasher, Limits::greatest());
     let (mut due, mut shown, mut shown_due) = (Vec::new(alloc), Vec::new(alloc), Vec::new(alloc));
-    let _ = other.run(carried_out(alloc, answers)?.as_slice(), &mut due);
+    let _ = other.run(carried_out(alloc, &COMMANDS, answers)?.as_slice(), &mut due);
     let _ = engine.run(SHOWS, &mut shown);
     let _ = other.run(SHOWS, &mut shown_due);
     let is_as_due = kept(alloc, answers)?.as_slice() == due.as_slice();
@@ -86,10 +86,7 @@ fn starve<H: KeyHash<Key> + Copy>(
     alloc: Global,
     hasher: H,
 ) -> Result<usize, Fail> {
-    let mut script = Vec::new(alloc);
-    for command in COMMANDS {
-        script.extend_from_slice(command)?;
-    }
+    let script = joined(alloc, &COMMANDS)?;
     let mut answers = Vec::with_capacity(alloc, REPLIES)?;
     let mut first = engine_with(alloc, hasher, Limits::greatest());
     let _ = first.run(script.as_slice(), &mut answers);
@@ -131,74 +128,6 @@ fn under_fnv_1a(rt: HostRuntime) -> Result<(), Fail> {
 #[test]
 fn under_one_hash_for_all(rt: HostRuntime) -> Result<(), Fail> {
     let steps = starve(&rt, rt.alloc(), Constant(0))?;
-    assert!(rt; 10 < steps, "{steps} steps");
-    Ok(())
-}
-
-// Forty rows in seven groups, whose texts have blocks of their own.
-fn rows_to_group(alloc: Global) -> Result<Vec<u8>, AllocError> {
-    let mut script = Vec::new(alloc);
-    script.extend_from_slice(b"create t (n int, g int, city text, key (n))\nload t\nn,g,city\n")?;
-    for n in 0..40u64 {
-        let row = format!(in alloc; "{n},{},a city whose name is long {}\n", n % 7, n % 3)?;
-        script.extend_from_slice(row.as_bytes())?;
-    }
-    script.extend_from_slice(b"\\.\n")?;
-    Ok(script)
-}
-
-// What is asked of them.
-const GROUPS: &[u8] =
-    b"group t by g show count(*), sum(n), max(city), count(distinct city), min(city)\n";
-
-// The replies to those rows, and how that to the groups begins.
-const LOADED: &[u8] = b"ok 0\nok 40\n";
-
-const SEVEN: &[u8] = b"ok 7\n";
-
-// The reply where memory was wanting.
-const WANTING: &[u8] = b"err 15 Memory\n";
-
-/// Groups with a little memory, then with more and more, until the groups come; how often there was
-/// too little before that. Till then each answer is Memory, and then it is the whole reply.
-fn starve_groups<H: KeyHash<Key> + Copy>(
-    rt: &impl Abort,
-    alloc: Global,
-    hasher: H,
-) -> Result<usize, Fail> {
-    let mut engine = engine_with(alloc, hasher, Limits::greatest());
-    let mut due = Vec::new(alloc);
-    let _ = engine.run(rows_to_group(alloc)?.as_slice(), &mut due);
-    assert!(rt; due.as_slice() == LOADED);
-    due.clear();
-    let _ = engine.run(GROUPS, &mut due);
-    assert!(rt; due.as_slice().starts_with(SEVEN));
-    let mut answer = Vec::with_capacity(alloc, REPLIES)?;
-    let mut starved = Starved::new(alloc)?;
-    for step in 0..POOLS / 2 {
-        let left = starved.leave(alloc, STEP.saturating_mul(step))?;
-        answer.clear();
-        let ended = engine.run(GROUPS, &mut answer);
-        assert!(rt; ended.is_ok(), "step {step}");
-        if answer.as_slice() == due.as_slice() {
-            return Ok(step);
-        }
-        assert!(rt; answer.as_slice() == WANTING, "step {step}");
-        starved.end(alloc, left);
-    }
-    Err(Fail::new("memory was wanting to the end"))
-}
-
-#[test]
-fn groups_under_fnv_1a(rt: HostRuntime) -> Result<(), Fail> {
-    let steps = starve_groups(&rt, rt.alloc(), Fnv1a { seed: 0 })?;
-    assert!(rt; 10 < steps, "{steps} steps");
-    Ok(())
-}
-
-#[test]
-fn groups_under_one_hash_for_all(rt: HostRuntime) -> Result<(), Fail> {
-    let steps = starve_groups(&rt, rt.alloc(), Constant(0))?;
     assert!(rt; 10 < steps, "{steps} steps");
     Ok(())
 }

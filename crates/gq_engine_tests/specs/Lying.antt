@@ -1,0 +1,7 @@
+-- A store that may not read back what was written.
+use Rattle.std.specs.Prelude.{false}
+use Rattle.gq_spill.specs.Runs.{Runs}
+
+-- the runs of a store, of whose contents nothing is said
+abbrev pub lying : Runs → Runs
+lying runs = record { live = runs.live; content = runs.content; honest = false; made = runs.made; failures = runs.failures }

@@ -1,0 +1,258 @@
+//! Groups past an engine's budget: over stores that fail or lie, what is answered then, and that the
+//! tables are as before; and that the budget is the one that was handed in.
+use crate::engines::{engine_over, written_to};
+use crate::lying::{Altered, Swapped};
+use gq_engine::{MemStore, RunStore};
+use gq_row::Key;
+use gq_spill::{FuseStore, Trouble};
+use std::alloc::{AllocError, Global};
+use std::process::Abort;
+use std::test::Fail;
+use sw_probe::{Constant, Fnv1a, KeyHash, LowBits};
+
+const FAILED: &[u8] = b"err 16 StoreFault\n";
+
+const DAMAGED: &[u8] = b"err 17 Damaged\n";
+
+/// Five hundred rows, each of a number and its remainder by 50: the commands that make them, what
+/// shows them, and the reply to `GROUPS`.
+#[derive(Drop)]
+struct Fifty {
+    script: Vec<u8>,
+    shown: Vec<u8>,
+    groups: Vec<u8>,
+}
+
+const LOADED: &[u8] = b"ok 0\nok 500\n";
+
+const GROUPS: &[u8] = b"group b by g show count(*), sum(n)\n";
+
+/// The rows as lines of CSV.
+fn lines(alloc: Global) -> Result<String, AllocError> {
+    let mut out = String::new(alloc);
+    for n in 0..500u64 {
+        let g = n % 50;
+        out.push_str(format!(in alloc; "{n},{g}\n")?.as_str())?;
+    }
+    Ok(out)
+}
+
+impl Fifty {
+    fn new(alloc: Global) -> Result<Fifty, AllocError> {
+        let lines = lines(alloc)?;
+        let lines = lines.as_str();
+        let script = format!(in alloc;
+            "create b (n int, g int, key (n))\nload b\nn,g\n{lines}\\.\n"
+        )?;
+        let shown = format!(in alloc; "ok 500\nn,g\n{lines}")?;
+        let mut groups = String::from_str(alloc, "ok 50\ng,count(*),sum(n)\n")?;
+        for g in 0..50u64 {
+            let sum = 10 * g + 2250;
+            groups.push_str(format!(in alloc; "{g},10,{sum}\n")?.as_str())?;
+        }
+        Ok(Fifty {
+            script: script.into_bytes(),
+            shown: shown.into_bytes(),
+            groups: groups.into_bytes(),
+        })
+    }
+}
+
+/// What the groups of the rows are answered over a store, within a budget of so many groups. The rows
+/// are as before then.
+fn answer<H: KeyHash<Key> + Copy, S: RunStore + Drop>(
+    rt: &impl Abort,
+    alloc: Global,
+    fifty: &Fifty,
+    hasher: H,
+    store: S,
+    groups: u32,
+) -> Result<Vec<u8>, Fail> {
+    let mut engine = engine_over(alloc, hasher, store, groups)?;
+    let made = written_to(alloc, &mut engine, fifty.script.as_slice());
+    assert!(rt; made.as_slice() == LOADED);
+    let answer = written_to(alloc, &mut engine, GROUPS);
+    let shown = written_to(alloc, &mut engine, b"show b\n");
+    assert!(rt; shown.as_slice() == fifty.shown.as_slice());
+    Ok(answer)
+}
+
+/// Asserts that the groups come under a hasher within each budget.
+fn assert_groups<H: KeyHash<Key> + Copy>(
+    rt: &impl Abort,
+    alloc: Global,
+    fifty: &Fifty,
+    hasher: H,
+) -> Result<(), Fail> {
+    for groups in [1, 2, 49, 50, 65_536, 1_048_576] {
+        let answer = answer(rt, alloc, fifty, hasher, MemStore::new(alloc), groups)?;
+        assert!(rt; answer.as_slice() == fifty.groups.as_slice(), "{groups}");
+    }
+    Ok(())
+}
+
+#[test]
+fn fifty_groups_within_each_budget(rt: HostRuntime) -> Result<(), Fail> {
+    let alloc = rt.alloc();
+    let fifty = Fifty::new(alloc)?;
+    assert_groups(&rt, alloc, &fifty, Fnv1a { seed: 0 })?;
+    assert_groups(&rt, alloc, &fifty, Constant(0))?;
+    assert_groups(&rt, alloc, &fifty, Constant(u64::MAX))?;
+    assert_groups(&rt, alloc, &fifty, LowBits(0))?;
+    assert_groups(&rt, alloc, &fifty, LowBits(7))?;
+    assert_groups(&rt, alloc, &fifty, LowBits(11))
+}
+
+/// What is answered within a budget of ten over a store with some trouble.
+fn answer_troubled<H: KeyHash<Key> + Copy>(
+    rt: &impl Abort,
+    alloc: Global,
+    fifty: &Fifty,
+    hasher: H,
+    trouble: Trouble,
+) -> Result<Vec<u8>, Fail> {
+    let store = FuseStore::new(MemStore::new(alloc), trouble);
+    answer(rt, alloc, fifty, hasher, store, 10)
+}
+
+/// Asserts that the store's failure is told where a call from the first to the last fails, one in so many
+/// of them.
+fn assert_fails<H: KeyHash<Key> + Copy>(
+    rt: &impl Abort,
+    alloc: Global,
+    hasher: H,
+    first: u64,
+    last: u64,
+    step: usize,
+) -> Result<(), Fail> {
+    assert!(rt; 0 < step);
+    let fifty = Fifty::new(alloc)?;
+    for call in (first..=last).step_by(step) {
+        let answer = answer_troubled(rt, alloc, &fifty, hasher, Trouble::Fail(call))?;
+        assert!(rt; answer.as_slice() == FAILED, "call {call}");
+    }
+    Ok(())
+}
+
+/// The first reading makes a run and writes the ten rows of each of forty keys there, and the second
+/// reads it at once.
+#[test]
+fn calls_of_a_reading_fail(rt: HostRuntime) -> Result<(), Fail> {
+    let alloc = rt.alloc();
+    assert_fails(&rt, alloc, Constant(0), 1, 400, 3)?;
+    assert_fails(&rt, alloc, Constant(0), 401, 402, 1)
+}
+
+/// The first reading alone writes the ten rows of each of forty keys.
+#[test]
+fn calls_fail_under_fnv_1a(rt: HostRuntime) -> Result<(), Fail> {
+    assert_fails(&rt, rt.alloc(), Fnv1a { seed: 0 }, 2, 401, 3)
+}
+
+/// Four readings write the rows of forty, thirty, twenty and ten keys, and each of the four runs is made,
+/// and read at once.
+#[test]
+fn calls_of_later_readings_fail(rt: HostRuntime) -> Result<(), Fail> {
+    let alloc = rt.alloc();
+    let last = 4 + 1_000 + 4;
+    assert_fails(&rt, alloc, Constant(0), 403, last, 5)?;
+    assert_fails(&rt, alloc, Constant(0), last, last, 1)?;
+    let fifty = Fifty::new(alloc)?;
+    let answer = answer_troubled(&rt, alloc, &fifty, Constant(0), Trouble::Fail(last + 1))?;
+    assert!(rt; answer.as_slice() == fifty.groups.as_slice());
+    Ok(())
+}
+
+#[test]
+fn a_read_cut_short_is_damage(rt: HostRuntime) -> Result<(), Fail> {
+    let alloc = rt.alloc();
+    let fifty = Fifty::new(alloc)?;
+    let alike = answer_troubled(&rt, alloc, &fifty, Constant(0), Trouble::Short(1))?;
+    assert!(rt; alike.as_slice() == DAMAGED);
+    let spread = answer_troubled(&rt, alloc, &fifty, Fnv1a { seed: 0 }, Trouble::Short(1))?;
+    assert!(rt; spread.as_slice() == DAMAGED);
+    Ok(())
+}
+
+/// What is answered within a budget of one where a byte of the first run reads as another.
+fn answer_altered(rt: &impl Abort, alloc: Global, at: u64, by: u8) -> Result<Vec<u8>, Fail> {
+    let fifty = Fifty::new(alloc)?;
+    let store = Altered {
+        inner: MemStore::new(alloc),
+        run: 1,
+        at,
+        by,
+    };
+    answer(rt, alloc, &fifty, Constant(0), store, 1)
+}
+
+/// A record begins with its length in four bytes, and a byte that tells the kind of its first value: no
+/// record is so long, and none has such a kind. What follows is a number, as good as another.
+#[test]
+fn a_byte_that_reads_as_another(rt: HostRuntime) -> Result<(), Fail> {
+    let alloc = rt.alloc();
+    let long = answer_altered(&rt, alloc, 0, 128)?;
+    assert!(rt; long.as_slice() == DAMAGED);
+    let of_no_kind = answer_altered(&rt, alloc, 4, 64)?;
+    assert!(rt; of_no_kind.as_slice() == DAMAGED);
+    let other = answer_altered(&rt, alloc, 12, 1)?;
+    assert!(rt; other.as_slice().starts_with(b"ok ") || other.as_slice().starts_with(b"err "));
+    Ok(())
+}
+
+#[test]
+fn runs_that_read_as_each_other(rt: HostRuntime) -> Result<(), Fail> {
+    let alloc = rt.alloc();
+    let fifty = Fifty::new(alloc)?;
+    let swapped = answer(&rt, alloc, &fifty, Constant(0), Swapped::new(alloc), 1)?;
+    assert!(rt; swapped.as_slice().starts_with(b"ok ") || swapped.as_slice().starts_with(b"err "));
+    Ok(())
+}
+
+const THREE: &[u8] = b"create a (k int, x int)\nload a\nk,x\n1,1\n2,1\n3,1\n\\.\n";
+
+/// What a query of three rows is answered within a budget, over a store whose call of a number fails.
+fn of_three(alloc: Global, query: &[u8], groups: u32, call: u64) -> Result<Vec<u8>, Fail> {
+    let store = FuseStore::new(MemStore::new(alloc), Trouble::Fail(call));
+    let mut engine = engine_over(alloc, Constant(0), store, groups)?;
+    let _ = written_to(alloc, &mut engine, THREE);
+    Ok(written_to(alloc, &mut engine, query))
+}
+
+/// Asserts that a query of three rows needs as many calls of the store as those before one, within a
+/// budget of three groups and of the most, and more of them within one and two.
+fn assert_budget_counts(
+    rt: &impl Abort,
+    alloc: Global,
+    query: &[u8],
+    reply: &[u8],
+    call: u64,
+) -> Result<(), Fail> {
+    for groups in [3, 65_536, 1_048_576] {
+        let within = of_three(alloc, query, groups, call)?;
+        assert_eq!(rt; within.as_slice(), reply, "{groups}");
+    }
+    for groups in [1, 2] {
+        let past = of_three(alloc, query, groups, call)?;
+        assert_eq!(rt; past.as_slice(), FAILED, "{groups}");
+    }
+    Ok(())
+}
+
+/// Three groups go to no run where there is place for them, and otherwise do. The values that are
+/// counted go to a run in any case: it is made, three pairs are written, and it is read.
+#[test]
+fn three_groups_within_a_budget_and_past_it(rt: HostRuntime) -> Result<(), Fail> {
+    let alloc = rt.alloc();
+    let counts = b"ok 3\nk,count(*)\n1,1\n2,1\n3,1\n";
+    assert_budget_counts(&rt, alloc, b"group a by k show count(*)\n", counts, 1)?;
+    assert_budget_counts(&rt, alloc, b"distinct a on k\n", b"ok 3\nk\n1\n2\n3\n", 1)?;
+    let values = b"ok 3\nk,count(distinct x)\n1,1\n2,1\n3,1\n";
+    assert_budget_counts(
+        &rt,
+        alloc,
+        b"group a by k show count(distinct x)\n",
+        values,
+        1 + 3 + 1 + 1,
+    )
+}

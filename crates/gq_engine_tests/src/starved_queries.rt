@@ -1,0 +1,184 @@
+//! Queries while memory runs out: of forty rows, each is answered as with memory to spare, or answered
+//! Memory, and the tables are as before.
+use crate::engines::{engine_over, written_to};
+use gq_engine::MemStore;
+use gq_row::Key;
+use starved_tests::{POOL, POOLS, Starved};
+use std::alloc::{AllocError, Global};
+use std::process::Abort;
+use std::test::Fail;
+use sw_probe::{Constant, Fnv1a, KeyHash};
+
+// By how many bytes what is left grows with each step.
+const STEP: usize = 96;
+
+// More bytes than all replies have.
+const REPLIES: usize = 4_000;
+
+// The reply where memory was wanting.
+const WANTING: &[u8] = b"err 15 Memory\n";
+
+const EMPTY: &[u8] = b"create t (n int, g int, x int, city text, key (n))\nload t\nn,g,x,city\n";
+
+const OTHERS: &[u8] =
+    b"\\.\ncreate u (m int, k int, key (m))\nload u\nm,k\n1,1\n2,\n3,4\n4,9\n\\.\n";
+
+const LOADED: &[u8] = b"ok 0\nok 40\nok 0\nok 4\n";
+
+const SHOWS: &[u8] = b"show t\nshow u\n";
+
+/// A command and its reply.
+type Query<'a> = (&'a [u8], &'a [u8]);
+
+const QUERIES: [Query; 9] = [
+    (
+        b"group t by n show count(*), sum(n)\n",
+        b"ok 40\nn,count(*),sum(n)\n0,1,0\n1,1,1\n2,1,2\n3,1,3\n4,1,4\n5,1,5\n6,1,6\n7,1,7\n8,1,8\n9,1,9\n10,1,10\n11,1,11\n12,1,12\n13,1,13\n14,1,14\n15,1,15\n16,1,16\n17,1,17\n18,1,18\n19,1,19\n20,1,20\n21,1,21\n22,1,22\n23,1,23\n24,1,24\n25,1,25\n26,1,26\n27,1,27\n28,1,28\n29,1,29\n30,1,30\n31,1,31\n32,1,32\n33,1,33\n34,1,34\n35,1,35\n36,1,36\n37,1,37\n38,1,38\n39,1,39\n",
+    ),
+    (
+        b"group t by g show count(*), sum(n), max(city), count(distinct city), min(city)\n",
+        b"ok 7\ng,count(*),sum(n),max(city),count(distinct city),min(city)\n0,6,105,a city whose name is long 2,3,a city whose name is long 0\n1,6,111,a city whose name is long 2,3,a city whose name is long 0\n2,6,117,a city whose name is long 2,3,a city whose name is long 0\n3,6,123,a city whose name is long 2,3,a city whose name is long 0\n4,6,129,a city whose name is long 2,3,a city whose name is long 0\n5,5,95,a city whose name is long 2,3,a city whose name is long 0\n6,5,100,a city whose name is long 2,3,a city whose name is long 0\n",
+    ),
+    (
+        b"group t by g show count(*), sum(x), min(x), max(city) where n >= 10 and x is not null\n",
+        b"ok 7\ng,count(*),sum(x),min(x),max(city)\n0,3,-33,-18,a city whose name is long 2\n1,3,-57,-26,a city whose name is long 2\n2,3,-46,-27,a city whose name is long 2\n3,4,-70,-28,a city whose name is long 2\n4,4,-60,-29,a city whose name is long 2\n5,4,-50,-23,a city whose name is long 2\n6,3,-44,-24,a city whose name is long 1\n",
+    ),
+    (
+        b"group t by g show count(*), sum(n) having count(*) > 5 and sum(n) <> 105\n",
+        b"ok 4\ng,count(*),sum(n)\n1,6,111\n2,6,117\n3,6,123\n4,6,129\n",
+    ),
+    (
+        b"group t by city show count(*), count(distinct g) exists u (k) = (g)\n",
+        b"ok 3\ncity,count(*),count(distinct g)\na city whose name is long 0,4,2\na city whose name is long 1,4,2\na city whose name is long 2,4,2\n",
+    ),
+    (
+        b"group t show count(*), sum(n), min(city) where x < 0 not exists u (k) = (g)\n",
+        b"ok 1\ncount(*),sum(n),min(city)\n17,413,a city whose name is long 0\n",
+    ),
+    (
+        b"group t show count(*) having count(*) > 100\n",
+        b"ok 0\ncount(*)\n",
+    ),
+    (
+        b"distinct t on city\n",
+        b"ok 3\ncity\na city whose name is long 0\na city whose name is long 1\na city whose name is long 2\n",
+    ),
+    (
+        b"distinct t on g where n > 30 and x <= -24\n",
+        b"ok 5\ng\n1\n2\n3\n4\n6\n",
+    ),
+];
+
+/// A row of a number, its remainder by 7, ten less the number, or null where 5 divides it, and a text
+/// with a block of its own, of which there are three.
+fn row(alloc: Global, n: i64) -> Result<String, AllocError> {
+    let (g, city) = (n % 7, n % 3);
+    let mut x = String::new(alloc);
+    if n % 5 != 0 {
+        let less = 10i64.saturating_sub(n);
+        x = format!(in alloc; "{less}")?;
+    }
+    let x = x.as_str();
+    format!(in alloc; "{n},{g},{x},a city whose name is long {city}\n")
+}
+
+/// The commands that make the tables.
+fn tables(alloc: Global) -> Result<Vec<u8>, AllocError> {
+    let mut script = Vec::from_slice(alloc, EMPTY)?;
+    for n in 0..40i64 {
+        script.extend_from_slice(row(alloc, n)?.as_bytes())?;
+    }
+    script.extend_from_slice(OTHERS)?;
+    Ok(script)
+}
+
+/// The queries, one after the other.
+fn script_of(alloc: Global, queries: &[Query]) -> Result<Vec<u8>, AllocError> {
+    let mut script = Vec::new(alloc);
+    for (query, _reply) in queries {
+        script.extend_from_slice(query)?;
+    }
+    Ok(script)
+}
+
+/// How many of the queries were answered Memory, where each other was answered as it must be.
+fn refused_of(queries: &[Query], answers: &[u8]) -> Option<usize> {
+    let mut left = answers;
+    let mut refused = 0usize;
+    for (_query, reply) in queries {
+        left = match left.strip_prefix(reply) {
+            Some(rest) => rest,
+            None => {
+                refused = refused.saturating_add(1);
+                left.strip_prefix(WANTING)?
+            }
+        };
+    }
+    if left.is_empty() { Some(refused) } else { None }
+}
+
+/// Asks with a little memory, then with more and more, until all replies come; how often there was too
+/// little before that. All is asked once with memory to spare before, so that the stack has grown as
+/// far as that takes it.
+fn starve<H: KeyHash<Key> + Copy>(
+    rt: &impl Abort,
+    alloc: Global,
+    hasher: H,
+    groups: u32,
+) -> Result<usize, Fail> {
+    let mut engine = engine_over(alloc, hasher, MemStore::new(alloc), groups)?;
+    let made = written_to(alloc, &mut engine, tables(alloc)?.as_slice());
+    assert!(rt; made.as_slice() == LOADED);
+    let shown = written_to(alloc, &mut engine, SHOWS);
+    let script = script_of(alloc, &QUERIES)?;
+    let mut answers = Vec::with_capacity(alloc, REPLIES)?;
+    let _ = engine.run(script.as_slice(), &mut answers);
+    assert_eq!(rt; refused_of(&QUERIES, answers.as_slice()), Some(0));
+    let mut starved = Starved::new(alloc)?;
+    for step in 0..POOLS / 2 {
+        let left = starved.leave(alloc, STEP.saturating_mul(step))?;
+        answers.clear();
+        let ended = engine.run(script.as_slice(), &mut answers);
+        assert!(rt; ended.is_ok(), "step {step}");
+        let spare = starved.leave(alloc, POOL)?;
+        let still = written_to(alloc, &mut engine, SHOWS);
+        assert!(rt; still.as_slice() == shown.as_slice(), "step {step}");
+        drop(still);
+        match refused_of(&QUERIES, answers.as_slice()) {
+            Some(0) => return Ok(step),
+            Some(_) => {}
+            None => return Err(Fail::new("a query has a wrong answer")),
+        }
+        starved.end(alloc, spare);
+        starved.end(alloc, left);
+    }
+    Err(Fail::new("memory was wanting to the end"))
+}
+
+#[test]
+fn one_group_at_once_under_fnv_1a(rt: HostRuntime) -> Result<(), Fail> {
+    let steps = starve(&rt, rt.alloc(), Fnv1a { seed: 0 }, 1)?;
+    assert!(rt; 10 < steps, "{steps} steps");
+    Ok(())
+}
+
+#[test]
+fn one_group_at_once_under_one_hash_for_all(rt: HostRuntime) -> Result<(), Fail> {
+    let steps = starve(&rt, rt.alloc(), Constant(0), 1)?;
+    assert!(rt; 10 < steps, "{steps} steps");
+    Ok(())
+}
+
+#[test]
+fn seven_groups_at_once_under_fnv_1a(rt: HostRuntime) -> Result<(), Fail> {
+    let steps = starve(&rt, rt.alloc(), Fnv1a { seed: 0 }, 7)?;
+    assert!(rt; 10 < steps, "{steps} steps");
+    Ok(())
+}
+
+#[test]
+fn seven_groups_at_once_under_one_hash_for_all(rt: HostRuntime) -> Result<(), Fail> {
+    let steps = starve(&rt, rt.alloc(), Constant(0), 7)?;
+    assert!(rt; 10 < steps, "{steps} steps");
+    Ok(())
+}
