@@ -1,7 +1,8 @@
 //! Worked scripts and their replies. Each name in `data/names` is a script `NAME.gq`, which an
 //! engine runs with the greatest limits, and the bytes `NAME.out` that it must write: under FNV-1a
-//! with two seeds, under one hash for all keys, and under few bits of a hash, each with a budget of
-//! 1 and of 65,536. A new example is two files and a name in the list.
+//! with two seeds, under one hash for all keys, the least and the greatest, and under none, 7 and 11
+//! bits of a hash, each within a budget of 1, 2, 7 and 65,536. A new example is two files and a name in
+//! the list.
 //!
 //! Its standard output has a line `NAME ok` for each, so a reply that is not as it should be shows as
 //! `NAME WRONG`.
@@ -34,12 +35,14 @@ fn writes_within<H: KeyHash<Key> + Copy>(
     written.as_slice() == due
 }
 
-/// The same, under the least budget and under another.
+/// The same, within each budget.
 fn writes<H: KeyHash<Key> + Copy>(alloc: Global, hasher: H, script: &[u8], due: &[u8]) -> bool {
-    [1, 65_536].into_iter().all(|entries| match Budget::new(entries) {
-        Some(budget) => writes_within(alloc, hasher, budget, script, due),
-        None => false,
-    })
+    [1, 2, 7, 65_536]
+        .into_iter()
+        .all(|entries| match Budget::new(entries) {
+            Some(budget) => writes_within(alloc, hasher, budget, script, due),
+            None => false,
+        })
 }
 
 fn is_right(rt: &(impl Files + AllocGlobal), name: &str) -> io::Result<bool> {
@@ -51,7 +54,10 @@ fn is_right(rt: &(impl Files + AllocGlobal), name: &str) -> io::Result<bool> {
         writes(alloc, Fnv1a { seed: 0 }, script, due)
             && writes(alloc, Fnv1a { seed: u64::MAX }, script, due)
             && writes(alloc, Constant(0), script, due)
-            && writes(alloc, LowBits(7), script, due),
+            && writes(alloc, Constant(u64::MAX), script, due)
+            && writes(alloc, LowBits(0), script, due)
+            && writes(alloc, LowBits(7), script, due)
+            && writes(alloc, LowBits(11), script, due),
     )
 }
 
