@@ -86,7 +86,7 @@ impl Agg {
 
     /// Adds a value. It takes memory only where a text becomes the least or the greatest. Refused,
     /// the aggregate is as it was.
-    #[inline]
+    #[inline(always)]
     pub fn add(&mut self, value: &Value) -> Result<(), AllocError>
         requires few { self.old.adds < 2 ^ 32 }
         requires fits { IsTrue (takes (kind_of self.old.state) value.now) }

@@ -7,7 +7,7 @@ ghost use Rattle.gq_engine.specs.Loading.{bytes_told, fault_refusal, is_lost, nu
 ghost use Rattle.gq_engine.specs.Staging.{HasStaged};
 
 use gq_command::Payload;
-use gq_load::{LoadRefusal, RowReader, line_ends};
+use gq_load::{LoadRefusal, RowReader};
 use gq_reply::{Refusal, Refused};
 use gq_row::{Key, Limits, Row, Sequence};
 use gq_table::Table;
@@ -50,7 +50,8 @@ pub fn stage<H: KeyHash<Key> + Copy>(
         Ok(reader) => reader,
         Err(fault) => return Err(refused_by(fault)),
     };
-    let mut staged = table.new_like(line_ends(bytes).min(limits.bounds.rows))?;
+    // It grows as keys come: records may share theirs, and rows that lie close are found faster.
+    let mut staged = table.new_like(0)?;
     let count = stage_rows(alloc, &mut reader, &mut staged, limits)?;
     Ok((staged, count))
 }

@@ -192,6 +192,16 @@ fewer_keys p rows out are =
     let fewer = (laid_out p rows).are.no_more in
     omega (arith, long, laid, fewer)
 
+-- as many keys as different pairs
+pub as_many_keys : (p : Pairing) (rows : List (List Value)) (out : List Group) → AreGroups (pairs_of p.by p.column) rows out → length (keys_in out) ≡ length (keys_of (with_column p.by p.column) rows)
+as_many_keys p rows out are =
+    let spec = pairs_of p.by p.column in
+    let long = length_permutation (groups spec rows) (map answered out) are in
+    let asked = length-map (keys_of spec.by rows) (group_of spec rows) in
+    let told = length-map out answered in
+    let keyed = length-map out (λ (g : Group). g.0) in
+    omega (arith, long, asked, told, keyed)
+
 -- each has as many columns as were named
 pub widths_in : (p : Pairing) (rows : List (List Value)) (out : List Group) → AreGroups (pairs_of p.by p.column) rows out → All (λ key. length key ≡ length p.by + 1) (keys_in out)
 widths_in p rows out are = All-permutation (λ (key : List Value). length key ≡ length p.by + 1) (map (paired p) (laid_out p rows).firsts) (keys_in out) (moved_keys p rows out are) (wide (laid_out p rows).firsts)

@@ -1,11 +1,13 @@
 -- Two phases with a run between them: whose runs are left alone.
-use Rattle.std.proofs.Common.{◌≡◌, ◌||◌, ℕ, Bool, true, false, Result, Ok, Err, refl, sym, ap, subst, ◌∙◌, inl, inr}
+use Rattle.std.proofs.Common.{◌≡◌, ◌+◌, ◌||◌, ℕ, Bool, true, false, Result, Ok, Err, refl, sym, ap, subst, ◌∙◌, inl, inr, arith}
 use Rattle.std.specs.Prelude.{IsTrue, OnOk, IfOk}
 use Rattle.gq_spill.specs.Runs.{Runs}
 use Rattle.gq_group.specs.Access.{RunSet, either, Apart, LeavesOthers, KeepsOwn, HasCause, GroupCause}
 use Rattle.gq_group.specs.Phases.{blamed_as}
 use Rattle.gq_group.specs.Slots.{Gone}
 use Rattle.gq_group.specs.RunSources.{only, same_number, equal_number}
+use Rattle.gq_group.specs.Work.{Spills, SpillsTwice}
+use Rattle.gq_group.specs.declared.grouping.Spent.{Spent}
 use Rattle.gq_group.specs.declared.refusal.Refusal.{Refusal}
 use Rattle.gq_group.specs.declared.refusal.Refusal.TheVariants.{SumRange, Memory, StoreFault, Damaged}
 use Rattle.gq_group.proofs.AccessLemmas.{or_in, or_left, or_right, leaves-trans, leaves-both}
@@ -123,3 +125,23 @@ on_ok_both P Q R (Err e) p q f = tt
 pub if_ok_both : {T E : Type 0} (P Q R : T → Type 0) (result : Result T E) → IfOk result P → IfOk result Q → ((x : T) → P x → Q x → R x) → IfOk result R
 if_ok_both P Q R (Ok x) p q f = f x p q
 if_ok_both P Q R (Err e) p q f = tt
+
+-- what two groupings took, where the second reads what the first gave
+pub taken_twice : {E : Type 0} (budget : ℕ) (first second : Spent) (result : Result Spent E) → Spills budget first → Spills budget second → second.rows_read ≡ first.groups
+    → IfOk result (λ spent. spent.rows_read ≡ first.rows_read)
+    → IfOk result (λ spent. spent.rows_written ≡ first.rows_written + second.rows_read + second.rows_written)
+    → IfOk result (λ spent. spent.groups ≡ second.groups)
+    → IfOk result (λ spent. spent.runs ≡ 1 + first.runs + second.runs)
+    → IfOk result (λ spent. SpillsTwice budget spent)
+taken_twice budget first second (Ok spent) of_first of_second between read written groups runs = record {
+  pairs = first;
+  counts = second;
+  of_pairs = of_first;
+  of_counts = of_second;
+  read = read;
+  between = between;
+  groups = groups;
+  written = written ∙ ap (λ n. first.rows_written + n + second.rows_written) between;
+  runs = omega (arith, runs);
+}
+taken_twice budget first second (Err e) of_first of_second between read written groups runs = tt

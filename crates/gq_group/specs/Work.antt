@@ -12,3 +12,16 @@ pub record Spills (budget : ℕ) (spent : Spent) : Type 0 where
   pub by_rows : spent.groups ≤ budget + spent.rows_written
   pub few_rows : spent.rows_written ≤ spent.rows_read * ((spent.groups - 1) / budget)
   pub few_runs : spent.runs ≤ spent.groups - budget
+
+-- Different values are counted by two groupings: the different pairs of a key and a value are grouped first, and all written to a run
+-- of their own; these are then grouped by their keys.
+pub record SpillsTwice (budget : ℕ) (spent : Spent) : Type 0 where
+  pub pairs : Spent
+  pub counts : Spent
+  pub of_pairs : Spills budget pairs
+  pub of_counts : Spills budget counts
+  pub read : spent.rows_read ≡ pairs.rows_read
+  pub between : counts.rows_read ≡ pairs.groups
+  pub groups : spent.groups ≡ counts.groups
+  pub written : spent.rows_written ≡ pairs.rows_written + pairs.groups + counts.rows_written
+  pub runs : spent.runs ≡ pairs.runs + 1 + counts.runs

@@ -8,6 +8,7 @@ ghost use Rattle.gq_group.specs.Distinct.{PushesDistinct, with_column, all_have}
 ghost use Rattle.gq_group.specs.Groups.{Group, keys_of, Pushes, OneWidth};
 ghost use Rattle.gq_group.specs.Phases.{pairs_of, counts_of, blamed_as, CanWrite};
 ghost use Rattle.gq_group.specs.RunSources.{only};
+ghost use Rattle.gq_group.specs.Work.{Spills, SpillsTwice};
 
 use crate::budget::Budget;
 use crate::group_sink::GroupSink;
@@ -59,6 +60,8 @@ fn blamed(refusal: Refusal) -> Refusal
 // What both phases took, and the run between them. No count is told past 64 bits.
 fn in_all(first: Spent, second: Spent) -> Result<Spent, Refusal>
     ensures read { IfOk result (λ spent. spent.rows_read ≡ first.rows_read) }
+    ensures written { IfOk result (λ spent. spent.rows_written ≡
+        first.rows_written + second.rows_read + second.rows_written) }
     ensures groups { IfOk result (λ spent. spent.groups ≡ second.groups) }
     ensures runs { IfOk result (λ spent. spent.runs ≡ 1 + first.runs + second.runs) }
     ensures cause { IfErr result (λ e. e ≡ Refusal.Memory) }
@@ -109,7 +112,10 @@ fn count_pairs<H: KeyHash<Key> + Copy, S: RunStore, K: GroupSink<S>>(
     ensures count { IsTrue (S.runs store.old).honest →
         IfOk result (λ spent. (pairs : List (List Cell)) →
         Left (opened mark (columns + 1)) (S.runs store.old) pairs →
-        spent.groups ≡ length (keys_of (counts_of columns).by pairs)) }
+        (spent.rows_read ≡ length pairs)
+        × (spent.groups ≡ length (keys_of (counts_of columns).by pairs))) }
+    ensures spills { IsTrue (S.runs store.old).honest →
+        IfOk result (λ spent. Spills budget.entries spent) }
     ensures made { K.makes_runs ≡ false →
         IfOk result (λ spent. (S.runs store.new).made ≡ (S.runs store.old).made + spent.runs) }
     ensures others { LeavesOthers (either (only mark.id.number) (K.owns sink.old)) (either
@@ -168,6 +174,8 @@ fn count_in_run<H: KeyHash<Key> + Copy, S: RunStore, R: RowSource<S>, K: GroupSi
         IfOk result (λ spent. (rows : List (List Cell)) →
         R.gives source.old (S.runs store.old) rows
         → (spent.rows_read ≡ length rows) × (spent.groups ≡ length (keys_of by.now rows))) }
+    ensures spills { IsTrue (S.runs store.old).honest →
+        IfOk result (λ spent. SpillsTwice budget.entries spent) }
     ensures made { R.makes_runs ≡ false → K.makes_runs ≡ false → IfOk result (λ spent.
         (S.runs store.new).made + 1 ≡ (S.runs store.old).made + spent.runs) }
     ensures others { LeavesOthers
@@ -236,6 +244,8 @@ pub fn group_distinct<H: KeyHash<Key> + Copy, S: RunStore, R: RowSource<S>, K: G
         IfOk result (λ spent. (rows : List (List Cell)) →
         R.gives source.old (S.runs store.old) rows
         → (spent.rows_read ≡ length rows) × (spent.groups ≡ length (keys_of by.now rows))) }
+    ensures spills { IsTrue (S.runs store.old).honest →
+        IfOk result (λ spent. SpillsTwice budget.entries spent) }
     ensures made { R.makes_runs ≡ false → K.makes_runs ≡ false →
         IfOk result (λ spent. (S.runs store.new).made ≡ (S.runs store.old).made + spent.runs) }
     ensures others { LeavesOthers (either (R.owns source.old) (K.owns sink.old)) (either

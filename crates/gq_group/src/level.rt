@@ -69,6 +69,7 @@ fn place_at(level: u32, hash: u64) -> usize
 }
 
 // Puts a row into its group, or into the run of its class.
+#[inline(always)]
 fn place_row<H: KeyHash<Key> + Copy, S: RunStore>(
     alloc: Global,
     spec: &GroupSpec,

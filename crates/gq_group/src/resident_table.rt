@@ -53,6 +53,7 @@ impl<H: KeyHash<Key> + Copy> ResidentTable<H> {
 
     // Groups one row more where its key has a group, or where there is space for one more: one
     // look-up, by one hash, tells.
+    #[inline(always)]
     pub(crate) fn offer(
         &mut self,
         alloc: Global,

@@ -15,6 +15,7 @@ use std::alloc::{AllocError, Global};
 /// The row of a data record. A text has at most `longest` bytes; `number` is that of the record;
 /// the row takes the memory of `spare`, where that is enough.
 #[tactic(auto, unfolding(crate::specs::Payloads::row_of, crate::specs::Payloads::keyed))]
+#[inline(always)]
 pub(crate) fn row_of(
     alloc: Global,
     schema: &Schema,

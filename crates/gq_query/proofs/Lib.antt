@@ -1,3 +1,4 @@
+pub mod Inserting
 pub mod Joined
 pub mod KeepingLemmas
 pub mod OrderingLemmas

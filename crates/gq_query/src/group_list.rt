@@ -1,5 +1,5 @@
 //! A list of groups as a sink.
-ghost use Rattle.std.specs.Prelude.{◌≡◌, [], OnOk, IfOk, insert, map};
+ghost use Rattle.std.specs.Prelude.{◌≡◌, ◌++◌, ◌∷◌, [], OnOk, IfOk, insert, map};
 ghost use Rattle.gq_query.specs.Joining.{first_of, row_of};
 
 use gq_group::{GroupSink, Refusal};
@@ -8,33 +8,50 @@ use gq_spill::RunStore;
 use std::alloc::{AllocError, Global};
 use std::marker::Model;
 
-/// A key, and what is shown of the rows that have it.
+/// A key, and what is shown of the rows that have it, in one list: the cells of the result row.
 #[derive(Drop)]
 pub struct GroupValues {
-    key: Key,
-    values: Vec<Value>,
+    cells: Vec<Value>,
+    // How many of the cells are the key's.
+    columns: usize,
 }
 
 impl Model for GroupValues {
+    ghost use Rattle.std.specs.Prelude.{◌≤◌, length, take, drop};
     ghost use Rattle.gq_group.specs.Groups.{Group};
 
     ghost Value = { Group };
 
-    ghost view = { λ g. (g.key, g.values.items) };
+    ghost view = { λ g. (take g.columns g.cells.items, drop g.columns g.cells.items) };
+
+    ghost invariant = { λ g. g.columns ≤ length g.cells.items };
 }
 
 impl GroupValues {
-    pub fn key(&self) -> &Key
-        ensures { result.now ≡ self.now.0 }
+    // The values move, behind those of the key.
+    fn new(alloc: Global, key: Key, values: Vec<Value>) -> Result<GroupValues, AllocError>
+        ensures { IfOk result (λ group. group ≡ (key, values.items)) }
     {
-        &self.key
+        let mut values = values;
+        let columns = key.len();
+        let mut cells = key.into_values(alloc, values.len())?;
+        cells.append(&mut values)?;
+        Ok(GroupValues { cells, columns })
     }
 
-    /// Its first value, or null where it has none.
+    /// The values of the key.
+    pub fn key(&self) -> &[Value]
+        ensures { result.now ≡ self.now.0 }
+    {
+        let (key, _values) = self.cells.split_at(self.columns);
+        key
+    }
+
+    /// Its first value behind the key, or null where it has none.
     pub fn first(&self, alloc: Global) -> Result<Value, AllocError>
         ensures { IfOk result (λ value. value ≡ first_of self.now) }
     {
-        match self.values.first() {
+        match self.cells.get(self.columns) {
             Some(value) => value.copy(alloc),
             None => Ok(Value::Null),
         }
@@ -44,23 +61,21 @@ impl GroupValues {
     pub fn insert(&mut self, place: usize, value: Value) -> Result<(), AllocError>
         ensures { OnOk result (self.new ≡ (self.old.0, insert self.old.1 place value)) }
     {
-        let values = self.values.len();
-        if values < place {
-            self.values.insert(values, value)?;
+        let cells = self.cells.len();
+        if cells - self.columns < place {
+            self.cells.insert(cells, value)?;
             return Ok(());
         }
-        self.values.insert(place, value)?;
+        self.cells.insert(self.columns + place, value)?;
         Ok(())
     }
 
     /// The result row: the key's values, and then the others.
-    pub fn into_row(self, alloc: Global) -> Result<Row, AllocError>
-        ensures { IfOk result (λ row. row ≡ row_of self) }
+    #[inline]
+    pub fn into_row(self) -> Row
+        ensures { result ≡ row_of self }
     {
-        let mut values = self.values;
-        let mut cells = self.key.into_values(alloc, values.len())?;
-        cells.append(&mut values)?;
-        Ok(Row::new(cells))
+        Row::new(self.cells)
     }
 }
 
@@ -70,7 +85,7 @@ pub fn rows_of(alloc: Global, groups: Vec<GroupValues>) -> Result<Vec<Row>, Allo
 {
     let mut rows = Vec::with_capacity(alloc, groups.len())?;
     for group in groups {
-        rows.push(group.into_row(alloc)?)?;
+        rows.push(group.into_row())?;
     }
     Ok(rows)
 }
@@ -78,6 +93,7 @@ pub fn rows_of(alloc: Global, groups: Vec<GroupValues>) -> Result<Vec<Row>, Allo
 /// The groups that were pushed, in that order.
 #[derive(Drop)]
 pub struct GroupList {
+    alloc: Global,
     groups: Vec<GroupValues>,
 }
 
@@ -96,8 +112,17 @@ impl GroupList {
         ensures { result ≡ [] }
     {
         GroupList {
+            alloc,
             groups: Vec::new(alloc),
         }
+    }
+
+    fn add(&mut self, key: Key, values: Vec<Value>) -> Result<(), AllocError>
+        ensures { OnOk result (self.new ≡ self.old ++ (key, values.items) ∷ []) }
+    {
+        let group = GroupValues::new(self.alloc, key, values)?;
+        self.groups.push(group)?;
+        Ok(())
     }
 
     pub fn into_vec(self) -> Vec<GroupValues>
@@ -122,7 +147,7 @@ impl<S: RunStore> GroupSink<S> for GroupList {
 
     fn push(&mut self, store: &mut S, key: Key, values: Vec<Value>) -> Result<(), Refusal> {
         let _ = store;
-        match self.groups.push(GroupValues { key, values }) {
+        match self.add(key, values) {
             Ok(()) => Ok(()),
             Err(_) => Err(Refusal::Memory),
         }

@@ -13,7 +13,7 @@ ghost use Rattle.gq_query.specs.Answers.{ordered_by};
 
 use crate::front::front_in;
 use crate::group_list::GroupValues;
-use gq_row::{Row, Value, compare, compare_cells, compare_keys};
+use gq_row::{Row, Value, compare, compare_cells};
 use std::alloc::AllocError;
 use std::cmp::Ordering;
 
@@ -31,8 +31,8 @@ pub fn sort_groups(groups: &mut Vec<GroupValues>) -> Result<(), AllocError>
     ensures ascending { OnOk result
         (IsSortedByKey (λ (g : Group). g.0) compare_keys groups.new.items) }
 {
-    groups.sort_by_cached_key(|group| front_in(&[], group.key().cells()))?;
-    groups.sort_by(|a, b| compare_keys(a.key(), b.key()))
+    groups.sort_by_cached_key(|group| front_in(&[], group.key()))?;
+    groups.sort_by(|a, b| compare_cells(a.key(), b.key()))
 }
 
 fn compare_rows(columns: &[usize], a: &[Value], b: &[Value]) -> Ordering

@@ -1,10 +1,11 @@
 //! The rows of a table that are kept, as a source.
-ghost use Rattle.std.specs.Prelude.{◌≡◌, ◌<◌, All, IfOk, length};
+ghost use Rattle.std.specs.Prelude.{◌≡◌, ◌<◌, ◌++◌, All, IfOk, OnOk, length};
 ghost use Rattle.gq_row.specs.Rows.{key_of};
+ghost use Rattle.gq_row.specs.declared.value.Value.TheVariants as variant;
 
 use crate::kept::Kept;
 use gq_group::{Refusal, RowSource};
-use gq_row::{Key, Row};
+use gq_row::{Key, Row, Text, Value};
 use gq_spill::RunStore;
 use gq_table::RowIter;
 use std::alloc::{AllocError, Global};
@@ -20,18 +21,74 @@ pub struct TableRows<'a, H: KeyHash<Key>> {
     pub columns: &'a [usize],
 }
 
-// The row of a row's cells in some columns, in the memory of another row.
+// The row of a row's cells in some columns, written over another row.
+#[inline(always)]
 fn cells_of(alloc: Global, spare: Row, row: &Row, columns: &[usize]) -> Result<Row, AllocError>
     requires { All (λ column. column < length row.now) columns.now }
     ensures { IfOk result (λ cells. cells ≡ key_of columns.now row.now) }
 {
     let mut cells = spare.into_cells();
-    cells.clear();
-    cells.reserve(columns.len())?;
+    cells.truncate(columns.len());
+    let (over, behind) = columns.split_at(cells.len());
+    write_cells(alloc, cells.as_mut_slice(), row, over)?;
+    push_cells(alloc, &mut cells, row, behind)?;
+    Ok(Row::new(cells))
+}
+
+// Writes a row's cells in some columns over as many values.
+fn write_cells(
+    alloc: Global,
+    cells: &mut [Value],
+    row: &Row,
+    columns: &[usize],
+) -> Result<(), AllocError>
+    requires within { All (λ column. column < length row.now) columns.now }
+    requires all { length cells.old ≡ length columns.now }
+    ensures { OnOk result (cells.new ≡ key_of columns.now row.now) }
+{
+    for i in 0..columns.len() {
+        write_cell(alloc, row.cell(columns[i]), &mut cells[i])?;
+    }
+    Ok(())
+}
+
+// Puts a row's cells in some columns behind others.
+fn push_cells(
+    alloc: Global,
+    cells: &mut Vec<Value>,
+    row: &Row,
+    columns: &[usize],
+) -> Result<(), AllocError>
+    requires { All (λ column. column < length row.now) columns.now }
+    ensures { OnOk result (cells.new.items ≡ cells.old.items ++ key_of columns.now row.now) }
+{
     for column in columns {
         cells.push(row.cell(*column).copy(alloc)?)?;
     }
-    Ok(Row::new(cells))
+    Ok(())
+}
+
+// Writes a value over another; a text over a text in its memory, where that is enough.
+#[inline]
+fn write_cell(alloc: Global, value: &Value, over: &mut Value) -> Result<(), AllocError>
+    ensures { OnOk result (over.new ≡ value.now) }
+{
+    match value {
+        Value::Null => *over = Value::Null,
+        Value::Int(n) => *over = Value::Int(*n),
+        Value::Text(text) => write_text(alloc, text, over)?,
+    }
+    Ok(())
+}
+
+fn write_text(alloc: Global, text: &Text, over: &mut Value) -> Result<(), AllocError>
+    ensures { OnOk result (over.new ≡ variant.Text text.now) }
+{
+    match over {
+        Value::Text(old) => old.write(text.as_str())?,
+        _ => *over = Value::Text(text.copy(alloc)?),
+    }
+    Ok(())
 }
 
 impl<'a, H: KeyHash<Key>, S: RunStore> RowSource<S> for TableRows<'a, H> {

@@ -106,8 +106,8 @@ pub fn having(condition: &Condition, group: &Row) -> bool
     is_true(condition, group)
 }
 
-// Whether it is true there.
-#[inline]
+// Whether it is true there. Most conditions have no test: that is seen where it is called.
+#[inline(always)]
 fn is_true(condition: &Condition, row: &Row) -> bool
     ensures { result ≡ keeps condition.now.tests row.now }
 {

@@ -5,6 +5,7 @@ ghost use Rattle.gq_row.specs.declared.value.Value.{Value as Cell};
 ghost use Rattle.gq_row.specs.Tables.{keys};
 ghost use Rattle.gq_group.specs.Access.{Apart, either, LeavesOthers, HasCause};
 ghost use Rattle.gq_group.specs.Groups.{Group, OneWidth, has_columns};
+ghost use Rattle.gq_group.specs.Work.{Spills};
 ghost use Rattle.gq_select.specs.Distinct.{PushesKeys};
 
 use gq_group::{Budget, GroupSink, GroupSpec, Refusal, RowSource, Spent, group};
@@ -17,7 +18,8 @@ use sw_probe::KeyHash;
 /// pushed to the sink once, in some order, with an empty list of values. Nulls are one key value.
 ///
 /// A refusal leaves the source behind some of its rows, and the sink with some of the keys; no sum
-/// is asked for, so `SumRange` is none of them. The keys are grouped as by [`group`].
+/// is asked for, so `SumRange` is none of them. The keys are grouped as by [`group`], and rows are
+/// written within the same bounds.
 pub fn distinct<H: KeyHash<Key> + Copy, S: RunStore, R: RowSource<S>, K: GroupSink<S>>(
     alloc: Global,
     hasher: H,
@@ -47,6 +49,8 @@ pub fn distinct<H: KeyHash<Key> + Copy, S: RunStore, R: RowSource<S>, K: GroupSi
         R.gives source.old (S.runs store.old) rows
         → (spent.rows_read ≡ length rows)
         × (spent.groups ≡ length (keys columns.items rows))) }
+    ensures spills { IsTrue (S.runs store.old).honest →
+        IfOk result (λ spent. Spills budget.entries spent) }
     ensures made { R.makes_runs ≡ false → K.makes_runs ≡ false →
         IfOk result (λ spent. (S.runs store.new).made ≡ (S.runs store.old).made + spent.runs) }
     ensures others { LeavesOthers (either (R.owns source.old) (K.owns sink.old)) (either

@@ -1,13 +1,13 @@
-use Rattle.std.proofs.Common.{◌≡◌, ◌++◌, [], List, Err, true, true≢false, arith, sym, ap, subst, ◌∙◌}
+use Rattle.std.proofs.Common.{◌≡◌, ◌++◌, [], List, length, Err, true, true≢false, arith, sym, ap, subst, ◌∙◌}
 use Rattle.gq_spill.specs.declared.run_mark.RunMark.{RunMark}
 use Rattle.gq_group.specs.Access.{either, Apart, HasCause}
-use Rattle.gq_group.specs.Groups.{Spec, Group, out_of_range}
+use Rattle.gq_group.specs.Groups.{Spec, Group, keys_of, out_of_range}
 use Rattle.gq_group.specs.RunSources.{only}
 use Rattle.gq_group.specs.declared.refusal.Refusal.{Refusal}
 use Rattle.gq_group.proofs.AccessLemmas.{apart-later, keeps-apart}
 use Rattle.gq_group.proofs.FirstLemmas.{Pairing}
-use Rattle.gq_group.proofs.PairLemmas.{pairs_range, between, left_between, few_between, both_pushed, both_counted}
-use Rattle.gq_group.proofs.PhaseLemmas.{cause-blamed, leaves-phases, apart-both, apart-one, ok_anyway, if_ok_both}
+use Rattle.gq_group.proofs.PairLemmas.{pairs_range, between, left_between, few_between, as_many_keys, both_pushed, both_counted}
+use Rattle.gq_group.proofs.PhaseLemmas.{cause-blamed, leaves-phases, apart-both, apart-one, ok_anyway, if_ok_both, taken_twice}
 use Rattle.gq_group.proofs.ReadLemmas.{apart-flip}
 use Rattle.gq_group.proofs.distinct.count_in_run.Goals as goal
 
@@ -91,7 +91,7 @@ returns-clause-counts g c = λ h.
     let it = between p rows w s c.in-Ok.spec c.in-Ok.ensures (c.in-Ok-group.ensures.groups h rows given [] (c.requires.empty h)) in
     let left = left_between p rows w s c.finish-mark.result c.finish-mark.ensures it in (
       read ∙ (c.in-Ok-group.ensures.counts h rows given).0,
-      groups ∙ c.in_ok-second.ensures.count (c.in-Ok-group.ensures.others.same_honest ∙ h) _ left ∙ both_counted p rows it.out it.are,
+      groups ∙ (c.in_ok-second.ensures.count (c.in-Ok-group.ensures.others.same_honest ∙ h) _ left).1 ∙ both_counted p rows it.out it.are,
     ))
 
 pub returns-clause-others : goal.returns-clause-others
@@ -116,3 +116,19 @@ returns-clause-source g c =
     let run : Apart (only c.finish-mark.result.id.number) b = subst (λ (m : RunMark). Apart (only m.id.number) b) (sym c.finish-mark.ensures) (apart-flip b mine c.in-Ok-group.ensures.apart) in
     let kept = keeps-apart _ _ b s t c.count_pairs.ensures.others (apart-both (only c.finish-mark.result.id.number) k b run (apart-one k b mine later)) (g.met.R.RowSource.own_live c.group.new.source s c.in-Ok-group.ensures.source) in
     ok_anyway _ c.in_all.result (g.met.R.RowSource.stays_ready c.group.new.source s t kept c.in-Ok-group.ensures.source)
+
+pub returns-clause-spills : goal.returns-clause-spills
+returns-clause-spills g c = λ h.
+    let runs = g.S.RunStore.runs in
+    let r = runs c.args.store.now in
+    let s = runs c.group.new.store in
+    let p : Pairing = record { by = c.args.by.now; column = c.args.column } in
+    let w = c.group.new.sink.writer in
+    let later = c.in-Ok-group.ensures.others.same_honest ∙ h in
+    let known = g.met.R.RowSource.has_rows c.args.source.now r c.requires.source h in
+    let it = between p known.0 w s c.in-Ok.spec c.in-Ok.ensures (c.in-Ok-group.ensures.groups h known.0 known.1 [] (c.requires.empty h)) in
+    let left = left_between p known.0 w s c.finish-mark.result c.finish-mark.ensures it in
+    let read = (c.in_ok-second.ensures.count later _ left).0 in
+    let told = (c.in-Ok-group.ensures.counts h known.0 known.1).1 ∙ ap (λ (it : Spec). length (keys_of it.by known.0)) c.in-Ok.ensures in
+    taken_twice c.args.budget.entries c.in-Ok-group.first c.in_ok-second.second c.in_all.result (c.in-Ok-group.ensures.spills h) (c.in_ok-second.ensures.spills later)
+    (read ∙ as_many_keys p known.0 it.out it.are ∙ sym told) c.in_all.ensures.read c.in_all.ensures.written c.in_all.ensures.groups c.in_all.ensures.runs

@@ -1,4 +1,4 @@
-use Rattle.std.proofs.Common.{◌≡◌, ◌∙◌, ◌++◌, sym, ap}
+use Rattle.std.proofs.Common.{◌∙◌}
 use Rattle.gq_query.proofs.showing.copy_rows.Goals as goal
 
 pub loop-row-init : goal.loop-row-init
