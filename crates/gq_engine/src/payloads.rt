@@ -1,16 +1,19 @@
 //! The rows that a load's payload gives, in a table of their own, or the refusal that its first
 //! fault is.
-ghost use Rattle.std.specs.Prelude.{◌≡◌, ◌⊎◌, [], Err, IfOk, IfErr};
+ghost use Rattle.std.specs.Prelude.{◌≡◌, ◌⊎◌, [], Err, IfOk, IfErr, OnOk, IsTrue, IsPermutation, false};
+ghost use Rattle.gq_row.specs.Fitting.{fits_columns, has_null};
+ghost use Rattle.gq_table.specs.Changes.{IsPut};
+ghost use Rattle.gq_table.specs.Refusing.{WhyNotPut};
 ghost use Rattle.gq_reply.specs.Refusals.{unnumbered};
 ghost use Rattle.gq_reply.specs.declared.refusal.Refusal.TheVariants.{Memory};
 ghost use Rattle.gq_engine.specs.Loading.{bytes_told, fault_refusal, is_lost, numbered, refused_by, rows_told};
 ghost use Rattle.gq_engine.specs.Staging.{HasStaged};
 
 use gq_command::Payload;
-use gq_load::{LoadRefusal, RowReader};
+use gq_load::{LoadRefusal, RowReader, line_ends};
 use gq_reply::{Refusal, Refused};
 use gq_row::{Key, Limits, Row, Sequence};
-use gq_table::Table;
+use gq_table::{Table, TableRefusal};
 use std::alloc::Global;
 use sw_probe::KeyHash;
 
@@ -50,10 +53,48 @@ pub fn stage<H: KeyHash<Key> + Copy>(
         Ok(reader) => reader,
         Err(fault) => return Err(refused_by(fault)),
     };
-    // It grows as keys come: records may share theirs, and rows that lie close are found faster.
+    // It grows as keys come, as records may share theirs: rows that lie close are found faster.
     let mut staged = table.new_like(0)?;
-    let count = stage_rows(alloc, &mut reader, &mut staged, limits)?;
+    let count = stage_rows(alloc, &mut reader, &mut staged, bytes, limits)?;
     Ok((staged, count))
+}
+
+// After so many rows it shows whether a payload's records share their keys.
+const SAMPLE: u64 = 16_384;
+
+// Makes room for all lines of a payload where hardly one of its first rows replaced another: then
+// hardly one of the others will, and no growth on the way moves rows. Where there is no memory for
+// that the table goes on growing.
+#[cold]
+fn make_room<H: KeyHash<Key> + Copy>(staged: &mut Table<H>, bytes: &[u8], limits: &Limits)
+    ensures heading { staged.new.heading ≡ staged.old.heading }
+    ensures rows { IsPermutation staged.old.rows staged.new.rows }
+{
+    if (staged.len() as u64) < SAMPLE - SAMPLE / 64 {
+        return;
+    }
+    let _ = staged.reserve(line_ends(bytes).min(limits.bounds.rows));
+}
+
+// Puts the row of a record, counted from 0.
+#[inline]
+fn put_row<H: KeyHash<Key> + Copy>(
+    staged: &mut Table<H>,
+    row: &mut Row,
+    count: u64,
+    bytes: &[u8],
+    limits: &Limits,
+) -> Result<(), TableRefusal>
+    requires fits { IsTrue (fits_columns staged.old.heading.columns row.old) }
+    requires keyed { has_null staged.old.heading.key row.old ≡ false }
+    ensures put { OnOk result (IsPut staged.old row.old staged.new) }
+    ensures refused { IfErr result (WhyNotPut limits.now.bounds staged.old row.old) }
+{
+    staged.put(row, limits)?;
+    if count + 1 == SAMPLE {
+        make_room(staged, bytes, limits);
+    }
+    Ok(())
 }
 
 // Puts all rows that are yet to come, and answers how many they were. They are no more than the
@@ -63,6 +104,7 @@ fn stage_rows<H: KeyHash<Key> + Copy>(
     alloc: Global,
     reader: &mut RowReader<'_>,
     staged: &mut Table<H>,
+    bytes: &[u8],
     limits: &Limits,
 ) -> Result<u64, Refused>
     requires heading { reader.old.heading ≡ staged.old.heading }
@@ -78,7 +120,7 @@ fn stage_rows<H: KeyHash<Key> + Copy>(
             Err(fault) => return Err(refused_by(fault)),
             Ok(false) => return Ok(count),
             Ok(true) => {
-                if staged.put(&mut row, limits).is_err() {
+                if put_row(staged, &mut row, count, bytes, limits).is_err() {
                     return Err(Refused::from(Refusal::Memory));
                 }
             }

@@ -265,6 +265,16 @@ module _ {H : Type 0} (key : List ℕ) (old new : View (List Value) (List Value)
       (subst (ListsAll class_of (filled new.places)) e' (subst (λ l. ListsAll class_of l (by_key new)) b all'))
       (subst (OwnKeys key) e' (own_put k row is e))
 
+  pub own_moved : by_key new ≡ by_key old → OwnKeys key (by_key new)
+  own_moved e = subst (OwnKeys key) (sym e) own
+
+  pub rows_moved : by_key new ≡ by_key old → (xs ys : List Pair) → xs ≡ filled old.places → ListsAll class_of xs (by_key old) → ys ≡ filled new.places → ListsAll class_of ys (by_key new)
+      → IsPermutation (rows_in old) (rows_in new)
+  rows_moved e xs ys a all b all' =
+      IsPermutation-from_counts same_key_equiv same_key_exact _ _ (λ z.
+      count_rows key (filled old.places) (by_key old) (subst (λ l. ListsAll class_of l (by_key old)) a all) own z
+      ∙ sym (count_rows key (filled new.places) (by_key old) (subst (ListsAll class_of (filled new.places)) e (subst (λ l. ListsAll class_of l (by_key new)) b all')) own z))
+
   pub own_deleted : (k : List Value) → by_key new ≡ remove (by_key old) (class_of k) → OwnKeys key (by_key new)
   own_deleted k e = subst (OwnKeys key) (sym e) (own_removed key (by_key old) (class_of k) own)
 

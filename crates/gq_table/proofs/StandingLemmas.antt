@@ -95,7 +95,7 @@ all_not_any p (x ∷ xs) = step (p x) (all_not_any p xs)
 all_moved : {X : Type 0} (p : X → Bool) (xs ys : List X) → IsPermutation xs ys → list_all p xs ≡ list_all p ys
 all_moved p xs ys moved = all_not_any p xs ∙ ap not (list_any-IsPermutation (λ x. not (p x)) xs ys moved) ∙ sym (all_not_any p ys)
 
-standing_moved : (h : Heading) (xs ys : List (List Value)) → IsStanding (table h xs) → IsPermutation xs ys → IsStanding (table h ys)
+pub standing_moved : (h : Heading) (xs ys : List (List Value)) → IsStanding (table h xs) → IsPermutation xs ys → IsStanding (table h ys)
 standing_moved h xs ys old moved = record {
   heading = old.heading;
   fitting = sym (all_moved (fits_columns h.columns) xs ys moved) ∙ old.fitting;

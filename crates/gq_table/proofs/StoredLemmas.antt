@@ -27,7 +27,7 @@ use Rattle.gq_table.specs.Refusing.{limit_refusal, row_refusal, load_refusal, ro
 use Rattle.gq_table.specs.Standing.{IsStanding}
 use Rattle.gq_table.specs.Stored.{ArePlaced, IsStored, rows_of}
 use Rattle.gq_table.proofs.MapRows.{rows_counted}
-use Rattle.gq_table.proofs.StandingLemmas.{table, length-put, rows_limit, standing_put, standing_loaded, standing_deleted}
+use Rattle.gq_table.proofs.StandingLemmas.{table, length-put, rows_limit, standing_moved, standing_put, standing_loaded, standing_deleted}
 
 -- ---- a map where the key has columns, a list where it has none
 
@@ -296,6 +296,14 @@ module _ {H : Type 0} (bounds : Bounds) (limits : IsTrue (within_greatest bounds
       reason : ((why ≡ Limit) × (bounds.rows < length (rows_of r) + length rows)) ⊎ (why ≡ Memory) → WhyNotLoaded bounds (table h (rows_of r)) rows why
       reason (inl w) = inl (over bounds.rows (put_all h.key (rows_of r) rows) (let far = w.1 in omega (arith, long)) ∙ ap Some (sym w.0))
       reason (inr w) = inr w
+
+-- ---- a reserve
+
+pub moved_keyed : {H : Type 0} (h : Heading) (m n : View (List Value) (List Value) H) (key : List ℕ) → key ≡ h.key → IsStored h (Keyed m) → OwnKeys key (by_key n) → IsPermutation (rows_in m) (rows_in n) → IsStored h (Keyed n)
+moved_keyed h m n key e stored own moved = record {
+  standing = standing_moved h (rows_in m) (rows_in n) stored.standing moved;
+  placed = placed_again h.key n (keyed_some h.key m stored.placed) (subst (λ l. OwnKeys l (by_key n)) e own);
+}
 
 -- ---- a delete, and an empty table
 

@@ -12,7 +12,7 @@ ghost use Rattle.gq_table.specs.Refusing.{rows_with, WhyNotKeyed};
 
 use crate::refusal::TableRefusal;
 use gq_row::{Key, KeyCells, KeyRef, Row, Value};
-use std::alloc::Global;
+use std::alloc::{AllocError, Global};
 use std::mem;
 use sw_flat::{Entry, FlatMap, SlotNo, Vacancy};
 use sw_probe::KeyHash;
@@ -114,6 +114,23 @@ pub(crate) fn row_out(alloc: Global, row: &mut Row) -> Row
     ensures { result ≡ row.old }
 {
     mem::replace(row, Row::new(Vec::new(alloc)))
+}
+
+// Makes room for so many rows. Their order may change.
+pub(crate) fn reserve_keyed<H: KeyHash<Key>>(
+    map: &mut FlatMap<Key, Row, H>,
+    positions: &[usize],
+    rows: usize,
+) -> Result<(), AllocError>
+    requires own { OwnKeys positions.now (by_key map.old) }
+    ensures own { OwnKeys positions.now (by_key map.new) }
+    ensures rows { IsPermutation (rows_in map.old) (rows_in map.new) }
+{
+    let _ = positions;
+    let _ = map.iter();
+    let outcome = map.reserve(rows);
+    let _ = map.iter();
+    outcome.map_err(|_| AllocError)
 }
 
 // Takes the row of a key out of the map, and tells whether there was one. It takes no memory.

@@ -1,5 +1,5 @@
 //! One table: its schema, and its rows.
-ghost use Rattle.std.specs.Prelude.{◌≡◌, ◌+◌, ◌<◌, ◌≤◌, ◌⊎◌, ◌++◌, ◌∷◌, [], IsTrue, IfOk, IfErr, OnOk, OnErr, None, false, length};
+ghost use Rattle.std.specs.Prelude.{◌≡◌, ◌+◌, ◌<◌, ◌≤◌, ◌⊎◌, ◌++◌, ◌∷◌, [], IsTrue, IfOk, IfErr, OnOk, OnErr, None, false, length, IsPermutation};
 ghost use Rattle.gq_row.specs.Fitting.{fits_columns, has_null};
 ghost use Rattle.gq_row.specs.Tables.{has_row};
 ghost use Rattle.gq_table.specs.Changes.{IsPut, IsLoaded, IsDeleted};
@@ -9,7 +9,7 @@ ghost use Rattle.gq_table.specs.Standing.{IsStanding};
 ghost use Rattle.gq_table.specs.Stored.{IsStored, rows_of};
 ghost use Rattle.gq_table.specs.declared.refusal.TableRefusal.TheVariants.{Limit, Memory};
 
-use crate::keyed::{delete_keyed, put_keyed, row_out};
+use crate::keyed::{delete_keyed, put_keyed, reserve_keyed, row_out};
 use crate::load::load_keyed;
 use crate::refusal::TableRefusal;
 use crate::rows::{RowIter, Rows};
@@ -107,6 +107,22 @@ impl<H: KeyHash<Key> + Copy> Table<H> {
             }
             Rows::Listed(rows) => {
                 return rows.len();
+            }
+        }
+    }
+
+    /// Makes room for so many rows in all, so that what is put up to that number asks for no more
+    /// slots. Only the order of the rows may change, also where it is refused for want of memory.
+    pub fn reserve(&mut self, rows: usize) -> Result<(), AllocError>
+        ensures heading { self.new.heading ≡ self.old.heading }
+        ensures rows { IsPermutation self.old.rows self.new.rows }
+    {
+        match &mut self.rows {
+            Rows::Keyed(map) => {
+                return reserve_keyed(map, self.schema.key(), rows);
+            }
+            Rows::Listed(list) => {
+                return list.reserve(rows.saturating_sub(list.len()));
             }
         }
     }
