@@ -238,7 +238,7 @@ pub(crate) fn one_level<H: KeyHash<Key> + Copy, S: RunStore, R: RowSource<S>, K:
     let Ok(()) = add_slots(level.saturating_add(1), slots_at(level), slots) else {
         return Err(Refusal::Memory);
     };
-    let Ok(mut table) = ResidentTable::start(alloc, hasher, spec, budget) else {
+    let Ok(mut table) = ResidentTable::start(alloc, hasher, spec, budget, source.rows_hint()) else {
         return Err(Refusal::Memory);
     };
     let taken = read_rows(alloc, spec, level, source, store, &mut table, slots)?;

@@ -23,6 +23,10 @@ use sw_probe::KeyHash;
 pub(crate) struct ResidentTable<H: KeyHash<Key>> {
     map: FlatMap<Key, Aggs, H>,
     budget: Budget,
+    // How many rows were offered.
+    offered: u64,
+    // How many there will be, as far as is known.
+    expected: usize,
     ghost within: { len (entries class_of map) ≤ budget.entries },
 }
 
@@ -42,13 +46,31 @@ impl<H: KeyHash<Key> + Copy> ResidentTable<H> {
         hasher: H,
         spec: &GroupSpec,
         budget: Budget,
+        expected: usize,
     ) -> Result<ResidentTable<H>, AllocError>
         ensures resident { IfOk result (λ table. Resident spec.now budget.entries [] table.map) }
         ensures budget { IfOk result (λ table. table.budget ≡ budget) }
         ensures hasher { IfOk result (λ table. table.map.hasher ≡ hasher) }
     {
         let map = start_table(alloc, hasher, spec)?;
-        Ok(ResidentTable { map, budget })
+        Ok(ResidentTable {
+            map,
+            budget,
+            offered: 0,
+            expected,
+        })
+    }
+
+    // For how many groups room is to be made. Where hardly one row of the first eighth came to a
+    // group that was there, hardly one of the others is expected to: room for all of them spares
+    // the growths on the way. Else 0, and the table grows as groups come.
+    fn room_wanted(&self) -> usize {
+        let groups = self.map.len() as u64;
+        if groups == self.expected as u64 / 8 && self.offered <= groups + groups / 64 + 1 {
+            self.expected.min(self.budget.entries() as usize)
+        } else {
+            0
+        }
     }
 
     // Groups one row more where its key has a group, or where there is space for one more: one
@@ -72,6 +94,7 @@ impl<H: KeyHash<Key> + Copy> ResidentTable<H> {
         ensures budget { self.new.budget ≡ self.old.budget }
         ensures hasher { OnOk result (self.new.map.hasher ≡ self.old.map.hasher) }
     {
+        self.offered = self.offered.wrapping_add(1);
         match self.map.entry(&KeyRef::new(row, spec.by())) {
             Entry::Occupied(slot) => {
                 self.map.value_mut(slot).add(spec.aggs(), row)?;
@@ -81,7 +104,8 @@ impl<H: KeyHash<Key> + Copy> ResidentTable<H> {
                 if self.map.len() >= self.budget.entries() as usize {
                     return Ok(Offered::Left(vacancy.hash()));
                 }
-                add_group(alloc, spec, row, vacancy, &mut self.map)?;
+                let room = self.room_wanted();
+                add_group(alloc, spec, row, vacancy, room, &mut self.map)?;
                 Ok(Offered::Taken)
             }
         }

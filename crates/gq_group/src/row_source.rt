@@ -43,6 +43,10 @@ pub trait RowSource<S: RunStore> {
         ensures owned { makes_runs ≡ false → (run : ℕ) → IsTrue (owns self.new run) →
             IsTrue (owns self.old run) };
 
+    /// How many rows are left, as far as is known, and 0 where it is not. Only speed rests on it.
+    fn rows_hint(&self) -> usize
+        ensures { result ≤ bound self.now };
+
     /// Its runs are live.
     ghost own_live: { (s : Self) (runs : Runs) → is_ready s runs → (run : ℕ) →
         IsTrue (owns s run) → IsTrue (runs.live run) };

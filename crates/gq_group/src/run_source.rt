@@ -34,6 +34,10 @@ impl<S: RunStore> RowSource<S> for RunSource {
         }
     }
 
+    fn rows_hint(&self) -> usize {
+        0
+    }
+
     ghost own_live = { λ s runs ready run own. ready_live s.reader runs ready run own };
 
     ghost has_rows = { λ s runs ready honest. ready.rows honest };

@@ -54,12 +54,14 @@ fn start_alone<H: KeyHash<Key> + Copy>(
     Ok(map)
 }
 
-// Adds the group of a row whose key no row before it has.
+// Adds the group of a row whose key no row before it has, and makes room for so many groups in all,
+// where there is memory for that.
 pub(crate) fn add_group<H: KeyHash<Key> + Copy>(
     alloc: Global,
     spec: &GroupSpec,
     row: &Row,
     vacancy: Vacancy,
+    room: usize,
     map: &mut FlatMap<Key, Aggs, H>,
 ) -> Result<(), AllocError>
     requires fits { IsTrue (fits_spec spec.now row.now) }
@@ -77,8 +79,9 @@ pub(crate) fn add_group<H: KeyHash<Key> + Copy>(
     let key = Key::of(alloc, row, spec.by())?;
     let mut aggs = Aggs::start(alloc, spec.aggs())?;
     aggs.add(spec.aggs(), row)?;
-    match map.fill(vacancy, key, aggs) {
-        Ok(_) => Ok(()),
-        Err(_) => Err(AllocError),
-    }
+    let Ok(_) = map.fill(vacancy, key, aggs) else {
+        return Err(AllocError);
+    };
+    let _ = map.reserve(room);
+    Ok(())
 }

@@ -39,6 +39,10 @@ impl<S: RunStore> RowSource<S> for ListSource {
         Ok(self.rows.pop_front())
     }
 
+    fn rows_hint(&self) -> usize {
+        self.rows.len()
+    }
+
     ghost own_live = { λ s runs ready run own. none_live runs run own };
 
     ghost has_rows = { λ s runs ready honest. (s, refl) };

@@ -1,4 +1,3 @@
-pub mod Inserting
 pub mod Joined
 pub mod KeepingLemmas
 pub mod OrderingLemmas

@@ -5,53 +5,49 @@ ghost use Rattle.gq_query.specs.Joining.{first_of, row_of};
 use gq_group::{GroupSink, Refusal};
 use gq_row::{Key, Row, Value};
 use gq_spill::RunStore;
+use smallvec::SmallVec;
 use std::alloc::{AllocError, Global};
 use std::marker::Model;
 
-/// A key, and what is shown of the rows that have it, in one list: the cells of the result row.
+/// A key, and what is shown of the rows that have it. Up to two values of each stand in it, so that
+/// groups are sorted where they stand, and memory is asked for row by row in the order of the answer.
 #[derive(Drop)]
 pub struct GroupValues {
-    cells: Vec<Value>,
-    // How many of the cells are the key's.
-    columns: usize,
+    key: Key,
+    values: SmallVec<Value, 2>,
 }
 
 impl Model for GroupValues {
-    ghost use Rattle.std.specs.Prelude.{◌≤◌, length, take, drop};
     ghost use Rattle.gq_group.specs.Groups.{Group};
 
     ghost Value = { Group };
 
-    ghost view = { λ g. (take g.columns g.cells.items, drop g.columns g.cells.items) };
-
-    ghost invariant = { λ g. g.columns ≤ length g.cells.items };
+    ghost view = { λ g. (g.key, g.values.items) };
 }
 
 impl GroupValues {
-    // The values move, behind those of the key.
     fn new(alloc: Global, key: Key, values: Vec<Value>) -> Result<GroupValues, AllocError>
         ensures { IfOk result (λ group. group ≡ (key, values.items)) }
     {
-        let mut values = values;
-        let columns = key.len();
-        let mut cells = key.into_values(alloc, values.len())?;
-        cells.append(&mut values)?;
-        Ok(GroupValues { cells, columns })
+        let mut shown = SmallVec::new(alloc);
+        for value in values {
+            shown.push(value)?;
+        }
+        Ok(GroupValues { key, values: shown })
     }
 
     /// The values of the key.
     pub fn key(&self) -> &[Value]
         ensures { result.now ≡ self.now.0 }
     {
-        let (key, _values) = self.cells.split_at(self.columns);
-        key
+        self.key.cells()
     }
 
     /// Its first value behind the key, or null where it has none.
     pub fn first(&self, alloc: Global) -> Result<Value, AllocError>
         ensures { IfOk result (λ value. value ≡ first_of self.now) }
     {
-        match self.cells.get(self.columns) {
+        match self.values.as_slice().first() {
             Some(value) => value.copy(alloc),
             None => Ok(Value::Null),
         }
@@ -61,21 +57,21 @@ impl GroupValues {
     pub fn insert(&mut self, place: usize, value: Value) -> Result<(), AllocError>
         ensures { OnOk result (self.new ≡ (self.old.0, insert self.old.1 place value)) }
     {
-        let cells = self.cells.len();
-        if cells - self.columns < place {
-            self.cells.insert(cells, value)?;
-            return Ok(());
-        }
-        self.cells.insert(self.columns + place, value)?;
+        let place = place.min(self.values.len());
+        self.values.insert(place, value)?;
         Ok(())
     }
 
-    /// The result row: the key's values, and then the others.
+    /// The result row: the key's values, and then the others. All of them move.
     #[inline]
-    pub fn into_row(self) -> Row
-        ensures { result ≡ row_of self }
+    pub fn into_row(self, alloc: Global) -> Result<Row, AllocError>
+        ensures { IfOk result (λ row. row ≡ row_of self) }
     {
-        Row::new(self.cells)
+        let mut cells = self.key.into_values(alloc, self.values.len())?;
+        for value in self.values {
+            cells.push(value)?;
+        }
+        Ok(Row::new(cells))
     }
 }
 
@@ -85,7 +81,7 @@ pub fn rows_of(alloc: Global, groups: Vec<GroupValues>) -> Result<Vec<Row>, Allo
 {
     let mut rows = Vec::with_capacity(alloc, groups.len())?;
     for group in groups {
-        rows.push(group.into_row())?;
+        rows.push(group.into_row(alloc)?)?;
     }
     Ok(rows)
 }

@@ -121,6 +121,14 @@ impl<'a, H: KeyHash<Key>, S: RunStore> RowSource<S> for TableRows<'a, H> {
         }
     }
 
+    fn rows_hint(&self) -> usize {
+        if self.kept.condition.tests.is_empty() && self.kept.matching.is_none() {
+            self.rows.len()
+        } else {
+            0
+        }
+    }
+
     ghost own_live = { λ s runs ready run own. none_live runs run own };
 
     ghost has_rows = { λ s runs ready honest.

@@ -1,5 +1,5 @@
 //! Where the rows of a table stand, and how they are gone over.
-ghost use Rattle.std.specs.Prelude.{◌≡◌};
+ghost use Rattle.std.specs.Prelude.{◌≡◌, length};
 ghost use Rattle.std.specs.Iterator.{YieldsFirstRef, item_count};
 
 use gq_row::{Key, Row};
@@ -40,6 +40,20 @@ impl<'a, H: KeyHash<Key>> Model for RowIter<'a, H> {
 
 impl<'a, H: KeyHash<Key>> RowIter<'a, H> {
     ghost use Rattle.gq_table.specs.Stored.{rows_of};
+
+    /// How many rows are still to come.
+    pub fn len(&self) -> usize
+        ensures { result ≡ length self.now }
+    {
+        match &self.rest {
+            Rest::Entries(entries) => {
+                return entries.len();
+            }
+            Rest::Places(rows, from) => {
+                return rows.len().saturating_sub(*from);
+            }
+        }
+    }
 
     /// All of the rows: those of a map in the order of its slots.
     pub(crate) fn new(rows: &'a Rows<H>) -> RowIter<'a, H>
