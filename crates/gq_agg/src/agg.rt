@@ -112,6 +112,7 @@ impl Agg {
             State::Values(count) => Ok(Value::Int(count as i64)),
             State::Total(None) => Ok(Value::Null),
             State::Total(Some(sum)) => {
+                let sum = sum.to_i128();
                 if sum < i64::MIN as i128 || sum > i64::MAX as i128 {
                     return Err(SumRange);
                 }

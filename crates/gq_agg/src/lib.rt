@@ -29,7 +29,9 @@ mod agg;
 mod kind;
 pub mod laws;
 mod state;
+mod sum;
 
 pub use agg::{Agg, SumRange};
 pub use kind::AggKind;
 pub use state::State;
+pub use sum::Sum;

@@ -4,6 +4,7 @@ ghost use Rattle.gq_agg.specs.Aggregates.{is_text};
 ghost use Rattle.gq_agg.specs.Running.{counted, plus, sum_or_zero};
 ghost use Rattle.gq_agg.specs.Values.{number, is_less, is_greater, lesser, greater};
 
+use crate::sum::Sum;
 use gq_row::{Value, compare};
 use std::alloc::{AllocError, Global};
 use std::cmp::Ordering;
@@ -16,7 +17,7 @@ pub enum State {
     /// How many of them are not null.
     Values(u64),
     /// Their sum, once one of them is not null.
-    Total(Option<i128>),
+    Total(Option<Sum>),
     /// The least of them, or null.
     Least(Value),
     /// The greatest of them, or null.
@@ -74,7 +75,7 @@ pub(crate) fn count_value(count: &mut u64, value: &Value)
 
 // Adds a value to a sum, unless it is null.
 #[inline]
-pub(crate) fn sum_value(sum: &mut Option<i128>, value: &Value)
+pub(crate) fn sum_value(sum: &mut Option<Sum>, value: &Value)
     requires low { pos 0 ≤ℤ (sum_or_zero sum.old +ℤ pos (2 ^ 96)) }
     requires high { sum_or_zero sum.old ≤ℤ pos (2 ^ 96) }
     requires fits { is_text value.now ≡ false }
@@ -83,7 +84,7 @@ pub(crate) fn sum_value(sum: &mut Option<i128>, value: &Value)
     ensures high { number value.now ≤ℤ pos (2 ^ 63 - 1) }
 {
     match value {
-        Value::Int(n) => *sum = Some(sum.unwrap_or(0) + *n as i128),
+        Value::Int(n) => *sum = Some(sum.take().unwrap_or(Sum::zero()).plus(*n)),
         Value::Null | Value::Text(_) => {}
     }
 }

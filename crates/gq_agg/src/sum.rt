@@ -1,0 +1,74 @@
+//! Sums of numbers.
+ghost use Rattle.std.specs.Prelude.{◌≡◌, ◌^◌, ◌+ℤ◌, ◌≤ℤ◌, pos};
+
+use std::marker::Model;
+
+/// A whole number in two words, seen as that number. An `i128` would stand at a multiple of sixteen
+/// bytes, and leave gaps in each group that is kept.
+#[derive(Debug, Drop)]
+pub struct Sum {
+    // The number is `high` times 2^64, and `low` more.
+    high: i64,
+    low: u64,
+}
+
+impl Model for Sum {
+    ghost use Rattle.std.specs.Prelude.{ℤ};
+    ghost use Rattle.gq_agg.specs.Words.{in_words};
+
+    ghost Value = { ℤ };
+
+    ghost view = { λ s. in_words s.high s.low };
+}
+
+impl Sum {
+    /// The sum of no number.
+    #[inline]
+    pub(crate) fn zero() -> Sum
+        ensures { result ≡ pos 0 }
+    {
+        Sum { high: 0, low: 0 }
+    }
+
+    /// The sum with one number more. Where the low word would leave its range it goes round, and the
+    /// high word carries.
+    #[inline]
+    pub(crate) fn plus(self, n: i64) -> Sum
+        requires low { pos 0 ≤ℤ (self +ℤ pos (2 ^ 96)) }
+        requires high { self ≤ℤ pos (2 ^ 96) }
+        ensures { result ≡ self +ℤ n }
+    {
+        let size = n.unsigned_abs();
+        let Sum { high, low } = self;
+        if n < 0 {
+            if low < size {
+                return Sum {
+                    high: high - 1,
+                    low: low + (u64::MAX - size + 1),
+                };
+            }
+            return Sum {
+                high,
+                low: low - size,
+            };
+        }
+        if u64::MAX - size < low {
+            return Sum {
+                high: high + 1,
+                low: low - (u64::MAX - size + 1),
+            };
+        }
+        Sum {
+            high,
+            low: low + size,
+        }
+    }
+
+    /// The number.
+    #[inline]
+    pub(crate) fn to_i128(&self) -> i128
+        ensures { result ≡ self.now }
+    {
+        (self.high as i128) * 18_446_744_073_709_551_616 + self.low as i128
+    }
+}
