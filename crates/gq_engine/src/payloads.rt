@@ -55,33 +55,39 @@ pub fn stage<H: KeyHash<Key> + Copy>(
     };
     // It grows as keys come, as records may share theirs: rows that lie close are found faster.
     let mut staged = table.new_like(0)?;
-    let lines = line_ends(bytes).min(limits.bounds.rows);
-    let count = stage_rows(alloc, &mut reader, &mut staged, lines, limits)?;
+    let count = stage_rows(alloc, &mut reader, &mut staged, bytes, limits)?;
     Ok((staged, count))
 }
 
-// Makes room for all lines of a payload where hardly one of the rows so far replaced another: then
-// hardly one of the others is expected to, and no growth on the way moves rows. Where there is no
-// memory for that the table goes on growing.
+// Makes room for all lines of a payload where an eighth of them are read and hardly one of their rows
+// replaced another: then hardly one of the others is expected to, and no growth on the way moves rows.
+// Where there is no memory for that the table goes on growing.
 #[cold]
-fn make_room<H: KeyHash<Key> + Copy>(staged: &mut Table<H>, count: u64, lines: usize)
+fn make_room<H: KeyHash<Key> + Copy>(
+    staged: &mut Table<H>,
+    count: u64,
+    bytes: &[u8],
+    limits: &Limits,
+)
     ensures heading { staged.new.heading ≡ staged.old.heading }
     ensures rows { IsPermutation staged.old.rows staged.new.rows }
 {
-    if (staged.len() as u64) < count - count / 64 {
+    if count < 4_096 || (staged.len() as u64) < count - count / 64 {
         return;
     }
-    let _ = staged.reserve(lines);
+    let lines = line_ends(bytes).min(limits.bounds.rows);
+    if count >= lines as u64 / 8 {
+        let _ = staged.reserve(lines);
+    }
 }
 
-// Puts the row of a record, counted from 0, of a payload of so many lines. When an eighth of them are
-// read it shows whether records share their keys.
+// Puts the row of a record, counted from 0, of the payload with these bytes.
 #[inline]
 fn put_row<H: KeyHash<Key> + Copy>(
     staged: &mut Table<H>,
     row: &mut Row,
     count: u64,
-    lines: usize,
+    bytes: &[u8],
     limits: &Limits,
 ) -> Result<(), TableRefusal>
     requires fits { IsTrue (fits_columns staged.old.heading.columns row.old) }
@@ -90,8 +96,8 @@ fn put_row<H: KeyHash<Key> + Copy>(
     ensures refused { IfErr result (WhyNotPut limits.now.bounds staged.old row.old) }
 {
     staged.put(row, limits)?;
-    if count == lines as u64 / 8 {
-        make_room(staged, count, lines);
+    if count.is_power_of_two() {
+        make_room(staged, count, bytes, limits);
     }
     Ok(())
 }
@@ -103,7 +109,7 @@ fn stage_rows<H: KeyHash<Key> + Copy>(
     alloc: Global,
     reader: &mut RowReader<'_>,
     staged: &mut Table<H>,
-    lines: usize,
+    bytes: &[u8],
     limits: &Limits,
 ) -> Result<u64, Refused>
     requires heading { reader.old.heading ≡ staged.old.heading }
@@ -119,7 +125,7 @@ fn stage_rows<H: KeyHash<Key> + Copy>(
             Err(fault) => return Err(refused_by(fault)),
             Ok(false) => return Ok(count),
             Ok(true) => {
-                if put_row(staged, &mut row, count, lines, limits).is_err() {
+                if put_row(staged, &mut row, count, bytes, limits).is_err() {
                     return Err(Refused::from(Refusal::Memory));
                 }
             }
