@@ -61,12 +61,12 @@ impl<H: KeyHash<Key> + Copy> ResidentTable<H> {
         })
     }
 
-    // For how many groups room is to be made. Where hardly one row of the first eighth came to a
+    // For how many groups room is to be made. Where hardly one row of the first quarter came to a
     // group that was there, hardly one of the others is expected to: room for all of them spares
     // the growths on the way. Else 0, and the table grows as groups come.
     fn room_wanted(&self) -> usize {
         let groups = self.map.len() as u64;
-        if groups == self.expected as u64 / 8 && self.offered <= groups + groups / 64 + 1 {
+        if groups == self.expected as u64 / 4 && self.offered <= groups + groups / 64 + 1 {
             self.expected.min(self.budget.entries() as usize)
         } else {
             0
