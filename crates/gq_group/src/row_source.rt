@@ -43,7 +43,8 @@ pub trait RowSource<S: RunStore> {
         ensures owned { makes_runs ≡ false → (run : ℕ) → IsTrue (owns self.new run) →
             IsTrue (owns self.old run) };
 
-    /// How many rows are left, as far as is known, and 0 where it is not. Only speed rests on it.
+    /// At most how many rows are left, as far as is known, and 0 where it is not. Only speed rests
+    /// on it.
     fn rows_hint(&self) -> usize
         ensures { result ≤ bound self.now };
 

@@ -122,11 +122,7 @@ impl<'a, H: KeyHash<Key>, S: RunStore> RowSource<S> for TableRows<'a, H> {
     }
 
     fn rows_hint(&self) -> usize {
-        if self.kept.condition.tests.is_empty() && self.kept.matching.is_none() {
-            self.rows.len()
-        } else {
-            0
-        }
+        self.rows.len()
     }
 
     ghost own_live = { λ s runs ready run own. none_live runs run own };
