@@ -1,4 +1,4 @@
-use Rattle.std.proofs.Common.{◌≡◌, subst, sym}
+use Rattle.std.proofs.Common.{◌≡◌, subst}
 use Rattle.std.specs.FinMap.{get}
 use Rattle.sw_table.specs.LaidOut.{hash_by}
 use Rattle.sw_table.specs.View.{entry_at}
