@@ -54,7 +54,7 @@ pub fn stage<H: KeyHash<Key> + Copy>(
         Err(fault) => return Err(refused_by(fault)),
     };
     // It grows as keys come, as records may share theirs: rows that lie close are found faster.
-    let mut staged = table.new_like(0)?;
+    let mut staged = table.new_like()?;
     let count = stage_rows(alloc, &mut reader, &mut staged, bytes, limits)?;
     Ok((staged, count))
 }

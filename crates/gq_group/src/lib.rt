@@ -41,8 +41,8 @@
 //! [`group_distinct`] succeeds, the sink has the counts of different values more, in some order
 //! (`distinct_groups` of `specs/Distinct.antt`), and the counts of rows and groups are right; it writes
 //! the different pairs once, and else what its two groupings do, each within their bounds
-//! (`SpillsTwice`), and it never answers `SumRange`. Over every store: the runs of others are as they were, whatever the outcome, no
-//! run is left behind, and both refuse for a cause.
+//! (`SpillsTwice`), and it never answers `SumRange`. Over every store: the runs of others are as they
+//! were, whatever the outcome, no run is left behind, and both refuse for a cause.
 //!
 //! Over an honest store the rows of a source are all of one length, since a run is read by the number
 //! of its columns. That a table holds at most the budget's number of groups is an invariant of its type

@@ -64,30 +64,13 @@ impl<H: KeyHash<Key> + Copy> Table<H> {
         }
     }
 
-    /// A table of the same columns and key without rows, with room for so many.
-    pub fn new_like(&self, room: usize) -> Result<Table<H>, AllocError>
+    /// A table of the same columns and key without rows.
+    pub fn new_like(&self) -> Result<Table<H>, AllocError>
         ensures { IfOk result
             (λ table. table ≡ record { heading = self.now.heading; rows = [] }) }
     {
         let schema = self.schema.copy(self.alloc)?;
-        if schema.key().is_empty() {
-            return Ok(Table {
-                alloc: self.alloc,
-                schema,
-                hasher: self.hasher,
-                rows: Rows::Listed(Vec::with_capacity(self.alloc, room)?),
-            });
-        }
-        let Ok(map) = FlatMap::with_room(self.alloc, self.hasher, room) else {
-            return Err(AllocError);
-        };
-        let _ = map.iter();
-        Ok(Table {
-            alloc: self.alloc,
-            schema,
-            hasher: self.hasher,
-            rows: Rows::Keyed(map),
-        })
+        Ok(Table::new(self.alloc, schema, self.hasher))
     }
 
     #[inline]
