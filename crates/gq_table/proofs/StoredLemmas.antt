@@ -2,15 +2,13 @@
 use Rattle.std.proofs.Common.{◌≡◌, ℕ, ◌+◌, ◌<◌, ◌≤◌, ◌⊎◌, inl, inr, Bool, true, false, cond, not, IsTrue, List, [], ◌∷◌, ◌++◌, length, Option, Some, None, Result, Ok, Err, refl, sym, ap, subst, ◌∙◌, arith, IsPermutation, length-append, append-nil, append_assoc}
 use Rattle.std.specs.Prelude.{nat_lt, OnOk, OnErr, IfErr}
 use Rattle.std.specs.List.{list_all}
-use Rattle.std.specs.FinMap.{empty, get-empty, len, len-empty}
+use Rattle.std.specs.FinMap.{empty, get-empty}
 use Rattle.std.proofs.lemmas.Bool.Decides.{nat_tests}
 use Rattle.std.proofs.lemmas.List.Sorted.{IsPermutation-refl, IsPermutation-sym, IsPermutation-trans}
 use Rattle.sw_table.specs.View.{View}
-use Rattle.sw_flat.specs.Maps.{ListsAll, filled}
 use Rattle.sw_flat.proofs.Classes.{none_some}
 use Rattle.gq_row.specs.declared.value.Value.{Value}
 use Rattle.gq_row.specs.declared.limits.Bounds.{Bounds}
-use Rattle.gq_row.specs.Classes.{class_of}
 use Rattle.gq_row.specs.Fitting.{fits_columns, has_null}
 use Rattle.gq_row.specs.Headings.{Heading, is_heading}
 use Rattle.gq_row.specs.Limits.{within_greatest}
@@ -22,11 +20,10 @@ use Rattle.gq_table.specs.declared.refusal.TableRefusal.TheVariants.{TypeMismatc
 use Rattle.gq_table.specs.declared.rows.Rows.{Rows}
 use Rattle.gq_table.specs.declared.rows.Rows.TheVariants.{Keyed, Listed}
 use Rattle.gq_table.specs.Changes.{IsPut, IsLoaded}
-use Rattle.gq_table.specs.Keyed.{Pair, OwnKeys, by_key, rows_in}
+use Rattle.gq_table.specs.Keyed.{OwnKeys, by_key, rows_in}
 use Rattle.gq_table.specs.Refusing.{limit_refusal, row_refusal, load_refusal, rows_with, replaces, WhyNotPut, WhyNotKeyed, WhyNotLoaded}
 use Rattle.gq_table.specs.Standing.{IsStanding}
 use Rattle.gq_table.specs.Stored.{ArePlaced, IsStored, rows_of}
-use Rattle.gq_table.proofs.MapRows.{rows_counted}
 use Rattle.gq_table.proofs.StandingLemmas.{table, length-put, rows_limit, standing_moved, standing_put, standing_loaded, standing_deleted}
 
 -- ---- a map where the key has columns, a list where it has none
@@ -326,14 +323,6 @@ stored_empty h m heading some none no_rows = record {
     some_long : (key : List ℕ) → (key ≡ [] → ⊥) → 0 < length key
     some_long [] k = absurd (k refl)
     some_long (column ∷ columns) k = omega arith
-
--- a map without entries has no rows
-pub no_rows : {H : Type 0} (m : View (List Value) (List Value) H) (xs : List Pair) → xs ≡ filled m.places → ListsAll class_of xs (by_key m) → by_key m ≡ empty → rows_in m ≡ []
-no_rows m xs a all none = none_long (rows_in m) (rows_counted m xs a all ∙ ap len none ∙ len-empty _ _)
-  where
-    none_long : (rows : List (List Value)) → length rows ≡ 0 → rows ≡ []
-    none_long [] h = refl
-    none_long (row ∷ rows) h = let none : ⊥ = omega (arith, h) in absurd none
 
 -- the rows of a table fit the columns of one with the same heading
 pub staged_fit : {H : Type 0} (h g : Heading) (r : Rows H) (rows : List (List Value)) → g ≡ h → IsStored g r → rows_of r ≡ rows → list_all (fits_columns h.columns) rows ≡ true
