@@ -22,6 +22,11 @@ pub trait GroupSink<S: RunStore> {
     /// Whether it may make runs.
     ghost makes_runs: { Bool };
 
+    /// Hears that so many groups may come. It may make room for them, where there is memory for
+    /// that, and is otherwise as it was.
+    fn make_room(&mut self, groups: usize)
+        ensures { self.new ≡ self.old };
+
     /// Takes a group: its key and the values of its aggregates. After a refusal nothing is said of
     /// it.
     fn push(&mut self, store: &mut S, key: Key, values: Vec<Value>) -> Result<(), Refusal>

@@ -64,6 +64,7 @@ pub(crate) fn push_all<H: KeyHash<Key> + Copy, S: RunStore, K: GroupSink<S>>(
 {
     let mut left = map;
     let groups = left.len() as u64;
+    sink.make_room(left.len());
     let _ = left.keys();
     let mut walk = left.walk();
     'entries: while let Some((key, aggs)) = left.drain_next(&mut walk) {

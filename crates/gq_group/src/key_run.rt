@@ -69,6 +69,10 @@ impl<S: RunStore> GroupSink<S> for KeyRun {
 
     ghost makes_runs = { false };
 
+    fn make_room(&mut self, groups: usize) {
+        let _ = groups;
+    }
+
     fn push(&mut self, store: &mut S, key: Key, values: Vec<Value>) -> Result<(), Refusal> {
         let _ = values;
         let Ok(row) = key.into_row() else {

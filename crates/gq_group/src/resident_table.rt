@@ -61,12 +61,15 @@ impl<H: KeyHash<Key> + Copy> ResidentTable<H> {
         })
     }
 
-    // For how many groups room is to be made. Where hardly one row of the first quarter came to a
-    // group that was there, hardly one of the others is expected to: room for all of them spares
-    // the growths on the way. Else 0, and the table grows as groups come.
+    // For how many groups room is to be made behind the next one. Where the table is full with it,
+    // at least a fifth of the rows came, and hardly one of them to a group that was there, hardly
+    // one of the others is expected to: room for all of them spares the growths on the way. Else 0,
+    // and the table grows as groups come.
     fn room_wanted(&self) -> usize {
-        let groups = self.map.len() as u64;
-        if groups == self.expected as u64 / 4 && self.offered <= groups + groups / 64 + 1 {
+        let groups = self.map.len() as u64 + 1;
+        let is_full = groups == self.map.room() as u64;
+        let is_seen = groups >= self.expected as u64 / 5;
+        if is_full && is_seen && self.offered <= groups + groups / 64 {
             self.expected.min(self.budget.entries() as usize)
         } else {
             0

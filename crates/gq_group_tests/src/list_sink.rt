@@ -24,6 +24,10 @@ impl<S: RunStore> GroupSink<S> for ListSink {
 
     ghost makes_runs = { false };
 
+    fn make_room(&mut self, groups: usize) {
+        let _ = groups;
+    }
+
     fn push(&mut self, store: &mut S, key: Key, values: Vec<Value>) -> Result<(), Refusal> {
         let _ = store;
         let Ok(group) = spelled_group(self.alloc, &key, values.as_slice()) else {

@@ -1,3 +1,4 @@
+pub mod CellLemmas
 pub mod Joined
 pub mod KeepingLemmas
 pub mod OrderingLemmas

@@ -9,45 +9,52 @@ use smallvec::SmallVec;
 use std::alloc::{AllocError, Global};
 use std::marker::Model;
 
-/// A key, and what is shown of the rows that have it. Up to two values of each stand in it, so that
-/// groups are sorted where they stand, and memory is asked for row by row in the order of the answer.
+/// A key, and what is shown of the rows that have it: the cells of a result row. Up to two stand in
+/// it, so that groups are sorted where they stand, and memory for rows is asked for in the order of
+/// the answer.
 #[derive(Drop)]
 pub struct GroupValues {
-    key: Key,
-    values: SmallVec<Value, 2>,
+    // The values of the key, and then the others.
+    cells: SmallVec<Value, 2>,
+    // How many are the key's.
+    width: usize,
 }
 
 impl Model for GroupValues {
+    ghost use Rattle.std.specs.Prelude.{◌≤◌, take, drop, length};
     ghost use Rattle.gq_group.specs.Groups.{Group};
 
     ghost Value = { Group };
 
-    ghost view = { λ g. (g.key, g.values.items) };
+    ghost view = { λ g. (take g.width g.cells.items, drop g.width g.cells.items) };
+
+    ghost invariant = { λ g. g.width ≤ length g.cells.items };
 }
 
 impl GroupValues {
-    fn new(alloc: Global, key: Key, values: Vec<Value>) -> Result<GroupValues, AllocError>
+    fn new(key: Key, values: Vec<Value>) -> Result<GroupValues, AllocError>
         ensures { IfOk result (λ group. group ≡ (key, values.items)) }
     {
-        let mut shown = SmallVec::new(alloc);
+        let width = key.len();
+        let mut cells = key.into_cells();
         for value in values {
-            shown.push(value)?;
+            cells.push(value)?;
         }
-        Ok(GroupValues { key, values: shown })
+        Ok(GroupValues { cells, width })
     }
 
     /// The values of the key.
     pub fn key(&self) -> &[Value]
         ensures { result.now ≡ self.now.0 }
     {
-        self.key.cells()
+        &self.cells.as_slice()[..self.width]
     }
 
     /// Its first value behind the key, or null where it has none.
     pub fn first(&self, alloc: Global) -> Result<Value, AllocError>
         ensures { IfOk result (λ value. value ≡ first_of self.now) }
     {
-        match self.values.as_slice().first() {
+        match self.cells.as_slice().get(self.width) {
             Some(value) => value.copy(alloc),
             None => Ok(Value::Null),
         }
@@ -57,21 +64,20 @@ impl GroupValues {
     pub fn insert(&mut self, place: usize, value: Value) -> Result<(), AllocError>
         ensures { OnOk result (self.new ≡ (self.old.0, insert self.old.1 place value)) }
     {
-        let place = place.min(self.values.len());
-        self.values.insert(place, value)?;
+        let place = place.min(self.cells.len() - self.width);
+        self.cells.insert(self.width + place, value)?;
         Ok(())
     }
 
     /// The result row: the key's values, and then the others. All of them move.
     #[inline]
-    pub fn into_row(self, alloc: Global) -> Result<Row, AllocError>
+    pub fn into_row(self) -> Result<Row, AllocError>
         ensures { IfOk result (λ row. row ≡ row_of self) }
     {
-        let mut cells = self.key.into_values(alloc, self.values.len())?;
-        for value in self.values {
-            cells.push(value)?;
+        match self.cells.into_vec() {
+            Ok(cells) => Ok(Row::new(cells)),
+            Err(_) => Err(AllocError),
         }
-        Ok(Row::new(cells))
     }
 }
 
@@ -81,7 +87,7 @@ pub fn rows_of(alloc: Global, groups: Vec<GroupValues>) -> Result<Vec<Row>, Allo
 {
     let mut rows = Vec::with_capacity(alloc, groups.len())?;
     for group in groups {
-        rows.push(group.into_row(alloc)?)?;
+        rows.push(group.into_row()?)?;
     }
     Ok(rows)
 }
@@ -89,7 +95,6 @@ pub fn rows_of(alloc: Global, groups: Vec<GroupValues>) -> Result<Vec<Row>, Allo
 /// The groups that were pushed, in that order.
 #[derive(Drop)]
 pub struct GroupList {
-    alloc: Global,
     groups: Vec<GroupValues>,
 }
 
@@ -108,7 +113,6 @@ impl GroupList {
         ensures { result ≡ [] }
     {
         GroupList {
-            alloc,
             groups: Vec::new(alloc),
         }
     }
@@ -116,8 +120,7 @@ impl GroupList {
     fn add(&mut self, key: Key, values: Vec<Value>) -> Result<(), AllocError>
         ensures { OnOk result (self.new ≡ self.old ++ (key, values.items) ∷ []) }
     {
-        let group = GroupValues::new(self.alloc, key, values)?;
-        self.groups.push(group)?;
+        self.groups.push(GroupValues::new(key, values)?)?;
         Ok(())
     }
 
@@ -140,6 +143,10 @@ impl<S: RunStore> GroupSink<S> for GroupList {
     ghost holds = { λ s runs groups. groups ≡ s };
 
     ghost makes_runs = { false };
+
+    fn make_room(&mut self, groups: usize) {
+        let _ = self.groups.reserve(groups);
+    }
 
     fn push(&mut self, store: &mut S, key: Key, values: Vec<Value>) -> Result<(), Refusal> {
         let _ = store;

@@ -1,17 +1,24 @@
-use Rattle.std.proofs.Common.{◌∙◌, refl, sym, rules}
+use Rattle.std.proofs.Common.{◌∙◌, refl, sym, subst, rules}
 use Rattle.sw_flat.specs.Maps.{filled}
+use Rattle.gq_group.specs.Access.{LeavesOthers}
+use Rattle.gq_group.specs.Entries.{Sent}
 use Rattle.gq_group.proofs.AccessLemmas.{leaves-trans, leaves-refl}
 use Rattle.gq_group.proofs.Sending.{sent-none, sent-step, sent-groups, sent-fine, count_groups, refused_one}
 use Rattle.gq_group.proofs.grouping.push_all.Goals as goal
 
 pub entries-init : goal.entries-init
-entries-init g c = record {
-  ready = c.requires.sink;
-  draining = c.walk-walk.ensures;
-  sent = sent-none _ _ _;
-  others = leaves-refl _ _;
-  made = λ none. refl;
-}
+entries-init g c =
+    let same = sym c.make_room.ensures in
+    let sink = c.args.sink.now in
+    let runs = g.S.RunStore.runs c.args.store.now in
+    let all = filled c.args.map.places in
+    record {
+      ready = subst (λ s. g.K.GroupSink.is_ready s runs) same c.requires.sink;
+      draining = c.walk-walk.ensures;
+      sent = subst (λ s. Sent runs.honest (g.K.GroupSink.holds sink runs) (g.K.GroupSink.holds s runs) all all) same (sent-none runs.honest (g.K.GroupSink.holds sink runs) all);
+      others = subst (λ s. LeavesOthers (g.K.GroupSink.owns sink) (g.K.GroupSink.owns s) runs runs) same (leaves-refl (g.K.GroupSink.owns sink) runs);
+      made = λ none. refl;
+    }
 
 pub returns-in_err-values-clause-overflow : goal.returns-in_err-values-clause-overflow
 returns-in_err-values-clause-overflow g c = λ e spec rows grouped.
