@@ -1,9 +1,1 @@
-mod BudgetLemmas
-mod FolderLemmas
-mod GivenLemmas
-mod LineLemmas
-mod SeedLemmas
-mod StatsLemmas
 mod StatusLemmas
-mod StepLemmas
-mod WordsLemmas

@@ -1,6 +1,4 @@
-pub mod CommandLine
 pub mod Program
 pub mod Session
 pub mod Statuses
 pub mod Streams
-pub mod Words

@@ -3,19 +3,18 @@ use Rattle.std.specs.Prelude.{◌≡◌, ◌≢◌, ◌⊎◌, ℕ, IsTrue, not,
 use Rattle.std.specs.IoError.{error_kind}
 use Rattle.std.specs.declared.io.Error.{Error}
 use Rattle.std.specs.declared.io.ErrorKind.TheVariants as kind
-use Rattle.clap.specs.Words.{Text}
 use Rattle.gq_row.specs.Limits.{GREATEST}
 use Rattle.gq_command.specs.Commands.{Bytes}
 use Rattle.gq_group.specs.declared.grouping.Spent.{Spent}
 use Rattle.gq_engine.specs.Headline.{State}
 use Rattle.gq_engine.specs.Runs.{Setting}
-use Rattle.gq_shell.specs.CommandLine.{Asked}
+use Rattle.gq_options.specs.CommandLine.{Asked, Text}
 use Rattle.gq_shell.specs.Session.{EndedWith, report_of}
 use Rattle.gq_shell.specs.Streams.{Stream, IsUntouched, Got, GotFront}
-use Rattle.gq_shell.specs.Words.{Reads, asked_by}
-use Rattle.gq_shell.specs.declared.words.BadLine.{BadLine}
-use Rattle.gq_shell.specs.declared.words.BadLine.TheVariants.{Help, Mistake, Memory}
-use Rattle.gq_shell.specs.declared.words.Options.{Options}
+use Rattle.gq_options.specs.Words.{Reads, asked_by}
+use Rattle.gq_options.specs.declared.options.BadLine.{BadLine}
+use Rattle.gq_options.specs.declared.options.BadLine.TheVariants.{Help, Mistake, Memory}
+use Rattle.gq_options.specs.declared.options.Options.{Options}
 
 -- The standard error got this text, as far as it took it, and this is the status.
 pub record Stopped (errors : Stream) (text : Bytes) (wanted status : ℕ) : Type 0 where

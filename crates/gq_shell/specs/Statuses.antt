@@ -1,5 +1,5 @@
 -- What each exit status tells of a session whose script is known.
-use Rattle.std.specs.Prelude.{◌≡◌, ◌≢◌, ◌⊎◌, ℕ, Option, Some}
+use Rattle.std.specs.Prelude.{◌≡◌, ◌≢◌, ◌⊎◌, ℕ, Some}
 use Rattle.gq_command.specs.Commands.{Bytes}
 use Rattle.gq_engine.specs.declared.run.Summary.{Summary}
 use Rattle.gq_engine.specs.Headline.{RanToEnd, State, StoppedReading, StoppedWriting}

@@ -5,11 +5,11 @@
 //! a path gives, its standard input, and its two streams. It says which script is run, what each
 //! stream got, and what the exit status stands for; `main` hands in the process's own.
 //!
-//! Below it stand [`words::read_words`], which answers what the command line asks for and tells
+//! Below it stand [`gq_options::read_words`], which answers what the command line asks for and tells
 //! help, mistakes and want of memory apart; [`script::run_script`], which makes the run store and
 //! opens the script; [`session::session`], which runs an engine, with [`report`] for the line on its
-//! work; and [`stopping`], for all that ends before a run. The laws in [`laws`] say what this comes
-//! to for command lines and for statuses.
+//! work; and [`stopping`], for all that ends before a run. The law in [`laws`] says what a status
+//! tells.
 #![tactic(auto)]
 
 pub mod laws;
@@ -21,7 +21,6 @@ mod stopping;
 mod telling;
 #[cfg(test)]
 mod tests;
-mod words;
 
 use crate::program::run_program;
 use std::fs::File;

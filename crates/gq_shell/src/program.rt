@@ -7,7 +7,7 @@ ghost use Rattle.gq_shell.specs.Streams.{stream};
 
 use crate::script::run_script;
 use crate::stopping::{answer_bad_line, answer_error};
-use crate::words::read_words;
+use gq_options::read_words;
 use std::alloc::Global;
 use std::fs::Files;
 use std::io::{self, Read, Write};

@@ -5,13 +5,13 @@ ghost use Rattle.gq_row.specs.Limits.{GREATEST};
 ghost use Rattle.gq_engine.specs.Engines.{setting_of, state_of};
 ghost use Rattle.gq_shell.specs.Program.{NOTHING, RanAsked, RanNamed, RanScript, setting_by};
 ghost use Rattle.gq_shell.specs.Streams.{stream};
-ghost use Rattle.gq_shell.specs.Words.{asked_by};
+ghost use Rattle.gq_options.specs.Words.{asked_by};
 
 use crate::session::session;
 use crate::stopping::{answer_error, stop_for_memory};
-use crate::words::Options;
 use gq_dir::DirStore;
 use gq_engine::{Budget, Engine, MemStore, RunStore};
+use gq_options::Options;
 use gq_row::Limits;
 use std::alloc::{AllocError, Global};
 use std::fs::Files;

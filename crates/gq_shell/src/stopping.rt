@@ -3,7 +3,7 @@ ghost use Rattle.gq_shell.specs.Program.{AnsweredBadLine, Stopped, StoppedBy, St
 ghost use Rattle.gq_shell.specs.Streams.{stream};
 
 use crate::telling::{CutShort, tell};
-use crate::words::BadLine;
+use gq_options::BadLine;
 use std::io::{Error, ErrorKind, Write};
 
 /// Answers a command line that asks for no run: help goes to `replies`, all else to `errors`.

@@ -4,7 +4,7 @@ use Rattle.gq_command.specs.Commands.{Bytes}
 use Rattle.gq_engine.specs.Engines.{spent_of, state_of}
 use Rattle.gq_engine.specs.Headline.{State}
 use Rattle.gq_engine.specs.Runs.{Setting}
-use Rattle.gq_shell.specs.CommandLine.{Asked}
+use Rattle.gq_options.specs.CommandLine.{Asked}
 use Rattle.gq_shell.specs.Program.{NOTHING, RanScript, setting_by}
 use Rattle.gq_shell.specs.Session.{EndedWith, report_of}
 use Rattle.gq_shell.specs.Streams.{Stream}

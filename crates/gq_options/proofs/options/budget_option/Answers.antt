@@ -1,0 +1,10 @@
+use Rattle.std.proofs.Common.{rules, ◌≡◌}
+use Rattle.clap.specs.declared.builder.value_parser.ValueParser.TheVariants.{Unsigned}
+use Rattle.gq_options.proofs.BudgetLemmas.{narrowed-to}
+use Rattle.gq_options.proofs.options.budget_option.Goals as goal
+
+pub returns-clause-rule : goal.returns-clause-rule
+returns-clause-rule c =
+    let narrowed : c.range.result ≡ Unsigned 1 1048576 =
+    narrowed-to c.value_parser.result c.range.result c.new-2.result.start c.new-2.result.end c.value_parser.ensures c.new-2.ensures.start c.new-2.ensures.end c.range.ensures in
+    search rules

@@ -1,0 +1,51 @@
+-- What reading a command line answers.
+use Rattle.std.specs.Prelude.{◌≡◌, ◌≢◌, ◌||◌, ℕ, Bool, true, false, List, Option, Some, None, Result, Ok, Err, codes, option_map}
+use Rattle.std.specs.Str.{bytes_eq}
+use Rattle.clap.specs.Words.{IsAmong, Text}
+use Rattle.clap.specs.declared.error.kind.ErrorKind.{ErrorKind}
+use Rattle.clap.specs.declared.error.kind.ErrorKind.TheVariants as kind
+use Rattle.gq_options.specs.CommandLine.{Asked, Names, faults_of, is_set, number_of}
+use Rattle.gq_options.specs.declared.options.Options.{Options}
+use Rattle.gq_options.specs.declared.options.BadLine.{BadLine}
+use Rattle.gq_options.specs.declared.options.BadLine.TheVariants.{Help, Mistake, Memory}
+
+-- clap's kind of error is told as this: help apart from all mistakes, and want of memory in place of either
+abbrev pub IsToldAs : ErrorKind → BadLine → Type 0
+IsToldAs k (Help text) = k ≡ kind.DisplayHelp
+IsToldAs k (Mistake text) = (k ≢ kind.DisplayHelp) × (k ≢ kind.OutOfMemory)
+IsToldAs k Memory = Unit {0}
+
+-- the words have a fault that is told as this
+abbrev pub IsBad : List Text → BadLine → Type 0
+IsBad words (Help text) = IsAmong kind.DisplayHelp (faults_of words)
+IsBad words (Mistake text) = (k : ErrorKind) × IsAmong k (faults_of words) × (k ≢ kind.DisplayHelp)
+IsBad words Memory = Unit {0}
+
+-- the text of a number is read as that number, where it passes the test, and no text as another
+abbrev pub IsReadAs : (Text → Bool) → ℕ → Option Text → ℕ → Type 0
+IsReadAs test otherwise None number = number ≡ otherwise
+IsReadAs test otherwise (Some text) number = test text ≡ true → number ≡ number_of text
+
+-- a flag has one of two texts
+abbrev pub is_flag : Text → Bool
+is_flag text = bytes_eq text (codes "true") || bytes_eq text (codes "false")
+
+-- the text of a flag is read as its value, where it is one of a flag, and no text as false
+abbrev pub IsReadAsFlag : Option Text → Bool → Type 0
+IsReadAsFlag None value = value ≡ false
+IsReadAsFlag (Some text) value = is_flag text ≡ true → value ≡ is_set text
+
+-- what options ask for
+abbrev pub asked_by : Options → Asked
+asked_by options = record {
+  script = option_map (λ s. s.now) options.script;
+  seed = options.seed;
+  budget = options.budget;
+  spill = option_map (λ s. s.now) options.spill;
+  stats = options.stats;
+}
+
+-- options come only of words without a fault, and ask for what these ask for
+abbrev pub Reads : List Text → Result Options BadLine → Type 0
+Reads words (Ok options) = Names words (asked_by options)
+Reads words (Err bad) = IsBad words bad

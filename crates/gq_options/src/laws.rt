@@ -1,0 +1,31 @@
+//! Laws: what the definitions come to. Each is the contract of a function that does nothing.
+ghost use Rattle.gq_options.specs.CommandLine.{BudgetsWorked, FoldersWorked, SeedsWorked};
+ghost use Rattle.gq_options.specs.CommandLine.{TakesOneBudget, TakesOneFolder, TakesOnePath, TakesOneSeed, TakesStats};
+
+/// The program takes one path, or none, and tells help from mistakes.
+pub fn takes_one_path()
+    ensures { TakesOnePath }
+{}
+
+/// Besides a path it takes one seed, before or behind it.
+pub fn takes_one_seed()
+    ensures vary { TakesOneSeed }
+    ensures worked { SeedsWorked }
+{}
+
+/// Besides a path and a seed it takes one budget, before or behind them.
+pub fn takes_one_budget()
+    ensures vary { TakesOneBudget }
+    ensures worked { BudgetsWorked }
+{}
+
+/// Besides these it takes one folder, before or behind them.
+pub fn takes_one_folder()
+    ensures vary { TakesOneFolder }
+    ensures worked { FoldersWorked }
+{}
+
+/// Besides these it takes the flag for the report, once.
+pub fn takes_stats()
+    ensures { TakesStats }
+{}

@@ -1,5 +1,0 @@
-use Rattle.gq_shell.proofs.BudgetLemmas.{budgets-worked, takes-one-budget}
-use Rattle.gq_shell.proofs.laws.takes_one_budget.Goals as goal
-
-pub returns : goal.returns
-returns c = record { vary = takes-one-budget; worked = budgets-worked }

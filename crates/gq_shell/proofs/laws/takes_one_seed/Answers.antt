@@ -1,5 +1,0 @@
-use Rattle.gq_shell.proofs.SeedLemmas.{seeds-worked, takes-one-seed}
-use Rattle.gq_shell.proofs.laws.takes_one_seed.Goals as goal
-
-pub returns : goal.returns
-returns c = record { vary = takes-one-seed; worked = seeds-worked }
