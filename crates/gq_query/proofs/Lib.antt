@@ -1,4 +1,5 @@
 pub mod CellLemmas
+pub mod FrontLemmas
 pub mod Joined
 pub mod KeepingLemmas
 pub mod OrderingLemmas

@@ -1,22 +1,33 @@
--- What a few words tell of a value's place in the order.
-use Rattle.std.specs.Prelude.{ℕ, ◌+◌, List, [], ◌∷◌, slice_index_or}
-use Rattle.std.specs.Int.{from_be_bytes, w64}
+-- What two words tell of a value's place in the order.
+use Rattle.std.specs.Prelude.{◌≡◌, ℕ, zero, suc, ◌+◌, ◌-◌, ◌*◌, ◌^◌, ◌<◌, negsuc, ◌-ℤ◌, List, [], ◌∷◌, drop, get_or, unsigned_abs, FitsSigned}
+use Rattle.std.specs.Int.{w64}
 use Rattle.gq_row.specs.declared.value.Value.{Value}
-use Rattle.gq_row.specs.declared.value.Value.TheVariants as value
+use Rattle.gq_row.specs.declared.value.Value.TheVariants.{Null, Int, Text}
+use Rattle.gq_row.specs.Rows.{cell}
 use Rattle.gq_query.specs.declared.front.Front.{Front}
-use Rattle.gq_query.specs.declared.front.Front.TheVariants as front
 
--- a byte of a text, and zero behind its end
-abbrev pub byte_at : List ℕ → ℕ → ℕ
-byte_at text place = slice_index_or text place 0
+-- the first n bytes of a text as one number, the first of them highest, with zeros behind its end
+abbrev pub leading : ℕ → List ℕ → ℕ
+leading zero text = 0
+leading (suc n) [] = 0
+leading (suc n) (byte ∷ text) = byte * 256 ^ n + leading n text
 
--- eight bytes of a text as one number, the first of them highest
-abbrev pub word_at : List ℕ → ℕ → ℕ
-word_at text start = from_be_bytes w64 (byte_at text start ∷ byte_at text (start + 1) ∷ byte_at text (start + 2) ∷ byte_at text (start + 3)
-    ∷ byte_at text (start + 4) ∷ byte_at text (start + 5) ∷ byte_at text (start + 6) ∷ byte_at text (start + 7) ∷ [])
-
--- nothing of null, a number itself, the first sixteen bytes of a text
+-- sixteen bytes in two words: nothing of null, 1 and how far a number is from the least, 2 and the first fifteen bytes of a text
 abbrev pub front_of : Value → Front
-front_of value.Null = front.Null
-front_of (value.Int n) = front.Int n
-front_of (value.Text text) = front.Text (word_at text 0) (word_at text 8)
+front_of Null = record { high = 0; low = 0 }
+front_of (Int n) = record { high = 2 ^ 56; low = unsigned_abs (n -ℤ negsuc (2 ^ 63 - 1)) }
+front_of (Text text) = record { high = 2 * 2 ^ 56 + leading 7 text; low = leading 8 (drop 7 text) }
+
+-- what a machine holds: numbers of 64 bits, and texts of bytes
+abbrev pub IsOfBytes : Value → Type 0
+IsOfBytes Null = Unit {0}
+IsOfBytes (Int n) = FitsSigned w64 n
+IsOfBytes (Text text) = (i : ℕ) → get_or text i 0 < 256
+
+-- the front of a value
+abbrev pub IsValueFront : Value → Front → Type 0
+IsValueFront value front = (front ≡ front_of value) × IsOfBytes value
+
+-- the front of a key is that of its first value
+abbrev pub IsFrontOf : List Value → Front → Type 0
+IsFrontOf key front = IsValueFront (cell key 0) front

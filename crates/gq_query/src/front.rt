@@ -1,24 +1,30 @@
-//! What a few words tell of a row's place in an order.
-ghost use Rattle.std.specs.Prelude.{◌≡◌, ◌≤◌};
-ghost use Rattle.gq_row.specs.Rows.{cell};
+//! What two words tell of a row's place in an order.
+ghost use Rattle.std.specs.Prelude.{◌≡◌, slice_index_or};
+ghost use Rattle.gq_row.specs.declared.value.Value.TheVariants.{Text};
 ghost use Rattle.gq_query.specs.Answers.{ordered_by};
-ghost use Rattle.gq_query.specs.Fronts.{byte_at, front_of, word_at};
+ghost use Rattle.gq_query.specs.Fronts.{IsFrontOf, IsValueFront, front_of, leading};
 
 use gq_row::Value;
 
-/// The front of a value: nothing of null, a number itself, and the first sixteen bytes of a text, in
-/// two words. Fronts are compared without a look at the memory of texts. Only speed rests on it that
-/// they come in the order of their values: whoever sorts by them sorts by whole values after that.
+/// The front of a value, sixteen bytes in two words: nothing of null, a number behind a byte of 1,
+/// and the first fifteen bytes of a text behind a byte of 2. Sorts know such words as normalized
+/// keys: compared as numbers they come in the order of the values, so whole values, with the memory
+/// of their texts, need a look only where their fronts tie.
 #[derive(Clone, Copy, Debug, PartialEq, Eq, PartialOrd, Ord)]
-pub enum Front {
-    Null,
-    Int(i64),
-    Text(u64, u64),
+pub struct Front {
+    high: u64,
+    low: u64,
 }
 
+// What the first byte of a front tells, in its place.
+const NUMBER: u64 = 1 << 56;
+
+const TEXT: u64 = 2 << 56;
+
 /// The front of a row's first value among those that it is ordered by.
+#[inline]
 pub fn front_in(columns: &[usize], row: &[Value]) -> Front
-    ensures { result ≡ front_of (cell (ordered_by columns.now row.now) 0) }
+    ensures { IsFrontOf (ordered_by columns.now row.now) result }
 {
     let column = match columns.first() {
         Some(column) => *column,
@@ -26,44 +32,61 @@ pub fn front_in(columns: &[usize], row: &[Value]) -> Front
     };
     match row.get(column) {
         Some(value) => value_front(value),
-        None => Front::Null,
+        None => Front { high: 0, low: 0 },
     }
 }
 
 fn value_front(value: &Value) -> Front
-    ensures { result ≡ front_of value.now }
+    ensures { IsValueFront value.now result }
 {
     match value {
-        Value::Null => Front::Null,
-        Value::Int(n) => Front::Int(*n),
-        Value::Text(text) => {
-            let bytes = text.as_str().as_bytes();
-            Front::Text(word(bytes, 0), word(bytes, 8))
-        }
+        Value::Null => Front { high: 0, low: 0 },
+        Value::Int(n) => Front {
+            high: NUMBER,
+            low: n.abs_diff(i64::MIN),
+        },
+        Value::Text(text) => text_front(text.as_str().as_bytes()),
     }
 }
 
-// Eight bytes of a text from a place on, the first of them highest.
-fn word(text: &[u8], start: usize) -> u64
-    requires { start ≤ 8 }
-    ensures { result ≡ word_at text.now start }
+fn text_front(text: &[u8]) -> Front
+    ensures { IsValueFront (Text text.now) result }
+{
+    Front {
+        high: TEXT + first_bytes(text) / 256,
+        low: first_bytes(text.get(7..).unwrap_or(&[])),
+    }
+}
+
+// The first eight bytes of a text, the first of them highest.
+fn first_bytes(text: &[u8]) -> u64
+    ensures { result ≡ leading 8 text.now }
+{
+    match text.first_chunk::<8>() {
+        Some(bytes) => u64::from_be_bytes(*bytes),
+        None => padded_bytes(text),
+    }
+}
+
+// The same, of a text that may end before them: zeros stand behind its end.
+fn padded_bytes(text: &[u8]) -> u64
+    ensures { result ≡ leading 8 text.now }
 {
     u64::from_be_bytes([
-        byte(text, start),
-        byte(text, start + 1),
-        byte(text, start + 2),
-        byte(text, start + 3),
-        byte(text, start + 4),
-        byte(text, start + 5),
-        byte(text, start + 6),
-        byte(text, start + 7),
+        byte(text, 0),
+        byte(text, 1),
+        byte(text, 2),
+        byte(text, 3),
+        byte(text, 4),
+        byte(text, 5),
+        byte(text, 6),
+        byte(text, 7),
     ])
 }
 
-// A text has zeros behind its end.
 #[inline]
 fn byte(text: &[u8], place: usize) -> u8
-    ensures { result ≡ byte_at text.now place }
+    ensures { result ≡ slice_index_or text.now place 0 }
 {
     match text.get(place) {
         Some(byte) => *byte,

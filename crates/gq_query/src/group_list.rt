@@ -1,12 +1,16 @@
 //! A list of groups as a sink.
 ghost use Rattle.std.specs.Prelude.{◌≡◌, ◌++◌, ◌∷◌, [], OnOk, IfOk, insert, map};
+ghost use Rattle.gq_row.specs.Order.{compare_keys};
+ghost use Rattle.gq_query.specs.Fronts.{IsFrontOf};
 ghost use Rattle.gq_query.specs.Joining.{first_of, row_of};
 
+use crate::front::{Front, front_in};
 use gq_group::{GroupSink, Refusal};
-use gq_row::{Key, Row, Value};
+use gq_row::{Key, Row, Value, compare_cells};
 use gq_spill::RunStore;
 use smallvec::SmallVec;
 use std::alloc::{AllocError, Global};
+use std::cmp::Ordering;
 use std::marker::Model;
 
 /// A key, and what is shown of the rows that have it: the cells of a result row. Up to two stand in
@@ -18,17 +22,20 @@ pub struct GroupValues {
     cells: SmallVec<Value, 2>,
     // How many are the key's.
     width: usize,
+    // The front of the key.
+    front: Front,
 }
 
 impl Model for GroupValues {
     ghost use Rattle.std.specs.Prelude.{◌≤◌, take, drop, length};
     ghost use Rattle.gq_group.specs.Groups.{Group};
+    ghost use Rattle.gq_query.specs.Fronts.{IsFrontOf};
 
     ghost Value = { Group };
 
     ghost view = { λ g. (take g.width g.cells.items, drop g.width g.cells.items) };
 
-    ghost invariant = { λ g. g.width ≤ length g.cells.items };
+    ghost invariant = { λ g. (g.width ≤ length g.cells.items) × IsFrontOf (take g.width g.cells.items) g.front };
 }
 
 impl GroupValues {
@@ -37,10 +44,15 @@ impl GroupValues {
     {
         let width = key.len();
         let mut cells = key.into_cells();
+        let front = front_in(&[], cells.as_slice());
         for value in values {
             cells.push(value)?;
         }
-        Ok(GroupValues { cells, width })
+        Ok(GroupValues {
+            cells,
+            width,
+            front,
+        })
     }
 
     /// The values of the key.
@@ -48,6 +60,23 @@ impl GroupValues {
         ensures { result.now ≡ self.now.0 }
     {
         &self.cells.as_slice()[..self.width]
+    }
+
+    /// The front of the key, which takes no look at it.
+    pub fn front(&self) -> Front
+        ensures { IsFrontOf self.now.0 result }
+    {
+        self.front
+    }
+
+    /// The order of the keys of two groups: that of their fronts, and of whole keys where these tie.
+    pub fn compare_keys(&self, other: &GroupValues) -> Ordering
+        ensures { result ≡ compare_keys self.now.0 other.now.0 }
+    {
+        match self.front.cmp(&other.front) {
+            Ordering::Equal => compare_cells(self.key(), other.key()),
+            told => told,
+        }
     }
 
     /// Its first value behind the key, or null where it has none.

@@ -1,8 +1,9 @@
 //! Rows in the order in which queries give them.
 //!
 //! Each sort is by fronts first: these are made once, compared in place, and move each row once.
-//! What they leave is mostly in order, so that the sort by whole keys is one look over it; only among
-//! ties does it move rows again.
+//! What they leave is mostly in order, so that the sort behind it is one look over it, and moves rows
+//! again among ties alone. Groups keep their fronts, and are compared by whole keys only where these
+//! tie; rows are compared whole.
 ghost use Rattle.std.specs.Prelude.{◌≡◌, OnOk, IsPermutation};
 ghost use Rattle.std.specs.List.Sorted.{IsSortedByKey};
 ghost use Rattle.gq_group.specs.Groups.{Group};
@@ -31,8 +32,8 @@ pub fn sort_groups(groups: &mut Vec<GroupValues>) -> Result<(), AllocError>
     ensures ascending { OnOk result
         (IsSortedByKey (λ (g : Group). g.0) compare_keys groups.new.items) }
 {
-    groups.sort_by_cached_key(|group| front_in(&[], group.key()))?;
-    groups.sort_by(|a, b| compare_cells(a.key(), b.key()))
+    groups.sort_by_cached_key(|group| group.front())?;
+    groups.sort_by(|a, b| a.compare_keys(b))
 }
 
 fn compare_rows(columns: &[usize], a: &[Value], b: &[Value]) -> Ordering

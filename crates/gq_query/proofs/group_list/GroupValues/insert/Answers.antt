@@ -7,7 +7,7 @@ returns c =
     let w = c.self.inside.width in
     let xs = c.self.inside.cells.items in
     let place = c.args.place in
-    let it = put-behind w place c.args.value xs c.self.invariant in
+    let it = put-behind w place c.args.value xs c.self.invariant.0 in
     let put : c.insert.new.self.items ≡ insert xs (w + min place (length xs - w)) c.args.value = search rules in
     subst (λ s. (take w c.insert.new.self.items, drop w c.insert.new.self.items) ≡ (s.0, insert s.1 place c.args.value)) c.self.view_is
     (ap (λ l. (take w l, drop w l)) put ∙ ap (λ a. (a, drop w (insert xs (w + min place (length xs - w)) c.args.value))) it.0 ∙ ap (λ b. (take w xs, b)) it.1)

@@ -1,0 +1,197 @@
+-- Fronts come in the order of the values.
+use Rattle.std.proofs.Common.{◌≡◌, ℕ, ℤ, zero, suc, ◌+◌, ◌*◌, ◌^◌, ◌<◌, ◌≤◌, List, [], ◌∷◌, drop, get_or, Ordering, Less, Equal, Greater, refl, sym, ap, ◌∙◌, arith}
+use Rattle.std.specs.Prelude.{negsuc, ◌-ℤ◌, ◌-◌, unsigned_abs, FitsSigned, ◌<ℤ◌}
+use Rattle.std.specs.Int.{w64}
+use Rattle.std.specs.Ordering.{nat_cmp, int_cmp, ordering_then}
+use Rattle.std.specs.Cmp.Lexicographic.{slice_cmp}
+use Rattle.std.proofs.lemmas.Cmp.{ranked, int_ranked, by_ranked}
+use Rattle.std.proofs.lemmas.Bool.Decides.{nat_tests}
+use Rattle.std.proofs.Math.Nat.{mul-le-mul_right, add-mul, pow-suc, one-le-pow}
+use Rattle.std.proofs.lemmas.Int.{ints}
+use Rattle.gq_row.specs.declared.value.Value.{Value}
+use Rattle.gq_row.specs.declared.value.Value.TheVariants.{Null, Int, Text}
+use Rattle.gq_row.specs.Order.{compare_values, compare_keys}
+use Rattle.gq_row.specs.Rows.{cell}
+use Rattle.gq_query.specs.declared.front.Front.{Front}
+use Rattle.gq_query.specs.Fronts.{leading, front_of, IsOfBytes, IsFrontOf}
+
+-- the order of fronts, as that of numbers of sixteen bytes
+abbrev pub compare_fronts : Front → Front → Ordering
+compare_fronts a b = ordering_then (nat_cmp a.high b.high) (nat_cmp a.low b.low)
+
+abbrev AreBytes : List ℕ → Type 0
+AreBytes text = (i : ℕ) → get_or text i 0 < 256
+
+-- ---- numbers
+
+less : (x y : ℕ) → x < y → nat_cmp x y ≡ Less
+less x y lt = grind (arith, nat_tests)
+
+greater : (x y : ℕ) → y < x → nat_cmp x y ≡ Greater
+greater x y lt = grind (arith, nat_tests)
+
+same : (x y : ℕ) → x ≡ y → nat_cmp x y ≡ Equal
+same x y e = grind (arith, nat_tests)
+
+shifted : (k x y : ℕ) → nat_cmp (k + x) (k + y) ≡ nat_cmp x y
+shifted k x y = by_ranked (x < y) (x ≡ y) (y < x) (nat_cmp x y) (ranked x y (nat_cmp x y) refl)
+    (λ e lt. less (k + x) (k + y) (omega (arith, lt)) ∙ sym e)
+    (λ e eq. same (k + x) (k + y) (ap (λ z. k + z) eq) ∙ sym e)
+    (λ e gt. greater (k + x) (k + y) (omega (arith, gt)) ∙ sym e)
+
+below : (p a b x y : ℕ) → a < b → x < p → a * p + x < b * p + y
+below p a b x y lt small =
+    let up : (a + 1) * p ≤ b * p = mul-le-mul_right p (omega (arith, lt)) in
+    let parts : (a + 1) * p ≡ a * p + 1 * p = add-mul a 1 p in
+    omega (arith, up, parts, small)
+
+-- two digits decide one after the other
+digits : (p a b x y : ℕ) → x < p → y < p → nat_cmp (a * p + x) (b * p + y) ≡ ordering_then (nat_cmp a b) (nat_cmp x y)
+digits p a b x y small_x small_y = by_ranked (a < b) (a ≡ b) (b < a) (nat_cmp a b) (ranked a b (nat_cmp a b) refl)
+    (λ e lt. less (a * p + x) (b * p + y) (below p a b x y lt small_x) ∙ ap (λ o. ordering_then o (nat_cmp x y)) (sym e))
+    (λ e eq. ap (λ z. nat_cmp (a * p + x) (z * p + y)) (sym eq) ∙ shifted (a * p) x y ∙ ap (λ o. ordering_then o (nat_cmp x y)) (sym e))
+    (λ e gt. greater (a * p + x) (b * p + y) (below p b a y x gt small_y) ∙ ap (λ o. ordering_then o (nat_cmp x y)) (sym e))
+
+-- ---- the first bytes of texts
+
+tail_bytes : (b : ℕ) (text : List ℕ) → AreBytes (b ∷ text) → AreBytes text
+tail_bytes b text bytes i = bytes (suc i)
+
+leading_none : (n : ℕ) → leading n [] ≡ 0
+leading_none zero = refl
+leading_none (suc n) = refl
+
+leading_small : (n : ℕ) (text : List ℕ) → AreBytes text → leading n text < 256 ^ n
+leading_small zero text bytes = omega arith
+leading_small (suc n) [] bytes = one-le-pow (suc n) 256 (omega arith)
+leading_small (suc n) (b ∷ text) bytes =
+    let rest : leading n text < 256 ^ n = leading_small n text (tail_bytes b text bytes) in
+    let up : (b + 1) * 256 ^ n ≤ 256 * 256 ^ n = mul-le-mul_right (256 ^ n) (omega (arith, bytes 0)) in
+    let parts : (b + 1) * 256 ^ n ≡ b * 256 ^ n + 1 * 256 ^ n = add-mul b 1 (256 ^ n) in
+    let power : 256 ^ suc n ≡ 256 ^ n * 256 = pow-suc 256 n in
+    omega (arith, rest, up, parts, power)
+
+leading_split : (text : List ℕ) → leading 15 text ≡ leading 7 text * 256 ^ 8 + leading 8 (drop 7 text)
+leading_split [] = refl
+leading_split (b0 ∷ []) = omega arith
+leading_split (b0 ∷ b1 ∷ []) = omega arith
+leading_split (b0 ∷ b1 ∷ b2 ∷ []) = omega arith
+leading_split (b0 ∷ b1 ∷ b2 ∷ b3 ∷ []) = omega arith
+leading_split (b0 ∷ b1 ∷ b2 ∷ b3 ∷ b4 ∷ []) = omega arith
+leading_split (b0 ∷ b1 ∷ b2 ∷ b3 ∷ b4 ∷ b5 ∷ []) = omega arith
+leading_split (b0 ∷ b1 ∷ b2 ∷ b3 ∷ b4 ∷ b5 ∷ b6 ∷ text) = omega arith
+
+nothing_below : (x : ℕ) → ordering_then (nat_cmp 0 x) Less ≡ Less
+nothing_below zero = refl
+nothing_below (suc x) = ap (λ o. ordering_then o Less) (less 0 (suc x) (omega arith))
+
+nothing_above : (x : ℕ) → ordering_then (nat_cmp x 0) Greater ≡ Greater
+nothing_above zero = refl
+nothing_above (suc x) = ap (λ o. ordering_then o Greater) (greater (suc x) 0 (omega arith))
+
+nested : (c d e : Ordering) → ordering_then d e ≡ e → ordering_then (ordering_then c d) (ordering_then c e) ≡ ordering_then c e
+nested Less d e h = refl
+nested Equal d e h = h
+nested Greater d e h = refl
+
+-- Where the first bytes differ, texts come in their order.
+leading_first : (n : ℕ) (s t : List ℕ) → AreBytes s → AreBytes t → ordering_then (nat_cmp (leading n s) (leading n t)) (slice_cmp nat_cmp s t) ≡ slice_cmp nat_cmp s t
+leading_first zero s t p q = refl
+leading_first (suc n) [] [] p q = refl
+leading_first (suc n) [] (b ∷ t) p q = nothing_below (b * 256 ^ n + leading n t)
+leading_first (suc n) (a ∷ s) [] p q = nothing_above (a * 256 ^ n + leading n s)
+leading_first (suc n) (a ∷ s) (b ∷ t) p q =
+    let small_s : leading n s < 256 ^ n = leading_small n s (tail_bytes a s p) in
+    let small_t : leading n t < 256 ^ n = leading_small n t (tail_bytes b t q) in
+    ap (λ o. ordering_then o (ordering_then (nat_cmp a b) (slice_cmp nat_cmp s t))) (digits (256 ^ n) a b (leading n s) (leading n t) small_s small_t)
+    ∙ nested (nat_cmp a b) (nat_cmp (leading n s) (leading n t)) (slice_cmp nat_cmp s t) (leading_first n s t (tail_bytes a s p) (tail_bytes b t q))
+
+dropped_bytes : (n : ℕ) (text : List ℕ) → AreBytes text → AreBytes (drop n text)
+dropped_bytes zero text bytes = bytes
+dropped_bytes (suc n) [] bytes = bytes
+dropped_bytes (suc n) (b ∷ text) bytes = dropped_bytes n text (tail_bytes b text bytes)
+
+-- ---- values and keys
+
+abbrev from_least : ℤ → ℕ
+from_least n = unsigned_abs (n -ℤ negsuc (2 ^ 63 - 1))
+
+numbers : (m n : ℤ) → FitsSigned w64 m → FitsSigned w64 n → nat_cmp (from_least m) (from_least n) ≡ int_cmp m n
+numbers m n p q = by_ranked (m <ℤ n) (m ≡ n) (n <ℤ m) (int_cmp m n) (int_ranked m n (int_cmp m n) refl)
+    (λ e lt. less (from_least m) (from_least n) (omega (arith, ints, lt)) ∙ sym e)
+    (λ e eq. same (from_least m) (from_least n) (ap from_least eq) ∙ sym e)
+    (λ e gt. greater (from_least m) (from_least n) (omega (arith, ints, gt)) ∙ sym e)
+
+texts : (s t : List ℕ) → AreBytes s → AreBytes t → compare_fronts (front_of (Text s)) (front_of (Text t)) ≡ nat_cmp (leading 15 s) (leading 15 t)
+texts s t p q =
+    let small_s : leading 8 (drop 7 s) < 256 ^ 8 = leading_small 8 (drop 7 s) (dropped_bytes 7 s p) in
+    let small_t : leading 8 (drop 7 t) < 256 ^ 8 = leading_small 8 (drop 7 t) (dropped_bytes 7 t q) in
+    ap (λ o. ordering_then o (nat_cmp (leading 8 (drop 7 s)) (leading 8 (drop 7 t)))) (shifted (2 * 2 ^ 56) (leading 7 s) (leading 7 t))
+    ∙ sym (digits (256 ^ 8) (leading 7 s) (leading 7 t) (leading 8 (drop 7 s)) (leading 8 (drop 7 t)) small_s small_t)
+    ∙ ap (λ x. nat_cmp x (leading 7 t * 256 ^ 8 + leading 8 (drop 7 t))) (sym (leading_split s))
+    ∙ ap (nat_cmp (leading 15 s)) (sym (leading_split t))
+
+itself : (o : Ordering) → ordering_then o o ≡ o
+itself Less = refl
+itself Equal = refl
+itself Greater = refl
+
+text_above : (k : ℕ) (text : List ℕ) → k < 2 * 2 ^ 56 → nat_cmp k (2 * 2 ^ 56 + leading 7 text) ≡ Less
+text_above k text lt = less k (2 * 2 ^ 56 + leading 7 text) (omega (arith, lt))
+
+above_text : (k : ℕ) (text : List ℕ) → k < 2 * 2 ^ 56 → nat_cmp (2 * 2 ^ 56 + leading 7 text) k ≡ Greater
+above_text k text lt = greater (2 * 2 ^ 56 + leading 7 text) k (omega (arith, lt))
+
+-- Values are compared by their fronts first, and wherever these tie by themselves.
+by_fronts : (x y : Value) → IsOfBytes x → IsOfBytes y → ordering_then (compare_fronts (front_of x) (front_of y)) (compare_values x y) ≡ compare_values x y
+by_fronts Null Null p q = refl
+by_fronts Null (Int n) p q = refl
+by_fronts Null (Text t) p q = ap (λ o. ordering_then (ordering_then o (nat_cmp 0 (leading 8 (drop 7 t)))) Less) (text_above 0 t (omega arith))
+by_fronts (Int m) Null p q = refl
+by_fronts (Int m) (Int n) p q = ap (λ o. ordering_then o (int_cmp m n)) (numbers m n p q) ∙ itself (int_cmp m n)
+by_fronts (Int m) (Text t) p q = ap (λ o. ordering_then (ordering_then o (nat_cmp (from_least m) (leading 8 (drop 7 t)))) Less) (text_above (2 ^ 56) t (omega arith))
+by_fronts (Text s) Null p q = ap (λ o. ordering_then (ordering_then o (nat_cmp (leading 8 (drop 7 s)) 0)) Greater) (above_text 0 s (omega arith))
+by_fronts (Text s) (Int n) p q = ap (λ o. ordering_then (ordering_then o (nat_cmp (leading 8 (drop 7 s)) (from_least n))) Greater) (above_text (2 ^ 56) s (omega arith))
+by_fronts (Text s) (Text t) p q = ap (λ o. ordering_then o (slice_cmp nat_cmp s t)) (texts s t p q) ∙ leading_first 15 s t p q
+
+grouped : (a b c : Ordering) → ordering_then a b ≡ b → ordering_then a (ordering_then b c) ≡ ordering_then b c
+grouped Less Less c h = refl
+grouped Less Equal c h = cc h
+grouped Less Greater c h = cc h
+grouped Equal b c h = refl
+grouped Greater Less c h = cc h
+grouped Greater Equal c h = cc h
+grouped Greater Greater c h = refl
+
+null_first : (y : Value) (o : Ordering) → ordering_then o (compare_values Null y) ≡ compare_values Null y → ordering_then o Less ≡ Less
+null_first Null Less h = refl
+null_first Null Equal h = refl
+null_first Null Greater h = cc h
+null_first (Int n) o h = h
+null_first (Text t) o h = h
+
+null_last : (x : Value) (o : Ordering) → ordering_then o (compare_values x Null) ≡ compare_values x Null → ordering_then o Greater ≡ Greater
+null_last Null Less h = cc h
+null_last Null Equal h = refl
+null_last Null Greater h = refl
+null_last (Int n) o h = h
+null_last (Text t) o h = h
+
+-- So are keys, by the fronts of their first values.
+keys_by_fronts : (xs ys : List Value) → IsOfBytes (cell xs 0) → IsOfBytes (cell ys 0)
+    → ordering_then (compare_fronts (front_of (cell xs 0)) (front_of (cell ys 0))) (compare_keys xs ys) ≡ compare_keys xs ys
+keys_by_fronts [] [] p q = refl
+keys_by_fronts [] (y ∷ ys) p q = null_first y (compare_fronts (front_of Null) (front_of y)) (by_fronts Null y p q)
+keys_by_fronts (x ∷ xs) [] p q = null_last x (compare_fronts (front_of x) (front_of Null)) (by_fronts x Null p q)
+keys_by_fronts (x ∷ xs) (y ∷ ys) p q = grouped (compare_fronts (front_of x) (front_of y)) (compare_values x y) (compare_keys xs ys) (by_fronts x y p q)
+
+decided : (r k : Ordering) → (r ≡ Equal → ⊥) → ordering_then r k ≡ k → r ≡ k
+decided Less k not h = h
+decided Equal k not h = absurd (not refl)
+decided Greater k not h = h
+
+-- Where the fronts of two keys do not tie, they tell the order of the keys.
+pub told : (xs ys : List Value) (a b : Front) (r : Ordering) → IsFrontOf xs a → IsFrontOf ys b → r ≡ compare_fronts a b → (r ≡ Equal → ⊥) → r ≡ compare_keys xs ys
+told xs ys a b r p q e not =
+    let fronts : compare_fronts a b ≡ compare_fronts (front_of (cell xs 0)) (front_of (cell ys 0)) = ap (λ f. compare_fronts f b) p.0 ∙ ap (compare_fronts (front_of (cell xs 0))) q.0 in
+    decided r (compare_keys xs ys) not (ap (λ o. ordering_then o (compare_keys xs ys)) (e ∙ fronts) ∙ keys_by_fronts xs ys p.1 q.1)
