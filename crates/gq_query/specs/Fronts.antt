@@ -24,7 +24,7 @@ IsOfBytes Null = Unit {0}
 IsOfBytes (Int n) = FitsSigned w64 n
 IsOfBytes (Text text) = (i : ℕ) → get_or text i 0 < 256
 
--- the front of a value
+-- the front of a value that a machine holds
 abbrev pub IsValueFront : Value → Front → Type 0
 IsValueFront value front = (front ≡ front_of value) × IsOfBytes value
 

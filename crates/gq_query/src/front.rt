@@ -16,9 +16,12 @@ pub struct Front {
     low: u64,
 }
 
-// What the first byte of a front tells, in its place.
+const NULL: Front = Front { high: 0, low: 0 };
+
+// The first byte of a number's front, in its place.
 const NUMBER: u64 = 1 << 56;
 
+// And that of a text's.
 const TEXT: u64 = 2 << 56;
 
 /// The front of a row's first value among those that it is ordered by.
@@ -32,7 +35,7 @@ pub fn front_in(columns: &[usize], row: &[Value]) -> Front
     };
     match row.get(column) {
         Some(value) => value_front(value),
-        None => Front { high: 0, low: 0 },
+        None => NULL,
     }
 }
 
@@ -40,7 +43,7 @@ fn value_front(value: &Value) -> Front
     ensures { IsValueFront value.now result }
 {
     match value {
-        Value::Null => Front { high: 0, low: 0 },
+        Value::Null => NULL,
         Value::Int(n) => Front {
             high: NUMBER,
             low: n.abs_diff(i64::MIN),
