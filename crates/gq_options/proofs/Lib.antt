@@ -2,6 +2,7 @@ mod BudgetLemmas
 mod FolderLemmas
 mod GivenLemmas
 mod LineLemmas
+mod OptionLemmas
 mod SeedLemmas
 mod StatsLemmas
 mod StepLemmas
