@@ -73,13 +73,9 @@ module _ (db : Database) (name : Bytes) (clauses : GroupClauses) where
     group_alone why h = finds NoTable (table_at db name) table _ found ∙ stops (other_in db clauses.exists) why _ h
 
     module _ (other : Option PlainTable) (there : other_in db clauses.exists ≡ Ok other) where
-      group_unplanned : (why : Refused) → group_plan table.heading.columns (other_columns other) clauses ≡ Err why → group db name clauses ≡ Err why
+      pub group_unplanned : (why : Refused) → group_plan table.heading.columns (other_columns other) clauses ≡ Err why → group db name clauses ≡ Err why
       group_unplanned why h =
           finds NoTable (table_at db name) table _ found ∙ gives (other_in db clauses.exists) other _ there ∙ stops (group_plan table.heading.columns (other_columns other) clauses) why _ h
-
-      pub plan_comes : (why : Refused) → (why ≡ unnumbered Memory) ⊎ (group_plan table.heading.columns (other_columns other) clauses ≡ Err why) → Comes (group db name clauses) (Err why) db db
-      plan_comes why (inl e) = (same_tables db, inl e)
-      plan_comes why (inr e) = (same_tables db, inr (group_unplanned why e))
 
       pub group_planned : (plan : GroupPlan) → group_plan table.heading.columns (other_columns other) clauses ≡ Ok plan
           → group db name clauses ≡ (some_or SumRange (rows_planned plan table other) >>= λ rows. Ok (db, reply.Rows (group_header clauses.by clauses.shown) rows))

@@ -1,5 +1,5 @@
 -- What one item of a script does to a database. A command is its steps in the order of refusals: the first that fails is its refusal.
-use Rattle.std.specs.Prelude.{ℕ, List, [], ◌∷◌, ◌++◌, length, not, nat_lt, is_some, Option, Some, None, Result, Ok, Err, if◌then◌else◌}
+use Rattle.std.specs.Prelude.{◌≡◌, ℕ, List, [], ◌∷◌, ◌++◌, length, not, nat_lt, is_some, Option, Some, None, Result, Ok, Err, if◌then◌else◌}
 use Rattle.std.specs.List.{list_any}
 use Rattle.gq_row.specs.declared.value.Value.{Value}
 use Rattle.gq_row.specs.declared.schema.Column.{Column}
@@ -107,6 +107,12 @@ other_in db None = Ok None
 other_in db (Some exists) = do
   table ← table_in db exists.table
   Ok (Some table)
+
+-- what a `group` asks of a database: its table, the table that its `exists` names, if there is one, and its plan
+pub record Asks (db : Database) (name : List ℕ) (clauses : GroupClauses) (table : PlainTable) (other : Option PlainTable) (plan : GroupPlan) : Type 0 where
+  pub found : table_at db name ≡ Some table
+  pub there : other_in db clauses.exists ≡ Ok other
+  pub told : group_plan table.heading.columns (other_columns other) clauses ≡ Ok plan
 
 -- the rows that a `group` is about by its plan: those of its table that the condition keeps and that have the match among the rows of the other
 abbrev pub rows_about : GroupPlan → PlainTable → Option PlainTable → List (List Value)

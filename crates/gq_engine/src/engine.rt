@@ -2,12 +2,12 @@
 ghost use Rattle.std.specs.Prelude.{◌≡◌, ◌∷◌, []};
 
 use crate::catalog::Catalog;
-use crate::grouping::{columns_of, other_table, rows_different, rows_grouped};
+use crate::grouping::{asked_of, rows_different, rows_grouped};
 use crate::payloads::{bytes_of, is_lost, stage};
 use crate::spending::both_spent;
 use gq_command::{Command, Item, Payload, Test};
 use gq_group::{Budget, Spent};
-use gq_plan::{GroupClauses, header_of, names_of, plan_distinct, plan_group};
+use gq_plan::{GroupClauses, header_of, names_of, plan_distinct};
 use gq_query::show_rows;
 use gq_reply::{Refusal, Refused, Reply};
 use gq_row::{Column, Key, Limits, Row, Schema, Sequence, Text, find_positions};
@@ -269,20 +269,10 @@ impl<H: KeyHash<Key> + Copy, S: RunStore> Engine<H, S> {
             (database self.old) name clauses (reply_of result) (spent_of self.old) (spent_of self.new) }
         ensures budget { budget_of self.new ≡ budget_of self.old }
     {
-        let table = self.catalog.get(name.as_str()).ok_or(Refusal::NoTable)?;
-        let others = other_table(&self.catalog, &clauses.exists)?;
-        let plan = plan_group(self.alloc, table.schema(), columns_of(others), &clauses)?;
+        let asked = asked_of(self.alloc, &self.catalog, name.as_str(), &clauses)?;
         let header = header_of(self.alloc, clauses.by, clauses.shown.as_slice())?;
         let (hasher, store) = (self.hasher, &mut self.store);
-        let (rows, spent) = rows_grouped(
-            self.alloc,
-            hasher,
-            table,
-            others,
-            &plan,
-            store,
-            self.budget,
-        )?;
+        let (rows, spent) = rows_grouped(self.alloc, hasher, &asked, store, self.budget)?;
         self.spent = both_spent(self.spent, spent);
         Ok(Reply::Rows { header, rows })
     }

@@ -1,19 +1,19 @@
 //! Groupings over the run store, by their plans, and the refusals that come of them.
-ghost use Rattle.std.specs.Prelude.{◌≡◌, ◌+◌, ◌≤◌, ◌<◌, All, IsTrue, Ok, Err, IfOk, IfErr, length, option_copied};
+ghost use Rattle.std.specs.Prelude.{◌≡◌, ◌⊎◌, ◌+◌, ◌≤◌, ◌<◌, All, IsTrue, Ok, Err, IfOk, IfErr, length, option_copied};
 ghost use Rattle.gq_query.specs.Selecting.{other_columns};
 ghost use Rattle.gq_query.specs.Work.{IsSpentOn};
-ghost use Rattle.gq_reply.specs.declared.refusal.Refusal.TheVariants.{SumRange};
+ghost use Rattle.gq_reply.specs.declared.refusal.Refusal.TheVariants.{Memory, SumRange};
 ghost use Rattle.gq_reply.specs.Refusals.{unnumbered};
 ghost use Rattle.gq_reply.specs.Outcomes.{some_or};
 ghost use Rattle.gq_plan.specs.Plans.{IsWithin};
 ghost use Rattle.gq_engine.specs.Refusing.{group_refusal};
 ghost use Rattle.gq_engine.specs.Serving.{GroupsOver, faults_in, rows_in};
-ghost use Rattle.gq_engine.specs.Steps.{keys_planned, other_in, rows_about, rows_planned};
+ghost use Rattle.gq_engine.specs.Steps.{Asks, group as grouped, keys_planned, other_in, rows_about, rows_planned};
 
 use crate::catalog::Catalog;
 use gq_command::Exists;
 use gq_group::{Budget, Spent};
-use gq_plan::{DistinctPlan, GroupPlan};
+use gq_plan::{DistinctPlan, GroupClauses, GroupPlan, plan_group};
 use gq_query::{Grouping, Selection, distinct_rows, group_rows};
 use gq_reply::{Refusal, Refused};
 use gq_row::{Column, Key, Row, Sequence};
@@ -22,8 +22,41 @@ use gq_table::Table;
 use std::alloc::Global;
 use sw_probe::KeyHash;
 
-/// The table that an `exists` names, if there is one.
-pub fn other_table<'a, H: KeyHash<Key> + Copy>(
+/// What a `group` asks of the tables of a catalog.
+#[derive(Drop)]
+pub struct Asked<'a, H: KeyHash<Key>> {
+    pub table: &'a Table<H>,
+    /// The table that its `exists` names, if there is one.
+    pub others: Option<&'a Table<H>>,
+    pub plan: GroupPlan,
+}
+
+/// Looks up what a `group` names, or says why it is refused.
+pub fn asked_of<'a, H: KeyHash<Key> + Copy>(
+    alloc: Global,
+    catalog: &'a Catalog<H>,
+    name: &str,
+    clauses: &GroupClauses,
+) -> Result<Asked<'a, H>, Refused>
+    ensures asks { IfOk result (λ asked. Asks catalog.now name.now clauses.now
+        asked.table.now (option_copied asked.others) asked.plan) }
+    ensures within { IfOk result (λ asked. IsWithin asked.table.now.heading.columns
+        (other_columns (option_copied asked.others)) asked.plan) }
+    ensures refused { IfErr result (λ why. (why ≡ unnumbered Memory)
+        ⊎ (grouped catalog.now name.now clauses.now ≡ Err why)) }
+{
+    let table = catalog.get(name).ok_or(Refusal::NoTable)?;
+    let others = other_table(catalog, &clauses.exists)?;
+    let plan = plan_group(alloc, table.schema(), columns_of(others), clauses)?;
+    Ok(Asked {
+        table,
+        others,
+        plan,
+    })
+}
+
+// The table that an `exists` names, if there is one.
+fn other_table<'a, H: KeyHash<Key> + Copy>(
     catalog: &'a Catalog<H>,
     exists: &Option<Exists>,
 ) -> Result<Option<&'a Table<H>>, Refused>
@@ -40,8 +73,8 @@ pub fn other_table<'a, H: KeyHash<Key> + Copy>(
     }
 }
 
-/// The columns of a table, none where there is none.
-pub fn columns_of<'a, H: KeyHash<Key> + Copy>(table: Option<&'a Table<H>>) -> &'a [Column]
+// The columns of a table, none where there is none.
+fn columns_of<'a, H: KeyHash<Key> + Copy>(table: Option<&'a Table<H>>) -> &'a [Column]
     ensures { result.now ≡ other_columns (option_copied table.entry) }
 {
     match table {
@@ -54,28 +87,27 @@ pub fn columns_of<'a, H: KeyHash<Key> + Copy>(table: Option<&'a Table<H>>) -> &'
 pub fn rows_grouped<H: KeyHash<Key> + Copy, S: RunStore>(
     alloc: Global,
     hasher: H,
-    table: &Table<H>,
-    others: Option<&Table<H>>,
-    plan: &GroupPlan,
+    asked: &Asked<'_, H>,
     store: &mut S,
     budget: Budget,
 ) -> Result<(Sequence<Row>, Spent), Refused>
-    requires { IsWithin table.now.heading.columns
-        (other_columns (option_copied others)) plan.now }
+    requires { IsWithin asked.now.table.now.heading.columns
+        (other_columns (option_copied asked.now.others)) asked.now.plan }
     ensures rows { GroupsOver (S.runs store.old).honest
-        (some_or SumRange (rows_planned plan.now table.now (option_copied others.entry)))
-        (rows_in result) }
+        (some_or SumRange (rows_planned asked.now.plan asked.now.table.now
+        (option_copied asked.now.others))) (rows_in result) }
     ensures spent { IsTrue (S.runs store.old).honest → IfOk result
-        (λ found. IsSpentOn budget.entries plan.now.by
-        (rows_about plan.now table.now (option_copied others.entry)) found.1) }
+        (λ found. IsSpentOn budget.entries asked.now.plan.by
+        (rows_about asked.now.plan asked.now.table.now (option_copied asked.now.others)) found.1) }
     ensures faults { (S.runs store.old).failures + faults_in result ≤ (S.runs store.new).failures }
     ensures honest { (S.runs store.new).honest ≡ (S.runs store.old).honest }
 {
+    let plan = &asked.plan;
     let selection = Selection {
-        table,
+        table: asked.table,
         condition: &plan.condition,
         matching: plan.matching.as_ref(),
-        others,
+        others: asked.others,
     };
     let grouping = Grouping {
         by: plan.by.as_slice(),

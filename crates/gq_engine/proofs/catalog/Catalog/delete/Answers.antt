@@ -1,5 +1,6 @@
-use Rattle.std.proofs.Common.{◌≡◌, ◌∙◌, set, sym, ap, subst, None}
+use Rattle.std.proofs.Common.{◌≡◌, ◌∙◌, set, sym, ap, subst, None, arith}
 use Rattle.std.specs.Prelude.{Err}
+use Rattle.std.proofs.lemmas.Grind.{common_steps}
 use Rattle.gq_reply.specs.declared.refusal.Refusal.TheVariants.{NoTable}
 use Rattle.gq_reply.specs.declared.refusal.Refused.{Refused}
 use Rattle.gq_reply.proofs.StepLemmas.{misses}
@@ -29,3 +30,6 @@ returns-in-None g c =
     let P : Database → Type 0 = λ db. table_at db c.args.name.now ≡ None in
     let none : table_at c.args.self.now c.args.name.now ≡ None = subst P c.self.view_is (rw c.as_slice.ensures.value at c.in-None.ensures) in
     (same_tables c.args.self.now, misses NoTable (table_at c.args.self.now c.args.name.now) _ none ∙ ap (λ (w : Refused). Err w) (sym c.from.ensures))
+
+pub index_mut-requires : goal.index_mut-requires
+index_mut-requires g c = grind (arith, common_steps)

@@ -1,5 +1,6 @@
-use Rattle.std.proofs.Common.{◌≡◌, ◌∙◌, inr, set, sym, ap, subst, None}
+use Rattle.std.proofs.Common.{◌≡◌, ◌∙◌, inr, set, sym, ap, subst, None, arith}
 use Rattle.std.specs.Prelude.{Err, IfSome}
+use Rattle.std.proofs.lemmas.Grind.{common_steps}
 use Rattle.gq_row.specs.Tables.{PlainTable}
 use Rattle.gq_reply.specs.declared.refusal.Refusal.TheVariants.{NoTable}
 use Rattle.gq_reply.specs.declared.refusal.Refused.{Refused}
@@ -37,3 +38,6 @@ pub put_rows-requires : goal.put_rows-requires
 put_rows-requires g c =
     stands_heading c.self.inside.tables.items c.args.name.now c.in-Some.i c.index_mut.result.now c.args.staged.heading (rw c.as_slice.ensures.value at c.in-Some.ensures) c.index_mut.ensures.value
     (subst (λ (db : Database). IfSome (table_at db c.args.name.now) (λ (table : PlainTable). c.args.staged.heading ≡ table.heading)) (sym c.self.view_is) c.requires)
+
+pub index_mut-requires : goal.index_mut-requires
+index_mut-requires g c = grind (arith, common_steps)
