@@ -18,7 +18,7 @@ use thiserror::Error;
 pub struct SumRange;
 
 /// An aggregate of the values that were added so far.
-#[derive(Debug, Drop)]
+#[derive(Drop)]
 pub struct Agg {
     alloc: Global,
     adds: u64,

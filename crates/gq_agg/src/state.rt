@@ -10,7 +10,7 @@ use std::alloc::{AllocError, Global};
 use std::cmp::Ordering;
 
 /// What is kept of the values that were added, by the kind of aggregate.
-#[derive(Debug, Drop)]
+#[derive(Drop)]
 pub enum State {
     /// Nothing: how many were added is known.
     Rows,

@@ -5,7 +5,7 @@ use std::marker::Model;
 
 /// A whole number in two words, seen as that number. An `i128` would stand at a multiple of sixteen
 /// bytes, and leave gaps in each group that is kept.
-#[derive(Debug, Drop)]
+#[derive(Drop)]
 pub struct Sum {
     // The number is `high` times 2^64, and `low` more.
     high: i64,

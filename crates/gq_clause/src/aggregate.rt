@@ -2,7 +2,7 @@
 use gq_row::Text;
 
 /// What is computed of a group.
-#[derive(Debug, Drop)]
+#[derive(Drop)]
 pub enum Aggregate {
     /// `count(*)`: the number of rows.
     CountAll,

@@ -6,7 +6,7 @@ use crate::aggregate::Aggregate;
 use gq_row::{Comparison, Text, Value};
 
 /// What a test compares.
-#[derive(Debug, Drop)]
+#[derive(Drop)]
 pub enum Operand {
     /// A column, by its name.
     Column(Text),
@@ -15,7 +15,7 @@ pub enum Operand {
 }
 
 /// A condition on one row.
-#[derive(Debug, Drop)]
+#[derive(Drop)]
 pub enum Test {
     Compare(Operand, Comparison, Operand),
     /// `x is null`

@@ -4,7 +4,7 @@ use gq_row::{Column, Row, Sequence, Text};
 
 /// `exists table (theirs) = (ours)`: whether a row of the other table has the values of this
 /// table's row, column by column.
-#[derive(Debug, Drop)]
+#[derive(Drop)]
 pub struct Exists {
     /// Whether `not` stands before it.
     pub negated: bool,
@@ -17,7 +17,7 @@ pub struct Exists {
 }
 
 /// The payload of a load, or the mark in its place.
-#[derive(Debug, Drop)]
+#[derive(Drop)]
 pub enum Payload {
     Bytes(Sequence<u8>),
     /// The script ends before the payload does. A line alone always gives this.
@@ -29,7 +29,7 @@ pub enum Payload {
 }
 
 /// A command. Names and literals are told by their values: quotes undone, keywords gone.
-#[derive(Debug, Drop)]
+#[derive(Drop)]
 pub enum Command {
     /// `create table (column kind, .., key (columns))`
     Create {

@@ -15,7 +15,7 @@ use std::io::Read;
 use std::marker::Model;
 
 /// What a line of a script gives.
-#[derive(Debug, Drop)]
+#[derive(Drop)]
 pub enum Item {
     Command(Command),
     Refused(LineRefusal),

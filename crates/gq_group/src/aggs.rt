@@ -17,7 +17,7 @@ use std::marker::Model;
 
 /// The running aggregates of a group, seen as their list. Up to two stand in it, and more in memory
 /// of their own.
-#[derive(Debug, Drop)]
+#[derive(Drop)]
 pub struct Aggs {
     running: SmallVec<Agg, 2>,
 }

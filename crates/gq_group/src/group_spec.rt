@@ -9,7 +9,7 @@ use std::marker::Model;
 
 /// By which columns rows are grouped, and which aggregates are asked of each group, each of a
 /// column. The column of `CountAll` is ignored.
-#[derive(Debug, Drop)]
+#[derive(Drop)]
 pub struct GroupSpec {
     by: Vec<usize>,
     aggs: Vec<(AggKind, usize)>,

@@ -13,7 +13,7 @@ use gq_spill::{RunId, RunMark, RunStore, RunWriter};
 use std::alloc::Global;
 
 // Writes the key of each group to a run of its own, as a row.
-#[derive(Debug, Drop)]
+#[derive(Drop)]
 pub(crate) struct KeyRun {
     writer: RunWriter,
 }

@@ -24,7 +24,7 @@ use std::alloc::Global;
 use sw_probe::KeyHash;
 
 // What a reading did.
-#[derive(Clone, Copy, Debug)]
+#[derive(Clone, Copy)]
 pub(crate) struct Level {
     pub(crate) rows_read: u64,
     pub(crate) rows_written: u64,

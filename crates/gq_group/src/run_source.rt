@@ -6,7 +6,7 @@ use gq_spill::{RunReader, RunStore};
 use std::alloc::Global;
 
 // The rows that are left of a run.
-#[derive(Debug, Drop)]
+#[derive(Drop)]
 pub(crate) struct RunSource {
     pub(crate) alloc: Global,
     pub(crate) reader: RunReader,

@@ -13,7 +13,7 @@ use gq_spill::{RunStore, RunWriter};
 use std::alloc::{AllocError, Global};
 
 // A place for the run of a class of keys.
-#[derive(Debug, Drop)]
+#[derive(Drop)]
 pub(crate) struct Slot {
     // The level at which its rows are to be read.
     pub(crate) level: u32,

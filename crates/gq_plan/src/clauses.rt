@@ -4,7 +4,7 @@ use gq_command::Exists;
 use gq_row::{Sequence, Text};
 
 /// The clauses of a `group`, as its line says them.
-#[derive(Debug, Drop)]
+#[derive(Drop)]
 pub struct GroupClauses {
     pub by: Sequence<Text>,
     pub shown: Sequence<Aggregate>,

@@ -10,7 +10,7 @@ use gq_row::Value;
 /// and the first fifteen bytes of a text behind a byte of 2. Sorts know such words as normalized
 /// keys: compared as numbers they come in the order of the values, so whole values, with the memory
 /// of their texts, need a look only where their fronts tie.
-#[derive(Clone, Copy, Debug, PartialEq, Eq, PartialOrd, Ord)]
+#[derive(Clone, Copy, PartialEq, Eq, PartialOrd, Ord)]
 pub struct Front {
     high: u64,
     low: u64,

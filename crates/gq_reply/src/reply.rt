@@ -7,7 +7,7 @@ use crate::refusal::{Refusal, Refused};
 use gq_row::{Row, Sequence, Text};
 
 /// The reply to a command.
-#[derive(Debug, Drop)]
+#[derive(Drop)]
 pub enum Reply {
     /// Carried out; the number of rows that it put, or 0 for a new table.
     Done(u64),

@@ -3,7 +3,7 @@ ghost use Rattle.std.specs.Prelude.{◌≡◌};
 ghost use Rattle.gq_script.specs.FirstWords.{word_after, is_load};
 
 /// How much of the word `load` came.
-#[derive(Clone, Copy, Debug)]
+#[derive(Clone, Copy)]
 pub enum FirstWord {
     /// Spaces and tabs alone.
     Blank,

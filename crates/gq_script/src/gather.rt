@@ -13,7 +13,7 @@ use std::alloc::Global;
 use std::io::Read;
 
 /// What a line begins with, as far as it came.
-#[derive(Clone, Copy, Debug)]
+#[derive(Clone, Copy)]
 pub enum Opening {
     /// Spaces and tabs alone.
     Blank,

@@ -10,7 +10,7 @@ use std::alloc::Global;
 use std::io::Read;
 
 /// How much came of a line that may end a payload: `\.`, and then its end.
-#[derive(Clone, Copy, Debug)]
+#[derive(Clone, Copy)]
 pub enum EndMark {
     /// Nothing yet.
     Start,

@@ -8,7 +8,7 @@ use crate::truth::Truth;
 use gq_row::{Comparison, Row, Sequence, Value, compare};
 
 /// What a test asks of.
-#[derive(Debug, Drop)]
+#[derive(Drop)]
 pub enum Operand {
     /// The value of the row in the column at a position, counted from 0. Null where the row has no
     /// such column.
@@ -18,7 +18,7 @@ pub enum Operand {
 }
 
 /// A test of a row.
-#[derive(Debug, Drop)]
+#[derive(Drop)]
 pub enum Test {
     Compare(Operand, Comparison, Operand),
     /// `x is null`
@@ -28,7 +28,7 @@ pub enum Test {
 }
 
 /// Tests that are joined by `and`. Without tests it is true.
-#[derive(Debug, Drop)]
+#[derive(Drop)]
 pub struct Condition {
     pub tests: Sequence<Test>,
 }

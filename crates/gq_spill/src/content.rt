@@ -5,7 +5,7 @@ use std::alloc::{AllocError, Global};
 use std::marker::Model;
 
 /// The bytes of a run, seen as their list.
-#[derive(Debug, Drop)]
+#[derive(Drop)]
 pub struct Content {
     bytes: Vec<u8>,
 }

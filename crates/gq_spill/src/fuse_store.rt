@@ -19,7 +19,7 @@ pub enum Trouble {
 /// A store that does as the one within, but for the one call that goes wrong.
 ///
 /// Where a call fails it is as honest as the store within; where a read is cut short it is not honest.
-#[derive(Debug, Drop)]
+#[derive(Drop)]
 pub struct FuseStore<S> {
     inner: S,
     fuse: Fuse,

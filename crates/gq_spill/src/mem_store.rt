@@ -11,7 +11,7 @@ use std::marker::Model;
 /// the list of them: a content, or none once the run was discarded.
 ///
 /// It refuses for want of memory alone, and reads back what was written.
-#[derive(Debug, Drop)]
+#[derive(Drop)]
 pub struct MemStore {
     alloc: Global,
     kept: Vec<Option<Content>>,

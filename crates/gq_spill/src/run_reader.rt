@@ -20,7 +20,7 @@ use std::marker::Model;
 ///
 /// Contracts see what is left of the run, how many rows the mark tells and how many came, and the
 /// refusal that it answers from now on, if there was one.
-#[derive(Debug, Drop)]
+#[derive(Drop)]
 pub struct RunReader {
     tail: RunTail,
     records: u64,

@@ -20,7 +20,7 @@ const PIECE: u64 = 65_536;
 const LENGTH: usize = 4;
 
 /// What is left of a run: its bytes from `at` to `end`, the first of which were read ahead.
-#[derive(Debug, Drop)]
+#[derive(Drop)]
 pub struct RunTail {
     pub id: RunId,
     pub at: u64,

@@ -17,7 +17,7 @@ use std::marker::Model;
 /// Writes rows to a run of its own, one record after the other.
 ///
 /// Contracts see its run's mark so far, and the refusal that it answers from now on, if there was one.
-#[derive(Debug, Drop)]
+#[derive(Drop)]
 pub struct RunWriter {
     mark: RunMark,
     refused: Option<SpillRefusal>,

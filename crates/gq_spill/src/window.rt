@@ -83,7 +83,7 @@ fn read_behind<S: RunStore>(
 
 /// Bytes of a run that were read and are not used yet, seen as their list. Used bytes stay in the
 /// buffer until more are read.
-#[derive(Debug, Drop)]
+#[derive(Drop)]
 pub struct Window {
     bytes: Vec<u8>,
     start: usize,

@@ -1,4 +1,5 @@
 use Rattle.std.proofs.Common.{◌≡◌, ◌+◌, ℕ, suc, List, sym, ap, ◌∙◌, arith, slice_index_or, slice_set, take, drop, ◌++◌, ◌∷◌, []}
+use Rattle.std.proofs.lemmas.Grind.{common_steps}
 use Rattle.gq_row.specs.declared.value.Value.{Value}
 use Rattle.gq_agg.specs.declared.kind.AggKind.TheVariants.{CountAll}
 use Rattle.gq_group.specs.Entries.{tallies}
@@ -23,3 +24,9 @@ aggs-preserved c = λ rows is.
     ap (λ l. slice_set l i c.add_cell.new.agg) now
     ∙ tally_set asked rows row i c.add_cell.new.agg (CountAll, 0) (omega arith) added
     ∙ ap (λ n. take n (tallies asked (rows ++ row ∷ [])) ++ drop n (tallies asked rows)) (sym more)
+
+pub offset_bounds-aggs-i : goal.offset_bounds-aggs-i
+offset_bounds-aggs-i c = grind (arith, common_steps)
+
+pub bounds-aggs-i : goal.bounds-aggs-i
+bounds-aggs-i c = grind (arith, common_steps)

@@ -1,4 +1,5 @@
 use Rattle.std.proofs.Common.{◌≡◌, ◌++◌, [], List, length, Err, true, true≢false, arith, sym, ap, subst, ◌∙◌}
+use Rattle.std.proofs.lemmas.Grind.{common_steps}
 use Rattle.gq_spill.specs.declared.run_mark.RunMark.{RunMark}
 use Rattle.gq_group.specs.Access.{either, Apart, HasCause}
 use Rattle.gq_group.specs.Groups.{Spec, Group, keys_of, out_of_range}
@@ -132,3 +133,9 @@ returns-clause-spills g c = λ h.
     let told = (c.in-Ok-group.ensures.counts h known.0 known.1).1 ∙ ap (λ (it : Spec). length (keys_of it.by known.0)) c.in-Ok.ensures in
     taken_twice c.args.budget.entries c.in-Ok-group.first c.in_ok-second.second c.in_all.result (c.in-Ok-group.ensures.spills h) (c.in_ok-second.ensures.spills later)
     (read ∙ as_many_keys p known.0 it.out it.are ∙ sym told) c.in_all.ensures.read c.in_all.ensures.written c.in_all.ensures.groups c.in_all.ensures.runs
+
+pub count_pairs-requires-clause-apart : goal.count_pairs-requires-clause-apart
+count_pairs-requires-clause-apart g c = grind (arith, common_steps)
+
+pub returns-then-mark-first-clause-others : goal.returns-then-mark-first-clause-others
+returns-then-mark-first-clause-others g c = grind (arith, common_steps)

@@ -1,6 +1,7 @@
-use Rattle.std.proofs.Common.{◌≡◌, ◌++◌, ◌+◌, List, length, Err, true, true≢false, sym, ap, subst, ◌∙◌}
+use Rattle.std.proofs.Common.{◌≡◌, ◌++◌, ◌+◌, List, length, Err, true, true≢false, sym, ap, subst, ◌∙◌, arith}
 use Rattle.std.specs.Prelude.{All, IsTrue}
 use Rattle.std.proofs.lemmas.List.Elements.{recursion_from_All}
+use Rattle.std.proofs.lemmas.Grind.{common_steps}
 use Rattle.gq_row.specs.declared.value.Value.{Value}
 use Rattle.gq_spill.specs.Reading.{Reading, Left}
 use Rattle.gq_group.specs.Access.{HasCause}
@@ -38,3 +39,9 @@ returns-clause-cause g c =
     let given = subst (λ (it : Reading). Left it r known.0) (sym c.open.ensures) known.1 in
     let over : out_of_range c.in-Ok.spec known.0 ≡ true = c.in-Err.ensures.overflow h (ap Err is) known.0 given in
     true≢false (sym over ∙ ap (λ (it : Spec). out_of_range it known.0) c.in-Ok.ensures ∙ counts_range c.args.columns known.0)))
+
+pub returns-clause-others : goal.returns-clause-others
+returns-clause-others g c = grind (arith, common_steps)
+
+pub returns-in-Ok-group-clause-count : goal.returns-in-Ok-group-clause-count
+returns-in-Ok-group-clause-count g c = grind (arith, common_steps)

@@ -1,4 +1,5 @@
-use Rattle.std.proofs.Common.{◌++◌, sym, subst, ◌∙◌}
+use Rattle.std.proofs.Common.{◌++◌, sym, subst, ◌∙◌, arith}
+use Rattle.std.proofs.lemmas.Grind.{common_steps}
 use Rattle.gq_spill.specs.declared.store.RunId.{RunId}
 use Rattle.gq_group.specs.Access.{KeepsOwn}
 use Rattle.gq_group.specs.RunSources.{only, same_number}
@@ -56,3 +57,6 @@ returns-clause-groups g c = λ h.
     let held' = g.met.K.GroupSink.keeps_groups c.args.sink.now r s kept_sink c.requires.sink h before held in
     let it = told rows given' before held' in
     (it.0, it.1, g.met.K.GroupSink.keeps_groups c.count_in_run-outcome.new.sink t u kept ready (phases.others.same_honest ∙ now) (before ++ it.0) it.2))
+
+pub returns-clause-others : goal.returns-clause-others
+returns-clause-others g c = grind (arith, common_steps)

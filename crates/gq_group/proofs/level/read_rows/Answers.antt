@@ -1,4 +1,5 @@
 use Rattle.std.proofs.Common.{arith, ◌∙◌, refl, subst, rules}
+use Rattle.std.proofs.lemmas.Grind.{common_steps}
 use Rattle.sw_table.specs.LaidOut.{hash_by}
 use Rattle.gq_row.specs.Classes.{bytes_of}
 use Rattle.gq_group.specs.Access.{LeavesOthers, Apart, KeepsOwn}
@@ -94,3 +95,9 @@ rows-preserved g c =
       owned = λ none run h. inv.owned none run (c.in_ok-row.ensures.owned none run h);
       made = λ none. omega (arith, c.in_ok-row.ensures.made none, inv.made none, placed.made);
     }
+
+pub returns-then-not-fits-clause-cause : goal.returns-then-not-fits-clause-cause
+returns-then-not-fits-clause-cause g c = grind (arith, common_steps)
+
+pub overflow_add-runs : goal.overflow_add-runs
+overflow_add-runs g c = grind (arith, common_steps)

@@ -1,4 +1,5 @@
-use Rattle.std.proofs.Common.{ℕ, sym, ap, subst}
+use Rattle.std.proofs.Common.{ℕ, sym, ap, subst, arith}
+use Rattle.std.proofs.lemmas.Grind.{common_steps}
 use Rattle.gq_spill.specs.declared.run_mark.RunMark.{RunMark}
 use Rattle.gq_group.specs.RunSources.{only}
 use Rattle.gq_group.specs.Slots.{Gone, is_run}
@@ -21,3 +22,6 @@ slots-preserved g c =
     let s = g.S.RunStore.runs c.slots.store in
     discarded-step c.args.slots.items c.slots.left.items c.pop.new.self.items c.in-Some.slot _ s s c.slots.invariant c.in-Some.ensures.items
     (subst (λ o. Gone (is_run o) s s) (sym c.in_default-writer.is) (gone-none s))
+
+pub discard-requires : goal.discard-requires
+discard-requires g c = grind (arith, common_steps)

@@ -1,6 +1,7 @@
 use Rattle.std.proofs.Common.{◌≡◌, ◌++◌, ◌∷◌, [], ◌+◌, List, length, sym, ap, subst, ◌∙◌, refl, rules, arith, append_assoc}
 use Rattle.std.specs.Prelude.{IsTrue}
 use Rattle.std.proofs.lemmas.List.{nil_from_length}
+use Rattle.std.proofs.lemmas.Grind.{common_steps}
 use Rattle.gq_group.specs.Access.{RunSet, either, GroupCause}
 use Rattle.gq_group.specs.Groups.{Group}
 use Rattle.gq_group.specs.Readings.{Numbers}
@@ -364,3 +365,15 @@ returns-clause-waits g c = λ h.
     let holds : List Group → Type 0 = λ out. (before : List Group) → g.K.GroupSink.holds c.args.sink.now r0 before → g.K.GroupSink.holds c.runs.sink r (before ++ out) in
     let none : c.runs.stack.items ≡ [] = sym c.reserve.ensures.items ∙ nil_from_length c.reserve.new.self.items (omega (arith, c.in_default-pop.ensures.cases)) in
     (c.in_ok-first.first.columns, λ rows b are. subst (λ st. Waits spec budget rows c.in_ok-first.first.columns st r spent holds) none (inv.waits h rows b are))
+
+pub overflow_add-rows_written : goal.overflow_add-rows_written
+overflow_add-rows_written g c = grind (arith, common_steps)
+
+pub runs-smaller : goal.runs-smaller
+runs-smaller g c = grind (arith, common_steps)
+
+pub returns-clause-made : goal.returns-clause-made
+returns-clause-made g c = grind (arith, common_steps)
+
+pub overflow_add-runs : goal.overflow_add-runs
+overflow_add-runs g c = grind (arith, common_steps)

@@ -2,6 +2,7 @@ use Rattle.std.proofs.Common.{◌≡◌, ◌∙◌, ◌<◌, get_or, sym, ap, ar
 use Rattle.std.specs.Str.{all_ascii_digits}
 use Rattle.std.specs.Str.Parse.{digits_value_after}
 use Rattle.std.proofs.lemmas.List.{drop_all}
+use Rattle.std.proofs.lemmas.Grind.{common_steps}
 use Rattle.gq_load.proofs.Numbers.{digit_small, fits, some_other, stops_at, spelled, within_64}
 use Rattle.gq_load.proofs.number.few_digits.Goals as goal
 
@@ -32,3 +33,6 @@ returns c =
     let all : all_ascii_digits ds ≡ _ = sym c.loop-digit.invariant.all ∙ ap all_ascii_digits done in
     let value = sym c.loop-digit.invariant.value ∙ ap (digits_value_after 10 c.loop-digit.value) done in
     sym (spelled ds c.loop-digit.value c.loop-digit.invariant.filled all value (within_64 c.loop-digit.value i c.loop-digit.invariant.small (omega (arith, c.requires))))
+
+pub loop-digit-preserved : goal.loop-digit-preserved
+loop-digit-preserved c = grind (arith, common_steps)

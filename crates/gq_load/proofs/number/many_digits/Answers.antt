@@ -2,6 +2,7 @@ use Rattle.std.proofs.Common.{◌≡◌, ◌∙◌, ◌+◌, ◌*◌, ◌≤◌,
 use Rattle.std.specs.Str.{all_ascii_digits}
 use Rattle.std.specs.Str.Parse.{digits_value, digits_value_after}
 use Rattle.std.proofs.lemmas.List.{drop_all}
+use Rattle.std.proofs.lemmas.Grind.{common_steps}
 use Rattle.gq_load.proofs.Numbers.{digit_is, grows, some_other, stops_at, too_great, spelled}
 use Rattle.gq_load.proofs.number.many_digits.Goals as goal
 
@@ -38,3 +39,6 @@ returns c =
     let all : all_ascii_digits ds ≡ _ = sym c.loop-digit.invariant.all ∙ ap all_ascii_digits done in
     let value = sym c.loop-digit.invariant.value ∙ ap (digits_value_after 10 c.loop-digit.value) done in
     sym (spelled ds c.loop-digit.value c.loop-digit.invariant.filled all value c.loop-digit.invariant.small)
+
+pub loop-digit-preserved : goal.loop-digit-preserved
+loop-digit-preserved c = grind (arith, common_steps)

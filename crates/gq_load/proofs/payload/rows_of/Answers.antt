@@ -1,5 +1,6 @@
-use Rattle.std.proofs.Common.{◌∙◌, sym, ap}
+use Rattle.std.proofs.Common.{◌∙◌, sym, ap, arith}
 use Rattle.std.proofs.lemmas.Result.{err_from_is_err_and}
+use Rattle.std.proofs.lemmas.Grind.{common_steps}
 use Rattle.gq_load.proofs.Left.{either_told, front_bad, front_end, front_more}
 use Rattle.gq_load.proofs.Onward.{no_front, with_front}
 use Rattle.gq_load.proofs.payload.rows_of.Goals as goal
@@ -21,3 +22,6 @@ loop-preserved c =
 
 pub returns-then-not-branch : goal.returns-then-not-branch
 returns-then-not-branch c = sym c.loop.invariant ∙ front_end c.loop.rows.items c.loop.reader.rows (c.in_ok-read.ensures.end c.if-not-branch.true)
+
+pub returns-in_err-push : goal.returns-in_err-push
+returns-in_err-push c = grind (arith, common_steps)

@@ -1,5 +1,6 @@
 use Rattle.std.proofs.Common.{◌≡◌, ◌+◌, ◌<◌, ◌++◌, ◌∷◌, [], ◌∙◌, ℕ, List, length, map, drop, get_or, sym, ap, append_assoc, arith}
 use Rattle.std.proofs.lemmas.List.{drop_more}
+use Rattle.std.proofs.lemmas.Grind.{common_steps}
 use Rattle.gq_query.specs.Cells.{place_of}
 use Rattle.gq_query.proofs.cells.place_columns.Goals as goal
 
@@ -9,3 +10,6 @@ one_more f done asked i less h = append_assoc done (f (get_or asked i 0) ∷ [])
 pub loop-column-preserved : goal.loop-column-preserved
 loop-column-preserved c =
     rw (c.in_ok-push.ensures.items, c.place_of.ensures) (one_more (λ column. place_of c.args.columns.now column) c.loop-column.places.items c.args.asked.now c.loop-column.column-index (omega arith) c.loop-column.invariant)
+
+pub returns : goal.returns
+returns c = grind (arith, common_steps)

@@ -2,6 +2,7 @@ use Rattle.std.proofs.Common.{◌≡◌, ◌+◌, ◌%◌, ◌<◌, ◌≤◌, l
 use Rattle.std.proofs.lemmas.Bool.{lt-ltb, le-ltb, ltb-true, ltb-false}
 use Rattle.std.proofs.lemmas.Grind.{get_or-set_at}
 use Rattle.std.proofs.lemmas.List.Sums.{count_by_more_yes, count_by_more_no, sum_by-take-le}
+use Rattle.std.proofs.lemmas.Grind.{common_steps}
 use native.Mathlib.Nat.{mod-lt}
 use Rattle.sw_table.specs.Free.{used_then, KeepsLoad}
 use Rattle.sw_table.specs.LaidOut.{full_count, hash_by, Reached}
@@ -75,3 +76,9 @@ pub returns-clause-entries : goal.returns-clause-entries
 returns-clause-entries g c =
     let v = c.loop-i.invariant in
     moved_all g.K.Keyed.class c.args.from.now c.loop-i.to c.loop-i.i (omega (arith, c.requires.laid.size.0, c.loop-i-test.false, c.len-i-end.ensures.len)) c.requires.laid.apart v.moved
+
+pub loop-i-init : goal.loop-i-init
+loop-i-init g c = grind (arith, common_steps)
+
+pub returns-clause-laid : goal.returns-clause-laid
+returns-clause-laid g c = grind (arith, common_steps)

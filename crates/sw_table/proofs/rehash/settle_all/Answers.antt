@@ -1,5 +1,6 @@
 use Rattle.std.proofs.Common.{length, refl, ap, arith}
 use Rattle.std.proofs.lemmas.List.{length-map}
+use Rattle.std.proofs.lemmas.Grind.{common_steps}
 use Rattle.sw_ctrl.specs.Bytes.{marked}
 use Rattle.sw_table.proofs.MovedEntries.{full-le-used}
 use Rattle.sw_table.proofs.Settling.{settling_begins, settling_ends, used_marked}
@@ -22,3 +23,6 @@ returns-clause-laid g c =
     let v = c.loop-i.invariant in
     settling_ends _ _ c.loop-i.slots c.loop-i.ctrl v.settling
     (λ k lt. v.done k (omega (arith, lt, v.size, c.loop-i-test.false, c.len-i-end.ensures.len, ap length c.mark_for_rehash.ensures, length-map c.args.ctrl.now marked)))
+
+pub settle_one-requires-clause-deleted : goal.settle_one-requires-clause-deleted
+settle_one-requires-clause-deleted g c = grind (arith, common_steps)

@@ -1,4 +1,5 @@
 use Rattle.std.proofs.Common.{◌≡◌, refl, ◌≢◌, ◌+◌, ◌/◌, ◌%◌, ◌<◌, length, set, get_or, slice_index, None, Some, sym, ap, subst, ◌∙◌, arith}
+use Rattle.std.proofs.lemmas.Grind.{common_steps}
 use native.Mathlib.Nat.{mod-lt}
 use Rattle.sw_table.specs.Entries.{entries_in}
 use Rattle.sw_table.specs.Free.{First}
@@ -84,3 +85,18 @@ returns-clause-fewer g c =
     let low : y < 128 = omega (arith, c.h2-h2.ensures, mod-lt c.hash-hash.result {m = 128} (omega arith)) in
     ap (λ b. deleted_count b + 1) (c.set-3.ensures ∙ ap (λ s. set s t y) c.set-2.ensures ∙ ap (λ b. set (set bs i b) t y) c.get-byte.ensures.value)
     ∙ deleted_turned bs i y c.requires.deleted.0 c.requires.deleted.1 low t c.first_free-at.ensures.free.0 off
+
+pub returns-then-home-i-clause-used : goal.returns-then-home-i-clause-used
+returns-then-home-i-clause-used g c = grind (arith, common_steps)
+
+pub returns-then-at-i-clause-used : goal.returns-then-at-i-clause-used
+returns-then-at-i-clause-used g c = grind (arith, common_steps)
+
+pub returns-then-at-i-clause-fewer : goal.returns-then-at-i-clause-fewer
+returns-then-at-i-clause-fewer g c = grind (arith, common_steps)
+
+pub put-requires : goal.put-requires
+put-requires g c = grind (arith, common_steps)
+
+pub returns-then-home-i-clause-fewer : goal.returns-then-home-i-clause-fewer
+returns-then-home-i-clause-fewer g c = grind (arith, common_steps)

@@ -1,5 +1,6 @@
-use Rattle.std.proofs.Common.{◌≡◌, length, take, drop, map, reverse, [], ◌∷◌, ◌++◌, Some, sym, ap, subst, ◌∙◌}
+use Rattle.std.proofs.Common.{◌≡◌, length, take, drop, map, reverse, [], ◌∷◌, ◌++◌, Some, sym, ap, subst, ◌∙◌, arith}
 use Rattle.std.proofs.lemmas.List.{reverse-append}
+use Rattle.std.proofs.lemmas.Grind.{common_steps}
 use Rattle.gq_agg.specs.Aggregates.{aggregate}
 use Rattle.gq_group.specs.Entries.{tallies}
 use Rattle.gq_group.specs.Groups.{answers, column_of, is_none}
@@ -30,3 +31,6 @@ aggs-preserved c =
           let turned : reverse c.push.new.self.items ≡ value ∷ reverse c.aggs.values.items = ap reverse c.in-Ok-push.ensures.items ∙ reverse-append c.aggs.values.items (value ∷ []) in
           ap (map Some) turned ∙ (λ i. sym answer i ∷ rest i) ∙ sym it.answer;
     }
+
+pub aggs-init : goal.aggs-init
+aggs-init c = grind (arith, common_steps)

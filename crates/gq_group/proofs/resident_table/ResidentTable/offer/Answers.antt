@@ -1,5 +1,6 @@
 use Rattle.std.proofs.Common.{◌≡◌, ◌∙◌, [], ◌∷◌, arith, ap, sym, subst, None}
 use Rattle.std.specs.FinMap.{get}
+use Rattle.std.proofs.lemmas.Grind.{common_steps}
 use Rattle.sw_table.specs.View.{entry_at, with_value}
 use Rattle.sw_table.specs.Entries.{entries}
 use Rattle.gq_row.specs.Classes.{class_of}
@@ -75,3 +76,9 @@ returns-in_ok-add_group-in-Vacant-clause-offers g c = λ rows resident.
     let none = subst (λ k. get (entries class_of map) (class_of k) ≡ None) key_is c.in-Vacant.ensures.vacant.absent in
     offers-vacant spec c.args.self.now.budget.entries rows row map c.add_group.new.map (key, tallies spec.aggs (row ∷ [])) resident (absent map key none) (omega (arith, c.if-len-entries.false, c.len.ensures, c.entries.ensures.is)) c.in_ok-add_group-in-Vacant.ensures.entries
     (grouped-vacant spec (taken spec map rows) row map c.add_group.new.map resident.grouped none c.in_ok-add_group-in-Vacant.ensures.entries)
+
+pub new-requires : goal.new-requires
+new-requires g c = grind (arith, common_steps)
+
+pub returns-then-len-entries-clause-offers : goal.returns-then-len-entries-clause-offers
+returns-then-len-entries-clause-offers g c = grind (arith, common_steps)

@@ -3,6 +3,7 @@ use Rattle.std.specs.Prelude.{nat_eq}
 use Rattle.std.specs.List.{list_any}
 use Rattle.std.proofs.lemmas.Bool.Decides.{nat_tests}
 use Rattle.std.proofs.lemmas.List.Elements.{All-push}
+use Rattle.std.proofs.lemmas.Grind.{common_steps}
 use Rattle.csv.specs.Records.{fields_of}
 use Rattle.gq_row.specs.Headings.{position_of}
 use Rattle.gq_load.proofs.Places.{named_none, named_repeats, named_more, named_all, found_all, too_few, differs}
@@ -48,3 +49,9 @@ returns-else-len-columns-clause-places c =
     let all = named_all c.args.columns.now names c.loop-i.places.items c.loop-i.i c.loop-i.invariant.named (omega (arith, c.loop-i-test.false, c.len-i-end.ensures)) in
     let other : nat_eq (length c.loop-i.places.items) (length c.args.columns.now) ≡ false = grind (arith, nat_tests, c.if-len-columns.false, c.len.ensures) in
     inr (too_few c.args.columns.now names c.loop-i.places.items all other)
+
+pub returns-in_err-push-in-Some-clause-whole : goal.returns-in_err-push-in-Some-clause-whole
+returns-in_err-push-in-Some-clause-whole c = grind (arith, common_steps)
+
+pub returns-in_err-push-in-Some-clause-places : goal.returns-in_err-push-in-Some-clause-places
+returns-in_err-push-in-Some-clause-places c = grind (arith, common_steps)

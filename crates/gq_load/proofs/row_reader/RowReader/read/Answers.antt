@@ -1,5 +1,6 @@
 use Rattle.std.proofs.Common.{◌≡◌, ◌∙◌, ◌+◌, ◌-◌, false, inr, Ok, IsTrue, sym, ap, subst, arith, rules}
 use Rattle.std.proofs.lemmas.Result.{err_from_is_err_and}
+use Rattle.std.proofs.lemmas.Grind.{common_steps}
 use Rattle.csv.specs.Records.{fields_of}
 use Rattle.gq_row.specs.Fitting.{fits_columns, has_null}
 use Rattle.gq_load.specs.Coming.{Coming, rows_left, unless_over}
@@ -94,3 +95,9 @@ returns-clause-keyed c =
     let fields = fields_of c.read_next.new.byte_record in
     let row = c.in_ok-row.field-0 in
     λ _. subst (λ (v : Coming). has_null v.heading.key row ≡ false) c.self.view_is (row_fit s.schema.now s.limits.now.bounds.text s.header c.in-Some.number fields row c.in_ok-row.ensures).keyed
+
+pub invariant_of-self-then-number-self : goal.invariant_of-self-then-number-self
+invariant_of-self-then-number-self c = grind (arith, common_steps)
+
+pub invariant_of-self-in_err-check_rest : goal.invariant_of-self-in_err-check_rest
+invariant_of-self-in_err-check_rest c = grind (arith, common_steps)

@@ -1,4 +1,5 @@
 use Rattle.std.proofs.Common.{◌≡◌, ◌+◌, ◌++◌, ◌∙◌, ℕ, suc, length, take, drop, sym, subst, arith}
+use Rattle.std.proofs.lemmas.Grind.{common_steps}
 use Rattle.gq_query.specs.Joining.{AreShown, so_far, joined}
 use Rattle.gq_query.specs.Keeping.{kept_rows}
 use Rattle.gq_query.proofs.Joined.{joined_shown, front_taken}
@@ -19,3 +20,15 @@ returns-in-Ok-clause-groups g c = λ h.
     let whole = take c.args.groups.now.len (c.join_counts.new.groups ++ drop (length c.join_counts.new.groups) gs) in
     let put : AreShown by (so_far (suc place) shown) rows whole = subst (λ l. AreShown by (so_far (suc place) shown) rows l) (sym (front ∙ made)) done in
     subst (λ n. AreShown by (so_far n shown) rows whole) more put
+
+pub returns-then-len-clause-cause : goal.returns-then-len-clause-cause
+returns-then-len-clause-cause g c = grind (arith, common_steps)
+
+pub returns-in_default-clause-groups : goal.returns-in_default-clause-groups
+returns-in_default-clause-groups g c = grind (arith, common_steps)
+
+pub counts-requires-clause-columns : goal.counts-requires-clause-columns
+counts-requires-clause-columns g c = grind (arith, common_steps)
+
+pub counts-requires-clause-column : goal.counts-requires-clause-column
+counts-requires-clause-column g c = grind (arith, common_steps)

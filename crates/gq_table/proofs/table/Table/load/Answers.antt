@@ -1,5 +1,6 @@
-use Rattle.std.proofs.Common.{◌≡◌, ◌<◌, IsTrue, length, sym, ap, subst, ◌∙◌, None}
+use Rattle.std.proofs.Common.{◌≡◌, ◌<◌, IsTrue, length, sym, ap, subst, ◌∙◌, None, arith}
 use Rattle.std.specs.Prelude.{OnOk, OnErr, IfErr}
+use Rattle.std.proofs.lemmas.Grind.{common_steps}
 use Rattle.gq_row.specs.Headings.{Heading}
 use Rattle.gq_row.specs.Tables.{PlainTable, keys_differ}
 use Rattle.gq_table.specs.Changes.{IsLoaded}
@@ -100,3 +101,6 @@ returns-in-Listed-clause-unchanged g c =
     (subst (λ r. LoadListed c.args.limits.now.bounds.rows c.args.staged.rows (rows_of r) c.load_listed.new.list.items c.load_listed.result) (sym c.in-Listed.is)
     (subst (λ l. LoadListed c.args.limits.now.bounds.rows l c.in-Listed.list.items c.load_listed.new.list.items c.load_listed.result) (ap rows_of (sym c.in-Listed-rows.is) ∙ c.into_rows-rows.ensures.rows)
     (record { ok = c.load_listed.ensures.ok; few = c.load_listed.ensures.few; err = c.load_listed.ensures.err; why = c.load_listed.ensures.why })))).unchanged
+
+pub load_listed-requires : goal.load_listed-requires
+load_listed-requires g c = grind (arith, common_steps)

@@ -1,5 +1,6 @@
-use Rattle.std.proofs.Common.{◌≡◌, ◌<◌, All, length, true, false, sym, ap, subst, ◌∙◌, None}
+use Rattle.std.proofs.Common.{◌≡◌, ◌<◌, All, length, true, false, sym, ap, subst, ◌∙◌, None, arith}
 use Rattle.std.specs.Prelude.{OnOk, OnErr, IfErr}
+use Rattle.std.proofs.lemmas.Grind.{common_steps}
 use Rattle.gq_row.specs.Fitting.{fits_columns, has_null}
 use Rattle.gq_table.specs.Changes.{IsPut}
 use Rattle.gq_table.specs.Keyed.{OwnKeys, by_key, rows_in}
@@ -58,3 +59,6 @@ returns-in-Keyed-clause-unchanged g c =
     (upserted_keyed c.args.limits.now.bounds c.args.limits.now.in_range c.self.inside.schema c.args.row.now (subst (λ t. fits_columns t.heading.columns c.args.row.now ≡ true) (sym c.self.view_is) c.requires.fits) (subst (λ t. has_null t.heading.key c.args.row.now ≡ false) (sym c.self.view_is) c.requires.keyed)
     c.in-Keyed.map c.put_keyed.new.map c.put_keyed.result c.key.result.now c.key.ensures.positions (subst (IsStored c.self.inside.schema) c.in-Keyed.is c.self.invariant)
     (record { own = c.put_keyed.ensures.own; ok = c.put_keyed.ensures.ok; few = c.put_keyed.ensures.few; err = c.put_keyed.ensures.err; why = c.put_keyed.ensures.why })).unchanged
+
+pub returns-in-Listed-clause-taken : goal.returns-in-Listed-clause-taken
+returns-in-Listed-clause-taken g c = grind (arith, common_steps)

@@ -1,5 +1,6 @@
 use Rattle.std.proofs.Common.{◌≡◌, Ok, Err, sym, ap, ◌∙◌, arith}
 use Rattle.std.specs.FinMap.{len}
+use Rattle.std.proofs.lemmas.Grind.{common_steps}
 use Rattle.sw_table.specs.Entries.{entries}
 use Rattle.sw_flat.proofs.Merged.{moves_nothing}
 use Rattle.sw_flat.proofs.map.FlatMap.merge.Goals as goal
@@ -26,3 +27,6 @@ returns-clause-limit g c =
             absurd (omega (arith, both.1, fits, most))
       ],
     )
+
+pub returns-clause-room : goal.returns-clause-room
+returns-clause-room g c = grind (arith, common_steps)

@@ -2,6 +2,7 @@ use mathlib.Core.Bool.{true≢false}
 use Rattle.std.proofs.Common.{◌≡◌, ◌+◌, ◌<◌, true, false, length, drop, sym, subst, ap, ◌∙◌, arith, IsOk}
 use Rattle.std.specs.Prelude.{is_some}
 use Rattle.std.specs.FinMap.{get, len, contains_key}
+use Rattle.std.proofs.lemmas.Grind.{common_steps}
 use Rattle.sw_table.specs.Entries.{entries}
 use Rattle.sw_table.specs.Insertion.HasSpace.{within_room}
 use Rattle.sw_table.specs.Sizes.{room_of}
@@ -108,3 +109,6 @@ returns-clause-merged g c = record {
   union = merged g.K.Keyed.class _ _ _ (entries g.K.Keyed.class c.slots.self-inside.table) c.slots.other-inside.table.places c.slots.walk.from c.slots.invariant.merging c.in_default.ensures.none;
   left = left_over g.K.Keyed.class _ _ _ (entries g.K.Keyed.class c.slots.self-inside.table) c.slots.other-inside.table.places c.slots.walk.from c.slots.invariant.merging c.in_default.ensures.none;
 }
+
+pub place_hashed-requires-clause-absent : goal.place_hashed-requires-clause-absent
+place_hashed-requires-clause-absent g c = grind (arith, common_steps)

@@ -1,4 +1,5 @@
-use Rattle.std.proofs.Common.{length, sym, ap, ◌∙◌}
+use Rattle.std.proofs.Common.{length, sym, ap, ◌∙◌, arith}
+use Rattle.std.proofs.lemmas.Grind.{common_steps}
 use Rattle.sw_table.specs.Entries.{entries, entries_in}
 use Rattle.sw_table.specs.View.{fresh, slot_count, table_view}
 use Rattle.sw_table.proofs.Emptied.{unused_places, unused_bytes}
@@ -20,3 +21,6 @@ returns-then-self-eq0-clause-entries g c =
 
 pub returns-clause-entries : goal.returns-clause-entries
 returns-clause-entries g c = ap (entries_in g.K.Keyed.class) c.empty_out.ensures ∙ no_entries g.K.Keyed.class (length c.self.inside.ctrl)
+
+pub invariant_of-self : goal.invariant_of-self
+invariant_of-self g c = grind (arith, common_steps)

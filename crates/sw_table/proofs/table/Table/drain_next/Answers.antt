@@ -1,4 +1,5 @@
 use Rattle.std.proofs.Common.{◌≡◌, ℕ, ◌<◌, ◌≤◌, length, slice_index, None, sym, ap, subst, ◌∙◌, arith}
+use Rattle.std.proofs.lemmas.Grind.{common_steps}
 use native.Mathlib.Decide.{dec_lt}
 use Rattle.sw_table.specs.LaidOut.{IsTable, hash_by}
 use Rattle.sw_table.specs.View.{View, entry_at, fresh, slot_count, table_view}
@@ -56,3 +57,6 @@ returns-clause-draining g c =
           (λ k past. others_kept c.args.self.now.bytes c.remove.new.self.bytes i c.remove.ensures.emptied c.remove.ensures.deleted k (omega (arith, past, moved))) c.in-Some.ensures.walking;
       taken = λ j lt. taken_on c.args.self.now.places c.remove.new.self.places c.args.walk.now.from i c.remove.result c.in-Some.ensures.full.0 c.requires.taken c.in-Some.ensures.first c.remove.ensures.entry c.remove.ensures.places j (omega (arith, lt, moved));
     }
+
+pub returns-in_default-clause-slots : goal.returns-in_default-clause-slots
+returns-in_default-clause-slots g c = grind (arith, common_steps)

@@ -2,6 +2,7 @@ use Rattle.std.proofs.Common.{◌≡◌, ℕ, ◌+◌, ◌%◌, Bool, true, fals
 use mir.Val.{bool_byte}
 use Rattle.std.specs.FinMap.{get, insert}
 use Rattle.std.proofs.lemmas.List.Sums.{count_by-le-length}
+use Rattle.std.proofs.lemmas.Grind.{common_steps}
 use Rattle.sw_ctrl.specs.declared.control.TheConstants.{EMPTY}
 use Rattle.sw_table.specs.Entries.{entries, entries_in}
 use Rattle.sw_table.specs.Free.{IsFree, KeepsLoad, used_then}
@@ -40,3 +41,6 @@ pub overflow_add-self-2 : goal.overflow_add-self-2
 overflow_add-self-2 g c =
     let t = c.self.inside in
     record { fits = omega (arith, c.self.invariant.full_is, count_by-le-length (λ b. nat_lt b 128) t.ctrl, small (length t.ctrl) c.self.invariant.laid.size.1) }
+
+pub put-requires : goal.put-requires
+put-requires g c = grind (arith, common_steps)

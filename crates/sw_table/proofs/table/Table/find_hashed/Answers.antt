@@ -4,6 +4,7 @@ use Rattle.sw_table.proofs.GroupLanes.{walk_ends}
 use Rattle.sw_table.proofs.Capacities.{groups_of}
 use Rattle.sw_probe.specs.Order.{group_number, moved}
 use Rattle.std.specs.FinMap.{get}
+use Rattle.std.proofs.lemmas.Grind.{common_steps}
 use Rattle.sw_table.specs.Entries.{entries}
 use Rattle.sw_table.specs.LaidOut.{hash_by}
 use Rattle.sw_table.specs.View.{entry_at, IsFull}
@@ -80,3 +81,6 @@ returns-then-any-clause-absent g c =
           (l.0, e.0, rw (← hashed, ← count, ← at) e.1))
       | then-any-via-else-any+then-not-advance v ↦ inl (omega (arith, walk_ends v.advance.result w.index w.groups v.if-not-advance.true v.advance.ensures.more.1, i.within, i.groups, count))
     ]) j p there))
+
+pub find_in-requires-clause-lanes : goal.find_in-requires-clause-lanes
+find_in-requires-clause-lanes g c = grind (arith, common_steps)

@@ -2,6 +2,7 @@ use Rattle.std.proofs.Common.{◌≡◌, ◌+◌, ◌*◌, ◌/◌, ◌≤◌, B
 use mir.Val.{bool_byte}
 use mathlib.Core.Bool.{true≢false}
 use Rattle.std.specs.FinMap.{remove}
+use Rattle.std.proofs.lemmas.Grind.{common_steps}
 use Rattle.sw_ctrl.specs.declared.control.TheConstants.{EMPTY, DELETED}
 use Rattle.sw_table.specs.Entries.{entries, entries_in}
 use Rattle.sw_table.specs.LaidOut.{NoEmpty}
@@ -86,3 +87,9 @@ returns-clause-deleted g c = λ none.
           absurd (subst (λ v. NoEmpty v.bytes (at / 16)) (sym c.self.view_is) none l.0 e.0 e.1)
       | else-emptied w ↦ c.set.ensures ∙ ap (slice_set t.ctrl at) w.set-is ∙ written
     ]
+
+pub set-requires-clause-in_range : goal.set-requires-clause-in_range
+set-requires-clause-in_range g c = grind (arith, common_steps)
+
+pub group-requires : goal.group-requires
+group-requires g c = grind (arith, common_steps)

@@ -1,4 +1,5 @@
 use Rattle.std.proofs.Common.{length, ap, arith, rules}
+use Rattle.std.proofs.lemmas.Grind.{common_steps}
 use Rattle.sw_table.proofs.Refusals.{memory_case, ok_case}
 use Rattle.sw_table.proofs.table.Table.reserve.Goals as goal
 
@@ -22,3 +23,6 @@ returns-in-Err-clause-refused g c = record {
   unchanged = search rules;
   limit = memory_case c.in-Some.capacity c.args.n c.in-Some.ensures.capacity.0 c.in-Some.ensures.capacity.1;
 }
+
+pub returns-in-Ok-clause-grows : goal.returns-in-Ok-clause-grows
+returns-in-Ok-clause-grows g c = grind (arith, common_steps)
