@@ -1,5 +1,5 @@
 -- A store that keeps its runs in files. It can't say what a file has, so it is not honest.
-use Rattle.std.specs.Prelude.{ℕ, Bool, false, List, None, Option, length, is_some, slice_index_or}
+use Rattle.std.specs.Prelude.{ℕ, false, List, None, Option, length, is_some, slice_index_or}
 use Rattle.gq_spill.specs.Runs.{Runs}
 
 -- the runs of a folder: a file for each that was made, or none once it was discarded

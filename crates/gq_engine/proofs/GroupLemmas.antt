@@ -1,12 +1,11 @@
 -- Groups and different values: what a plan comes to, and what its grouping.
-use Rattle.std.proofs.Common.{◌≡◌, ◌⊎◌, inl, inr, ◌<◌, ℕ, Bool, true, List, [], ◌∷◌, length, refl, sym, ap, subst, ◌∙◌, Option, Some, None, arith}
+use Rattle.std.proofs.Common.{◌≡◌, ◌⊎◌, inl, inr, ◌<◌, Bool, true, List, [], ◌∷◌, length, refl, sym, ap, subst, ◌∙◌, Option, Some, None, arith}
 use Rattle.std.specs.Prelude.{Result, Ok, Err}
-use Rattle.gq_row.specs.declared.limits.Bounds.{Bounds}
 use Rattle.gq_row.specs.declared.value.Value.{Value}
 use Rattle.gq_row.specs.Tables.{PlainTable}
 use Rattle.gq_command.specs.Commands.{Bytes, is_command}
 use Rattle.gq_clause.specs.declared.condition.Test.{Test}
-use Rattle.gq_command.specs.declared.command.Command.TheVariants.{Group, Distinct}
+use Rattle.gq_command.specs.declared.command.Command.TheVariants.{Distinct}
 use Rattle.gq_reply.specs.declared.refusal.Refusal.TheVariants.{NoTable, SumRange, Memory}
 use Rattle.gq_reply.specs.declared.refusal.Refused.{Refused}
 use Rattle.gq_reply.specs.declared.reply.Reply.{Reply}
@@ -21,13 +20,12 @@ use Rattle.gq_plan.specs.declared.plan.DistinctPlan.{DistinctPlan}
 use Rattle.gq_plan.specs.Headers.{group_header}
 use Rattle.gq_plan.specs.Plans.{distinct_plan, group_plan}
 use Rattle.gq_engine.specs.Databases.{Database, table_at}
-use Rattle.gq_engine.specs.Runs.{IsGrouped, FaultsHappened}
-use Rattle.gq_engine.specs.Serving.{Comes, ComesOver, Plainly, StoreFails, StoreLies, GroupsOver, reply_of}
+use Rattle.gq_engine.specs.Runs.{IsGrouped}
+use Rattle.gq_engine.specs.Serving.{Comes, ComesOver, Plainly, StoreFails, StoreLies, GroupsOver}
 use Rattle.gq_engine.specs.Spending.{rows_asked}
 use Rattle.gq_engine.specs.Steps.{Outcome, distinct, group, keys_planned, other_in, rows_about, rows_planned, settle}
 use Rattle.gq_engine.proofs.OrderLemmas.{same_tables}
 use Rattle.gq_engine.proofs.StepLemmas.{carries}
-use Rattle.gq_engine.proofs.StoreLemmas.{plain_faults}
 
 abbrev Rows : Type 0
 Rows = List (List Value)
@@ -86,10 +84,6 @@ module _ (db : Database) (name : Bytes) (clauses : GroupClauses) where
       asked_planned plan told =
           finds NoTable (table_at db name) table _ found ∙ gives (other_in db clauses.exists) other _ there ∙ gives (group_plan table.heading.columns (other_columns other) clauses) plan _ told
 
-  -- as long as the store isn't asked, no failure of it is told
-  pub group_faults : (limits : Bounds) (result : Result Reply Refused) (failures : ℕ) → Comes (group db name clauses) result db db → FaultsHappened (reply_of result ∷ []) failures failures
-  group_faults limits result failures h = plain_faults limits db (Group name clauses.by clauses.shown clauses.tests clauses.exists clauses.having) result db failures failures h refl
-
 module _ (db : Database) (name : Bytes) (on : List Bytes) (tests : List Test) where
   pub distinct_none : table_at db name ≡ None → distinct db name on tests ≡ Err (unnumbered NoTable)
   distinct_none h = misses NoTable (table_at db name) _ h
@@ -105,9 +99,6 @@ module _ (db : Database) (name : Bytes) (on : List Bytes) (tests : List Test) wh
     pub distinct_planned : (plan : DistinctPlan) → distinct_plan table.heading.columns on tests ≡ Ok plan
         → distinct db name on tests ≡ (some_or SumRange (Some (keys_planned plan table)) >>= λ rows. Ok (db, reply.Rows on rows))
     distinct_planned plan told = finds NoTable (table_at db name) table _ found ∙ gives (distinct_plan table.heading.columns on tests) plan _ told
-
-  pub distinct_faults : (limits : Bounds) (result : Result Reply Refused) (failures : ℕ) → Comes (distinct db name on tests) result db db → FaultsHappened (reply_of result ∷ []) failures failures
-  distinct_faults limits result failures h = plain_faults limits db (Distinct name on tests) result db failures failures h refl
 
   -- a line names a column
   pub some_on : is_command (Distinct name on tests) ≡ true → 0 < length on

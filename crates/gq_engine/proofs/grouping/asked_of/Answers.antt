@@ -1,4 +1,4 @@
-use Rattle.std.proofs.Common.{◌≡◌, ◌⊎◌, ◌∙◌, inl, inr, sym, ap, subst, rules, Option, Some}
+use Rattle.std.proofs.Common.{◌≡◌, ◌⊎◌, ◌∙◌, inl, inr, sym, ap, subst, rules, Option}
 use Rattle.std.specs.Prelude.{Err, option_copied}
 use Rattle.std.proofs.lemmas.Result.{err_from_is_err_and}
 use Rattle.gq_row.specs.Tables.{PlainTable}
@@ -8,7 +8,6 @@ use Rattle.gq_reply.specs.Refusals.{unnumbered}
 use Rattle.gq_reply.proofs.StepLemmas.{missed}
 use Rattle.gq_query.specs.Selecting.{other_columns}
 use Rattle.gq_plan.specs.Plans.{group_plan}
-use Rattle.gq_engine.specs.Databases.{table_at}
 use Rattle.gq_engine.specs.Steps.{other_in}
 use Rattle.gq_engine.proofs.GroupLemmas.{group_alone, group_none, group_unplanned}
 use Rattle.gq_engine.proofs.grouping.asked_of.Goals as goal
