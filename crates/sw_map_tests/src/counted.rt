@@ -2,8 +2,10 @@
 ghost use Rattle.std.specs.Prelude.{◌≡◌, fold};
 ghost use Rattle.std.specs.Int.{bytes_high_first};
 
+use crate::expected::expect_at;
 use std::alloc::{AllocError, Global};
 use std::cell::Cell;
+use std::ops::Range;
 use std::process::Abort;
 use sw_probe::{Keyed, Names, Step};
 
@@ -113,16 +115,26 @@ impl Counters {
         }
     }
 
-    /// How often the key and the value of `id` were dropped.
-    pub(crate) fn of(&self, rt: &impl Abort, id: usize) -> (u64, u64) {
-        assert!(rt; id < self.keys.len());
-        assert!(rt; id < self.values.len());
-        (self.keys[id].get(), self.values[id].get())
+    /// Expects how often the key and the value of `id` were dropped.
+    pub(crate) fn expect(&self, rt: &impl Abort, id: usize, due: (u64, u64)) {
+        let found = (times(&self.keys, id), times(&self.values, id));
+        expect_at(rt, id as u64, found, (Some(due.0), Some(due.1)));
     }
 
-    /// Whether each key was dropped so often, and each value.
-    pub(crate) fn all_are(&self, times: u64) -> bool {
-        self.keys.iter().all(|drops| drops.get() == times)
-            && self.values.iter().all(|drops| drops.get() == times)
+    /// Expects the same of each of these.
+    pub(crate) fn expect_each(&self, rt: &impl Abort, ids: Range<usize>, due: (u64, u64)) {
+        for id in ids {
+            self.expect(rt, id, due);
+        }
     }
+
+    /// Expects that each key was dropped so often, and each value.
+    pub(crate) fn expect_all(&self, rt: &impl Abort, times: u64) {
+        self.expect_each(rt, 0..self.keys.len(), (times, times));
+    }
+}
+
+// How often a cell counted, if there is such a cell.
+fn times(cells: &[Cell<u64>], id: usize) -> Option<u64> {
+    Some(cells.get(id)?.get())
 }

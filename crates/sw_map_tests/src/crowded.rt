@@ -1,78 +1,80 @@
 //! A map that is loaded with entries and deleted bytes.
+use crate::expected::{expect, expect_at};
+use crate::loaded::{FIRST, Keys, LATER, SECOND, expect_kinds, load};
+use crate::numbers::{Call, Numbers, play};
 use std::alloc::Global;
 use std::process::Abort;
 use std::test::Fail;
 use sw_flat::{Emplaced, FlatMap};
 use sw_probe::Direct;
+use sw_table::Table;
 
-type Numbers = FlatMap<u64, u64, Direct>;
+impl Keys for Numbers<Direct> {
+    type Value = u64;
 
-fn add(rt: &impl Abort, map: &mut Numbers, key: u64, value: u64) {
-    assert!(rt;
-        matches!(map.try_emplace(key, value), Ok(Emplaced::Inserted)),
-        "key {key}"
-    );
+    fn add(&mut self, key: u64, value: u64) -> bool {
+        matches!(self.try_emplace(key, value), Ok(Emplaced::Inserted))
+    }
+
+    fn take(&mut self, key: u64) -> bool {
+        self.erase(&key)
+    }
+
+    fn table(&self) -> &Table<u64, u64, Direct> {
+        FlatMap::table(self)
+    }
 }
 
-// Two groups of sixteen slots, loaded to the last slot that the load allows: the first group has
-// thirteen entries and three deleted bytes, the second twelve entries.
-fn loaded(rt: &impl Abort, alloc: Global) -> Result<Numbers, Fail> {
+// A map of 25 entries and three deleted bytes.
+fn loaded(rt: &impl Abort, alloc: Global) -> Result<Numbers<Direct>, Fail> {
     let mut map = FlatMap::with_room(alloc, Direct, 25)?;
-    assert_eq!(rt; map.capacity(), 32);
-    for j in 0..16u64 {
-        add(rt, &mut map, 256 * j, j);
-    }
-    for j in 0..9u64 {
-        add(rt, &mut map, 128 + 256 * j, j);
-    }
-    for j in 0..3u64 {
-        assert!(rt; map.erase(&(256 * j)));
-    }
-    for j in 9..12u64 {
-        add(rt, &mut map, 128 + 256 * j, j);
-    }
-    assert_eq!(rt; deleted(&map), 3);
+    expect(rt, map.capacity(), 32);
+    load(rt, &mut map);
     Ok(map)
 }
 
-fn deleted(map: &Numbers) -> usize {
-    let mut count = 0usize;
-    for i in 0..map.table().capacity() {
-        if map.table().byte(i) == 0xfe {
-            count = count.saturating_add(1);
-        }
-    }
-    count
+// Expects what the map should hold once 768 left and 3200 came.
+fn expect_all(rt: &impl Abort, map: &Numbers<Direct>) {
+    expect_held(rt, map, &FIRST[4..]);
+    expect_held(rt, map, &SECOND);
+    expect_held(rt, map, &LATER);
+    expect_held(rt, map, &[3200]);
+    expect(rt, map.len(), 25);
 }
 
-// Whether the map holds what it should once 768 left and 3200 came.
-fn holds_all(map: &Numbers) -> bool {
-    (4..16u64).all(|j| map.get(&(256 * j)).is_some_and(|value| *value == j))
-        && (0..13u64).all(|j| map.get(&(128 + 256 * j)).is_some_and(|value| *value == j))
-        && map.len() == 25
+fn expect_held(rt: &impl Abort, map: &Numbers<Direct>, keys: &[u64]) {
+    for key in keys {
+        expect_at(rt, *key, map.get(key).copied(), Some(*key / 256));
+    }
 }
 
 #[test]
 fn an_insertion_sweeps(rt: HostRuntime) -> Result<(), Fail> {
     let mut map = loaded(&rt, rt.alloc())?;
-    assert!(rt; map.erase(&768));
-    add(&rt, &mut map, 3200, 12);
-    assert_eq!(rt; map.capacity(), 32);
-    assert_eq!(rt; deleted(&map), 0);
-    assert!(rt; holds_all(&map));
+    play(
+        &rt,
+        &mut map,
+        &[
+            Call::Erase(768, true),
+            Call::Insert(3200, 12),
+            Call::Sizes(25, 32, 25),
+        ],
+    );
+    expect_kinds(&rt, &map, [25, 0, 7]);
+    expect_all(&rt, &map);
     Ok(())
 }
 
 #[test]
 fn a_merge_sweeps(rt: HostRuntime) -> Result<(), Fail> {
     let mut map = loaded(&rt, rt.alloc())?;
-    assert!(rt; map.erase(&768));
-    let mut other: Numbers = FlatMap::new(rt.alloc(), Direct);
-    add(&rt, &mut other, 3200, 12);
+    let mut other: Numbers<Direct> = FlatMap::new(rt.alloc(), Direct);
+    play(&rt, &mut map, &[Call::Erase(768, true)]);
+    play(&rt, &mut other, &[Call::Insert(3200, 12)]);
     map.merge(&mut other)?;
-    assert_eq!(rt; map.capacity(), 32);
-    assert!(rt; other.is_empty());
-    assert!(rt; holds_all(&map));
+    expect(&rt, map.capacity(), 32);
+    expect(&rt, other.is_empty(), true);
+    expect_all(&rt, &map);
     Ok(())
 }
 
@@ -80,19 +82,23 @@ fn a_merge_sweeps(rt: HostRuntime) -> Result<(), Fail> {
 fn a_rehash_that_is_called_sweeps(rt: HostRuntime) -> Result<(), Fail> {
     let mut map = loaded(&rt, rt.alloc())?;
     map.rehash();
-    assert_eq!(rt; deleted(&map), 0);
-    add(&rt, &mut map, 3200, 12);
-    assert_eq!(rt; map.len(), 26);
-    assert_eq!(rt; map.capacity(), 32);
+    expect_kinds(&rt, &map, [25, 0, 7]);
+    play(
+        &rt,
+        &mut map,
+        &[Call::Insert(3200, 12), Call::Sizes(26, 32, 25)],
+    );
     Ok(())
 }
 
 #[test]
 fn with_no_entry_to_lose_it_grows(rt: HostRuntime) -> Result<(), Fail> {
     let mut map = loaded(&rt, rt.alloc())?;
-    add(&rt, &mut map, 3200, 12);
-    assert_eq!(rt; map.len(), 26);
-    assert_eq!(rt; map.capacity(), 64);
-    assert_eq!(rt; deleted(&map), 0);
+    play(
+        &rt,
+        &mut map,
+        &[Call::Insert(3200, 12), Call::Sizes(26, 64, 50)],
+    );
+    expect_kinds(&rt, &map, [26, 0, 38]);
     Ok(())
 }

@@ -1,5 +1,8 @@
 //! Entries by keys that are only asked for.
+use crate::expected::expect;
+use crate::numbers::Numbers;
 use std::alloc::Global;
+use std::process::Abort;
 use std::test::Fail;
 use sw_flat::{Entry, FlatMap};
 use sw_probe::{ByteKey, Constant, Fnv1a};
@@ -23,40 +26,62 @@ fn count(alloc: Global, words: &mut Words, text: &[u8]) -> Result<(), Fail> {
     Ok(())
 }
 
-#[test]
-fn words_are_counted(rt: HostRuntime) -> Result<(), Fail> {
-    let mut words = FlatMap::new(rt.alloc(), Fnv1a { seed: 0 });
-    for text in ["one", "two", "one", "three", "one", "two", ""] {
-        count(rt.alloc(), &mut words, text.as_bytes())?;
-    }
-    assert_eq!(rt; words.len(), 4);
-    for (text, wanted) in [("one", 3), ("two", 2), ("three", 1), ("", 1), ("four", 0)] {
-        let counted = words.get(&ByteKey(text.as_bytes())).copied();
-        assert_eq!(rt; counted.unwrap_or(0), wanted, "{text}");
+fn count_each(alloc: Global, words: &mut Words, texts: &[&str]) -> Result<(), Fail> {
+    for text in texts {
+        count(alloc, words, text.as_bytes())?;
     }
     Ok(())
 }
 
+fn expect_counted(rt: &impl Abort, words: &Words, text: &str, due: Option<u64>) {
+    let counted = words.get(&ByteKey(text.as_bytes())).copied();
+    assert_eq!(rt; counted, due, "{text}");
+}
+
 #[test]
-fn a_vacancy_is_filled_where_all_keys_hash_alike(rt: HostRuntime) -> Result<(), Fail> {
+fn words_are_counted(rt: HostRuntime) -> Result<(), Fail> {
+    let mut words = FlatMap::new(rt.alloc(), Fnv1a { seed: 0 });
+    count_each(
+        rt.alloc(),
+        &mut words,
+        &["one", "two", "one", "three", "one", "two", ""],
+    )?;
+    expect(&rt, words.len(), 4);
+    expect_counted(&rt, &words, "one", Some(3));
+    expect_counted(&rt, &words, "two", Some(2));
+    expect_counted(&rt, &words, "three", Some(1));
+    expect_counted(&rt, &words, "", Some(1));
+    expect_counted(&rt, &words, "four", None);
+    Ok(())
+}
+
+// Whether the key was not there, and is now.
+fn fills(map: &mut Numbers<Constant>, key: u64) -> bool {
+    match map.entry(&key) {
+        Entry::Occupied(_) => false,
+        Entry::Vacant(vacancy) => map.fill(vacancy, key, key).is_ok(),
+    }
+}
+
+// Whether the key is there, with itself as its value.
+fn has_filled(map: &Numbers<Constant>, key: u64) -> bool {
+    match map.entry(&key) {
+        Entry::Occupied(slot) => {
+            let (stored, value) = map.entry_at(slot);
+            *stored == key && *value == key
+        }
+        Entry::Vacant(_) => false,
+    }
+}
+
+#[test]
+fn a_vacancy_is_filled_where_all_keys_hash_alike(rt: HostRuntime) {
     let mut map = FlatMap::new(rt.alloc(), Constant(5));
     for key in 0..100u64 {
-        match map.entry(&key) {
-            Entry::Occupied(_) => assert!(rt; false, "key {key} is there already"),
-            Entry::Vacant(vacancy) => {
-                assert!(rt; map.fill(vacancy, key, key).is_ok(), "key {key}");
-            }
-        }
+        assert!(rt; fills(&mut map, key), "key {key}");
     }
-    assert_eq!(rt; map.len(), 100);
+    expect(&rt, map.len(), 100);
     for key in 0..100u64 {
-        match map.entry(&key) {
-            Entry::Occupied(slot) => {
-                let (stored, value) = map.entry_at(slot);
-                assert_eq!(rt; (*stored, *value), (key, key));
-            }
-            Entry::Vacant(_) => assert!(rt; false, "key {key} is not there"),
-        }
+        assert!(rt; has_filled(&map, key), "key {key}");
     }
-    Ok(())
 }

@@ -14,9 +14,15 @@ mod crowded;
 #[cfg(test)]
 mod entries;
 #[cfg(test)]
+mod expected;
+#[cfg(test)]
+mod loaded;
+#[cfg(test)]
 mod map;
 #[cfg(test)]
 mod map_drops;
+#[cfg(test)]
+mod numbers;
 #[cfg(test)]
 mod plain;
 #[cfg(test)]

@@ -1,14 +1,16 @@
 //! What a map holds is dropped exactly once.
 use crate::counted::{Counted, CountedKey, Counters, Number};
+use crate::expected::expect;
+use std::ops::Range;
 use std::process::Abort;
 use std::test::Fail;
 use sw_flat::{Emplaced, FlatMap};
 use sw_probe::LowBits;
 
-type CountedMap<'a> = FlatMap<CountedKey<'a>, Counted<'a>, LowBits>;
+pub(crate) type CountedMap<'a> = FlatMap<CountedKey<'a>, Counted<'a>, LowBits>;
 
 // From all keys in one chain to all keys apart.
-const BITS: [u32; 3] = [0, 8, 64];
+pub(crate) const BITS: [u32; 3] = [0, 8, 64];
 
 // Adds the entry of a number, counted in the cells of `id`.
 fn add<'a>(
@@ -22,78 +24,127 @@ fn add<'a>(
     assert!(rt; matches!(added, Ok(Emplaced::Inserted)), "{id}");
 }
 
+/// Adds entries that are counted in these cells, with the numbers from `first` on.
+pub(crate) fn add_each<'a>(
+    rt: &impl Abort,
+    map: &mut CountedMap<'a>,
+    counters: &'a Counters,
+    ids: Range<usize>,
+    first: u64,
+) {
+    let mut number = first;
+    for id in ids {
+        add(rt, map, counters, number, id);
+        number = number.wrapping_add(1);
+    }
+}
+
+fn erase(rt: &impl Abort, map: &mut CountedMap, counters: &Counters, id: usize) {
+    assert!(rt; map.erase(&Number(id as u64)), "{id}");
+    counters.expect(rt, id, (1, 1));
+}
+
+// What is taken out is dropped only then.
+fn extract(rt: &impl Abort, map: &mut CountedMap, counters: &Counters, id: usize) {
+    let taken = map.extract(&Number(id as u64));
+    assert!(rt; taken.is_some(), "{id}");
+    counters.expect(rt, id, (0, 0));
+    drop(taken);
+    counters.expect(rt, id, (1, 1));
+}
+
+// Of sixty entries twenty are erased, twenty taken out and twenty cleared.
+fn erase_and_extract<'a>(
+    rt: &impl Abort,
+    map: &mut CountedMap<'a>,
+    counters: &'a Counters,
+) -> Result<(), Fail> {
+    add_each(rt, map, counters, 0..60, 0);
+    for id in 0..20usize {
+        erase(rt, map, counters, id);
+    }
+    for id in 20..40usize {
+        extract(rt, map, counters, id);
+    }
+    map.rehash();
+    map.reserve(500)?;
+    counters.expect_each(rt, 40..60, (0, 0));
+    map.clear();
+    counters.expect_all(rt, 1);
+    Ok(())
+}
+
 #[test]
 fn erased_and_extracted_once(rt: HostRuntime) -> Result<(), Fail> {
     for bits in BITS {
         let counters = Counters::new(rt.alloc(), 60)?;
-        let mut map: CountedMap = FlatMap::new(rt.alloc(), LowBits(bits));
-        for id in 0..60usize {
-            add(&rt, &mut map, &counters, id as u64, id);
-        }
-        for id in 0..20usize {
-            assert!(rt; map.erase(&Number(id as u64)), "{id}");
-            assert_eq!(rt; counters.of(&rt, id), (1, 1), "{id}");
-        }
-        for id in 20..40usize {
-            let taken = map.extract(&Number(id as u64));
-            assert!(rt; taken.is_some(), "{id}");
-            assert_eq!(rt; counters.of(&rt, id), (0, 0), "{id}");
-            drop(taken);
-            assert_eq!(rt; counters.of(&rt, id), (1, 1), "{id}");
-        }
-        map.rehash();
-        map.reserve(500)?;
-        for id in 40..60usize {
-            assert_eq!(rt; counters.of(&rt, id), (0, 0), "{id}");
-        }
-        map.clear();
-        assert!(rt; counters.all_are(1), "{bits} bits");
+        let mut map = FlatMap::new(rt.alloc(), LowBits(bits));
+        erase_and_extract(&rt, &mut map, &counters)?;
         drop(map);
-        assert!(rt; counters.all_are(1), "{bits} bits");
+        counters.expect_all(&rt, 1);
     }
     Ok(())
+}
+
+// A new value for the number of `id`, counted thirty cells on: the old one is handed out.
+fn replace<'a>(rt: &impl Abort, map: &mut CountedMap<'a>, counters: &'a Counters, id: usize) {
+    let new = id.wrapping_add(30);
+    let replaced = map.insert_or_assign(counters.key(rt, id as u64, new), counters.value(rt, new));
+    assert!(rt; matches!(&replaced, Ok(Some(_))), "{id}");
+    counters.expect(rt, id, (0, 0));
+    counters.expect(rt, new, (1, 0));
+    drop(replaced);
+    counters.expect(rt, id, (0, 1));
 }
 
 #[test]
 fn a_value_replaced_is_handed_out(rt: HostRuntime) -> Result<(), Fail> {
     for bits in BITS {
         let counters = Counters::new(rt.alloc(), 60)?;
-        let mut map: CountedMap = FlatMap::new(rt.alloc(), LowBits(bits));
+        let mut map = FlatMap::new(rt.alloc(), LowBits(bits));
+        add_each(&rt, &mut map, &counters, 0..30, 0);
         for id in 0..30usize {
-            add(&rt, &mut map, &counters, id as u64, id);
-        }
-        for id in 0..30usize {
-            let key = counters.key(&rt, id as u64, id + 30);
-            let Ok(old) = map.insert_or_assign(key, counters.value(&rt, id + 30)) else {
-                assert!(rt; false, "{id} was refused");
-                return Ok(());
-            };
-            assert!(rt; old.is_some(), "{id}");
-            assert_eq!(rt; counters.of(&rt, id), (0, 0), "{id}");
-            assert_eq!(rt; counters.of(&rt, id + 30), (1, 0), "{id}");
-            drop(old);
-            assert_eq!(rt; counters.of(&rt, id), (0, 1), "{id}");
+            replace(&rt, &mut map, &counters, id);
         }
         drop(map);
-        assert!(rt; counters.all_are(1), "{bits} bits");
+        counters.expect_all(&rt, 1);
     }
     Ok(())
+}
+
+fn emplace_again<'a>(rt: &impl Abort, map: &mut CountedMap<'a>, counters: &'a Counters) {
+    let back = map.try_emplace(counters.key(rt, 5, 1), counters.value(rt, 1));
+    assert!(rt; matches!(&back, Ok(Emplaced::Present(_, _))));
+    counters.expect(rt, 1, (0, 0));
+    drop(back);
+    counters.expect(rt, 1, (1, 1));
 }
 
 #[test]
 fn arguments_come_back(rt: HostRuntime) -> Result<(), Fail> {
     for bits in BITS {
         let counters = Counters::new(rt.alloc(), 2)?;
-        let mut map: CountedMap = FlatMap::new(rt.alloc(), LowBits(bits));
+        let mut map = FlatMap::new(rt.alloc(), LowBits(bits));
         add(&rt, &mut map, &counters, 5, 0);
-        let back = map.try_emplace(counters.key(&rt, 5, 1), counters.value(&rt, 1));
-        assert!(rt; matches!(&back, Ok(Emplaced::Present(_, _))));
-        assert_eq!(rt; counters.of(&rt, 1), (0, 0));
-        drop(back);
-        assert_eq!(rt; counters.of(&rt, 1), (1, 1));
+        emplace_again(&rt, &mut map, &counters);
         drop(map);
-        assert!(rt; counters.all_are(1), "{bits} bits");
+        counters.expect_all(&rt, 1);
     }
+    Ok(())
+}
+
+// Of the numbers 20 to 29 each map has an entry of its own.
+fn merge<'a>(
+    rt: &impl Abort,
+    one: &mut CountedMap<'a>,
+    mut other: CountedMap<'a>,
+    counters: &'a Counters,
+) -> Result<(), Fail> {
+    add_each(rt, one, counters, 0..30, 0);
+    add_each(rt, &mut other, counters, 30..60, 20);
+    one.merge(&mut other)?;
+    counters.expect_all(rt, 0);
+    expect(rt, (one.len(), other.len()), (50, 10));
     Ok(())
 }
 
@@ -101,25 +152,28 @@ fn arguments_come_back(rt: HostRuntime) -> Result<(), Fail> {
 fn merged_once(rt: HostRuntime) -> Result<(), Fail> {
     for bits in BITS {
         let counters = Counters::new(rt.alloc(), 60)?;
-        let mut one: CountedMap = FlatMap::new(rt.alloc(), LowBits(bits));
-        let mut other: CountedMap = FlatMap::new(rt.alloc(), LowBits(64));
-        // Of the numbers 20 to 29 each map has an entry of its own.
-        for id in 0..30usize {
-            add(&rt, &mut one, &counters, id as u64, id);
-            add(&rt, &mut other, &counters, id as u64 + 20, id + 30);
-        }
-        one.merge(&mut other)?;
-        assert!(rt; counters.all_are(0), "{bits} bits");
-        assert_eq!(rt; one.len(), 50);
-        assert_eq!(rt; other.len(), 10);
-        drop(other);
-        for id in 0..60usize {
-            let due = if id < 30 || id >= 40 { (0, 0) } else { (1, 1) };
-            assert_eq!(rt; counters.of(&rt, id), due, "{id}");
-        }
+        let mut one = FlatMap::new(rt.alloc(), LowBits(bits));
+        merge(
+            &rt,
+            &mut one,
+            FlatMap::new(rt.alloc(), LowBits(64)),
+            &counters,
+        )?;
+        counters.expect_each(&rt, 0..30, (0, 0));
+        counters.expect_each(&rt, 30..40, (1, 1));
+        counters.expect_each(&rt, 40..60, (0, 0));
         drop(one);
-        assert!(rt; counters.all_are(1), "{bits} bits");
+        counters.expect_all(&rt, 1);
     }
+    Ok(())
+}
+
+fn list(rt: &impl Abort, map: CountedMap, counters: &Counters) -> Result<(), Fail> {
+    let Ok(list) = map.into_list() else {
+        return Err(Fail::from("no memory"));
+    };
+    expect(rt, list.len(), 60);
+    counters.expect_all(rt, 0);
     Ok(())
 }
 
@@ -127,18 +181,10 @@ fn merged_once(rt: HostRuntime) -> Result<(), Fail> {
 fn listed_once(rt: HostRuntime) -> Result<(), Fail> {
     for bits in BITS {
         let counters = Counters::new(rt.alloc(), 60)?;
-        let mut map: CountedMap = FlatMap::with_room(rt.alloc(), LowBits(bits), 60)?;
-        for id in 0..60usize {
-            add(&rt, &mut map, &counters, id as u64, id);
-        }
-        let Ok(list) = map.into_list() else {
-            assert!(rt; false, "no memory");
-            return Ok(());
-        };
-        assert_eq!(rt; list.len(), 60);
-        assert!(rt; counters.all_are(0), "{bits} bits");
-        drop(list);
-        assert!(rt; counters.all_are(1), "{bits} bits");
+        let mut map = FlatMap::with_room(rt.alloc(), LowBits(bits), 60)?;
+        add_each(&rt, &mut map, &counters, 0..60, 0);
+        list(&rt, map, &counters)?;
+        counters.expect_all(&rt, 1);
     }
     Ok(())
 }

@@ -3,6 +3,19 @@ ghost use Rattle.std.specs.Prelude.{◌<◌};
 
 use std::alloc::{AllocError, Global};
 
+/// How many calls a random run has.
+pub(crate) const CALLS: u64 = 100_000;
+
+/// From how many keys a call of a run draws: by turns from few and from many, so that what is
+/// tested is crowded and grows.
+pub(crate) fn keys_at(call: u64) -> u64 {
+    match call / 5_000 % 3 {
+        0 => 24,
+        1 => 60,
+        _ => 300,
+    }
+}
+
 /// A list of entries, each key once, that is searched from its front.
 #[derive(Drop)]
 pub(crate) struct PlainList {

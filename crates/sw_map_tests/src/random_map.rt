@@ -1,105 +1,127 @@
 //! Random runs of a map's calls.
-use crate::plain::{Draws, PlainList};
+use crate::expected::{expect, expect_at};
+use crate::numbers::{Numbers, assigns, gives_back, insert};
+use crate::plain::{CALLS, Draws, PlainList, keys_at};
 use std::alloc::Global;
 use std::process::Abort;
 use std::test::Fail;
-use sw_flat::{Emplaced, FlatMap};
+use sw_flat::FlatMap;
 use sw_probe::{Constant, Direct, Fnv1a, KeyHash, LowBits};
-
-const CALLS: u64 = 100_000;
 
 // A map under a hasher, beside a list that holds the same.
 #[derive(Drop)]
 struct Pair<H: KeyHash<u64>> {
-    map: FlatMap<u64, u64, H>,
+    map: Numbers<H>,
     list: PlainList,
     draws: Draws,
 }
 
 impl<H: KeyHash<u64> + Copy + Drop> Pair<H> {
     fn try_emplace(&mut self, rt: &impl Abort, key: u64, value: u64) -> Result<(), Fail> {
-        let there = self.list.get(key).is_some();
-        match self.map.try_emplace(key, value) {
-            Ok(Emplaced::Inserted) => {
-                assert!(rt; !there, "key {key}");
-                let _ = self.list.put(key, value)?;
-            }
-            Ok(Emplaced::Present(back, unused)) => {
-                assert!(rt; there, "key {key}");
-                assert_eq!(rt; (back, unused), (key, value));
-            }
-            Err(_) => assert!(rt; false, "key {key} was refused"),
+        if self.list.get(key).is_some() {
+            assert!(rt; gives_back(&mut self.map, key, value), "key {key}");
+        } else {
+            insert(rt, &mut self.map, key, value);
+            let _ = self.list.put(key, value)?;
         }
         Ok(())
     }
 
     fn assign(&mut self, rt: &impl Abort, key: u64, value: u64) -> Result<(), Fail> {
         let due = self.list.put(key, value)?;
-        match self.map.insert_or_assign(key, value) {
-            Ok(old) => assert_eq!(rt; old, due, "key {key}"),
-            Err(_) => assert!(rt; false, "key {key} was refused"),
-        }
+        assert!(rt; assigns(&mut self.map, key, value, due), "key {key}");
         Ok(())
     }
 
-    fn write(&mut self, rt: &impl Abort, key: u64, value: u64) -> Result<(), Fail> {
-        match self.map.get_mut(&key) {
-            Some(held) => {
-                assert_eq!(rt; self.list.put(key, value)?, Some(*held), "key {key}");
-                *held = value;
-            }
-            None => assert_eq!(rt; self.list.get(key), None, "key {key}"),
+    // Gives a key that is there another value, and hands the old one out.
+    fn write(&mut self, key: u64, value: u64) -> Option<u64> {
+        let held = self.map.get_mut(&key)?;
+        let old = *held;
+        *held = value;
+        Some(old)
+    }
+
+    fn write_both(&mut self, rt: &impl Abort, key: u64, value: u64) -> Result<(), Fail> {
+        expect_at(rt, key, self.write(key, value), self.list.get(key));
+        if self.list.get(key).is_some() {
+            let _ = self.list.put(key, value)?;
         }
         Ok(())
     }
 
     fn look_up(&self, rt: &impl Abort, key: u64) {
         let due = self.list.get(key);
-        assert_eq!(rt; self.map.contains(&key), due.is_some(), "key {key}");
-        let found = match self.map.get(&key) {
-            Some(value) => Some(*value),
-            None => None,
-        };
-        assert_eq!(rt; found, due, "key {key}");
+        expect_at(rt, key, self.map.contains(&key), due.is_some());
+        expect_at(rt, key, self.map.get(&key).copied(), due);
     }
 
     // Each entry of the map is one of the list, and there are as many.
     fn compare_all(&self, rt: &impl Abort) {
-        assert_eq!(rt; self.map.len(), self.list.len());
         let mut count = 0usize;
         for (key, value) in self.map.iter() {
-            assert_eq!(rt; self.list.get(*key), Some(*value), "key {key}");
+            expect_at(rt, *key, Some(*value), self.list.get(*key));
             count = count.saturating_add(1);
         }
-        assert_eq!(rt; count, self.list.len());
+        expect(rt, [self.map.len(), count], [self.list.len(); 2]);
     }
 
-    // Merges a map of some keys in, with the values that the list has for none of them.
-    fn merge(&mut self, rt: &impl Abort, alloc: Global, hasher: H, keys: u64) -> Result<(), Fail> {
-        let mut other = FlatMap::new(alloc, hasher);
-        let (mut new, mut shared) = (0usize, 0usize);
-        for _ in 0..10u32 {
-            let key = self.draws.below(keys.max(1));
-            if other.contains(&key) {
-                continue;
-            }
+    // The list that the map is made into has the same entries.
+    fn compare_list(self, rt: &impl Abort) -> Result<(), Fail> {
+        let Pair { map, mut list, .. } = self;
+        let Ok(entries) = map.into_list() else {
+            return Err(Fail::from("no memory"));
+        };
+        for (key, value) in &entries {
+            expect_at(rt, *key, Some(*value), list.get(*key));
+            let _ = list.take(*key);
+        }
+        expect(rt, list.len(), 0);
+        Ok(())
+    }
+
+    // Draws a key for a map that is to be merged in, with the value that the list has for none.
+    fn draw_other(
+        &mut self,
+        rt: &impl Abort,
+        other: &mut Numbers<H>,
+        keys: u64,
+    ) -> Result<(), Fail> {
+        let key = self.draws.below(keys.max(1));
+        if !other.contains(&key) {
             assert!(rt; other.try_emplace(key, key).is_ok(), "key {key}");
-            if self.list.get(key).is_some() {
-                shared = shared.saturating_add(1);
-            } else {
-                new = new.saturating_add(1);
+            if self.list.get(key).is_none() {
                 let _ = self.list.put(key, key)?;
             }
         }
-        let before = self.map.len();
-        self.map.merge(&mut other)?;
-        assert_eq!(rt; self.map.len(), before.saturating_add(new));
-        assert_eq!(rt; other.len(), shared);
-        for (key, value) in other.iter() {
-            assert_eq!(rt; *value, *key);
-            assert!(rt; self.map.contains(key), "key {key}");
-        }
         Ok(())
+    }
+
+    // Merges a map of some keys in: those that were there already stay in the other map.
+    fn merge(&mut self, rt: &impl Abort, other: &mut Numbers<H>, keys: u64) -> Result<(), Fail> {
+        for _ in 0..10u32 {
+            self.draw_other(rt, other, keys)?;
+        }
+        let both = self.map.len().saturating_add(other.len());
+        self.map.merge(other)?;
+        expect(rt, self.map.len(), self.list.len());
+        expect(rt, self.map.len().saturating_add(other.len()), both);
+        self.expect_shared(rt, other);
+        Ok(())
+    }
+
+    // Each entry that stayed in a map that was merged in is its own, and has a key of this map.
+    fn expect_shared(&self, rt: &impl Abort, other: &Numbers<H>) {
+        for (key, value) in other.iter() {
+            expect_at(rt, *key, (*value, self.map.contains(key)), (*key, true));
+        }
+    }
+
+    fn extract(&mut self, rt: &impl Abort, key: u64) {
+        expect_at(rt, key, self.map.extract(&key), self.list.take(key));
+    }
+
+    fn erase(&mut self, rt: &impl Abort, key: u64) {
+        expect_at(rt, key, self.map.erase(&key), self.list.take(key).is_some());
     }
 
     // Most calls add and remove, some look up, few go over all entries.
@@ -115,17 +137,17 @@ impl<H: KeyHash<u64> + Copy + Drop> Pair<H> {
             5..=9 => self.map.rehash(),
             10..=14 => self.map.reserve(self.map.len().saturating_add(20))?,
             15..=199 => self.look_up(rt, key),
-            200..=399 => self.write(rt, key, value)?,
+            200..=399 => self.write_both(rt, key, value)?,
             400..=899 => self.try_emplace(rt, key, value)?,
             900..=1399 => self.assign(rt, key, value)?,
-            1400..=1899 => assert_eq!(rt; self.map.extract(&key), self.list.take(key)),
-            _ => assert_eq!(rt; self.map.erase(&key), self.list.take(key).is_some()),
+            1400..=1899 => self.extract(rt, key),
+            _ => self.erase(rt, key),
         }
         Ok(())
     }
 }
 
-// Many calls, by turns on few keys and on many, so that the map is crowded and grows.
+// Many calls, and now and then a merge.
 fn run<H>(rt: &impl Abort, alloc: Global, hasher: H) -> Result<(), Fail>
 where
     H: KeyHash<u64> + Copy + Drop,
@@ -136,27 +158,13 @@ where
         draws: Draws::from(2),
     };
     for i in 0..CALLS {
-        let keys = match i / 5_000 % 3 {
-            0 => 24,
-            1 => 60,
-            _ => 300,
-        };
         if i % 500 == 0 {
-            pair.merge(rt, alloc, hasher, keys)?;
+            pair.merge(rt, &mut FlatMap::new(alloc, hasher), keys_at(i))?;
         }
-        pair.call(rt, keys)?;
+        pair.call(rt, keys_at(i))?;
     }
     pair.compare_all(rt);
-    let Pair { map, mut list, .. } = pair;
-    let Ok(entries) = map.into_list() else {
-        assert!(rt; false, "no memory");
-        return Ok(());
-    };
-    for (key, value) in &entries {
-        assert_eq!(rt; list.take(*key), Some((*key, *value)), "key {key}");
-    }
-    assert_eq!(rt; list.len(), 0);
-    Ok(())
+    pair.compare_list(rt)
 }
 
 #[test]

@@ -1,14 +1,18 @@
 //! Random runs of a table's calls.
-use crate::plain::{Draws, PlainList};
+use crate::expected::{expect, expect_at};
+use crate::plain::{CALLS, Draws, PlainList, keys_at};
+use crate::table::{Numbers, adds, take, value_of, write};
 use std::alloc::Global;
 use std::process::Abort;
 use std::test::Fail;
 use sw_probe::{Constant, Direct, Fnv1a, KeyHash, LowBits};
 use sw_table::Table;
 
-type Numbers<H> = Table<u64, u64, H>;
-
-const CALLS: u64 = 100_000;
+// Adds a key that is not there; only a full table grows.
+fn places<H: KeyHash<u64>>(table: &mut Numbers<H>, key: u64, value: u64) -> bool {
+    let (full, slots) = (table.len() >= table.room(), table.capacity());
+    adds(table, key, value) && (full || table.capacity() == slots)
+}
 
 // A table under a hasher, beside a list that holds the same.
 #[derive(Drop)]
@@ -21,55 +25,40 @@ struct Pair<H: KeyHash<u64>> {
 impl<H: KeyHash<u64>> Pair<H> {
     fn add(&mut self, rt: &impl Abort, key: u64, value: u64) -> Result<(), Fail> {
         if self.table.find(&key).is_none() {
-            let full = self.table.len() >= self.table.room();
-            let slots = self.table.capacity();
-            let placed = self.table.place(key, value);
-            assert!(rt; placed.is_ok(), "key {key}");
-            assert!(rt; full || self.table.capacity() == slots, "key {key}");
-            assert_eq!(rt; self.list.put(key, value)?, None, "key {key}");
+            assert!(rt; places(&mut self.table, key, value), "key {key}");
+            expect_at(rt, key, None, self.list.put(key, value)?);
         }
         Ok(())
     }
 
     fn write(&mut self, rt: &impl Abort, key: u64, value: u64) -> Result<(), Fail> {
-        if let Some(slot) = self.table.find(&key) {
-            let held = self.table.at_mut(slot);
-            assert_eq!(rt; self.list.put(key, value)?, Some(*held), "key {key}");
-            *held = value;
+        if let Some(old) = write(&mut self.table, key, value) {
+            expect_at(rt, key, Some(old), self.list.put(key, value)?);
         }
         Ok(())
     }
 
     fn remove(&mut self, rt: &impl Abort, key: u64) {
-        let taken = match self.table.find(&key) {
-            Some(slot) => Some(self.table.remove(slot)),
-            None => None,
-        };
-        assert_eq!(rt; taken, self.list.take(key), "key {key}");
+        expect_at(rt, key, take(&mut self.table, key), self.list.take(key));
     }
 
     fn look_up(&self, rt: &impl Abort, key: u64) {
-        let found = match self.table.find(&key) {
-            Some(slot) => Some(*self.table.at(slot).1),
-            None => None,
-        };
-        assert_eq!(rt; found, self.list.get(key), "key {key}");
+        expect_at(rt, key, value_of(&self.table, key), self.list.get(key));
     }
 
     // Each entry of the table is one of the list, and there are as many.
     fn compare_all(&self, rt: &impl Abort) {
-        assert_eq!(rt; self.table.len(), self.list.len());
         let (mut from, mut count) = (0usize, 0usize);
         for _ in 0..self.table.capacity() {
             let Some(slot) = self.table.next_full(from) else {
                 break;
             };
             let (key, value) = self.table.at(slot);
-            assert_eq!(rt; self.list.get(*key), Some(*value), "key {key}");
+            expect_at(rt, *key, Some(*value), self.list.get(*key));
             from = slot.index.saturating_add(1);
             count = count.saturating_add(1);
         }
-        assert_eq!(rt; count, self.list.len());
+        expect(rt, [self.table.len(), count], [self.list.len(); 2]);
     }
 
     // Most calls add and remove, some look up, few go over all entries.
@@ -93,7 +82,7 @@ impl<H: KeyHash<u64>> Pair<H> {
     }
 }
 
-// Many calls, by turns on few keys and on many, so that the table is crowded and grows.
+// Many calls.
 fn run<H: KeyHash<u64> + Drop>(rt: &impl Abort, alloc: Global, hasher: H) -> Result<(), Fail> {
     let mut pair = Pair {
         table: Table::new(alloc, hasher),
@@ -101,12 +90,7 @@ fn run<H: KeyHash<u64> + Drop>(rt: &impl Abort, alloc: Global, hasher: H) -> Res
         draws: Draws::from(1),
     };
     for i in 0..CALLS {
-        let keys = match i / 5_000 % 3 {
-            0 => 24,
-            1 => 60,
-            _ => 300,
-        };
-        pair.call(rt, keys)?;
+        pair.call(rt, keys_at(i))?;
     }
     pair.compare_all(rt);
     Ok(())

@@ -1,81 +1,83 @@
 //! Entries that a closure keeps.
-use crate::counted::{Counted, CountedKey, Counters};
+use crate::counted::Counters;
+use crate::expected::{expect, expect_at};
+use crate::map_drops::{BITS, CountedMap, add_each};
+use crate::numbers::{Call, Numbers, insert_each, play};
 use std::process::Abort;
 use std::test::Fail;
-use sw_flat::{Emplaced, FlatMap};
+use sw_flat::FlatMap;
 use sw_probe::{Constant, Direct, Fnv1a, KeyHash, LowBits};
 
-type CountedMap<'a> = FlatMap<CountedKey<'a>, Counted<'a>, LowBits>;
+// Expects the odd keys below a bound, and none of the even ones.
+fn expect_odd<H: KeyHash<u64>>(rt: &impl Abort, map: &Numbers<H>, bound: u64) {
+    for key in 0..bound {
+        expect_at(rt, key, map.contains(&key), key % 2 == 1);
+    }
+}
 
 // Of a hundred entries those with odd values stay, and then those below key 10.
-fn keeps_some<H: KeyHash<u64> + Drop>(rt: &impl Abort, mut map: FlatMap<u64, u64, H>) {
-    for key in 0..100u64 {
-        assert!(rt; matches!(map.insert_or_assign(key, key), Ok(None)), "{key}");
-    }
-    let slots = map.capacity();
+fn keeps_some<H: KeyHash<u64> + Drop>(rt: &impl Abort, mut map: Numbers<H>) {
+    insert_each(rt, &mut map, 0, 100);
     map.retain(|_, value| *value % 2 == 1);
-    assert_eq!(rt; map.len(), 50);
-    for key in 0..100u64 {
-        assert_eq!(rt; map.contains(&key), key % 2 == 1, "{key}");
-    }
+    play(rt, &mut map, &[Call::Sizes(50, 128, 100)]);
+    expect_odd(rt, &map, 100);
     map.retain(|key, _| *key < 10);
-    assert_eq!(rt; map.len(), 5);
+    play(rt, &mut map, &[Call::Sizes(5, 128, 100)]);
+    keeps_all_or_none(rt, &mut map);
+}
+
+// Of five entries all stay, and then none.
+fn keeps_all_or_none<H: KeyHash<u64>>(rt: &impl Abort, map: &mut Numbers<H>) {
     map.retain(|_, _| true);
-    assert_eq!(rt; map.len(), 5);
+    play(rt, map, &[Call::Sizes(5, 128, 100)]);
     map.retain(|_, _| false);
-    assert!(rt; map.is_empty());
+    play(rt, map, &[Call::Sizes(0, 128, 100)]);
     map.retain(|_, _| true);
-    assert!(rt; map.is_empty());
-    assert_eq!(rt; map.capacity(), slots);
-    assert!(rt; matches!(map.insert_or_assign(7, 70), Ok(None)));
-    assert!(rt; matches!(map.get(&7), Some(70)));
+    play(
+        rt,
+        map,
+        &[
+            Call::Sizes(0, 128, 100),
+            Call::Assign(7, 70, None),
+            Call::Get(7, Some(70)),
+        ],
+    );
 }
 
 #[test]
-fn those_of_which_the_closure_says_so(rt: HostRuntime) -> Result<(), Fail> {
+fn those_of_which_the_closure_says_so(rt: HostRuntime) {
     let alloc = rt.alloc();
     keeps_some(&rt, FlatMap::new(alloc, Fnv1a { seed: 0 }));
     keeps_some(&rt, FlatMap::new(alloc, Constant(0)));
     keeps_some(&rt, FlatMap::new(alloc, LowBits(7)));
     keeps_some(&rt, FlatMap::new(alloc, Direct));
-    Ok(())
 }
 
 // The closure counts its calls, and keeps every second entry that it is asked of.
 #[test]
-fn asked_once_of_each(rt: HostRuntime) -> Result<(), Fail> {
-    let mut map: FlatMap<u64, u64, Direct> = FlatMap::new(rt.alloc(), Direct);
-    for key in 0..12u64 {
-        assert!(rt; matches!(map.insert_or_assign(key, 100), Ok(None)), "{key}");
-    }
+fn asked_once_of_each(rt: HostRuntime) {
+    let mut map: Numbers<Direct> = FlatMap::new(rt.alloc(), Direct);
+    insert_each(&rt, &mut map, 0, 12);
     let mut calls = 0u64;
     map.retain(|_, _| {
         calls = calls.wrapping_add(1);
         calls % 2 == 0
     });
-    assert_eq!(rt; calls, 12);
-    for key in 0..12u64 {
-        assert_eq!(rt; map.contains(&key), key % 2 == 1, "{key}");
-    }
-    Ok(())
+    expect(&rt, calls, 12);
+    expect_odd(&rt, &map, 12);
 }
 
 #[test]
 fn what_goes_is_dropped_once(rt: HostRuntime) -> Result<(), Fail> {
-    for bits in [0u32, 8, 64] {
+    for bits in BITS {
         let counters = Counters::new(rt.alloc(), 60)?;
         let mut map: CountedMap = FlatMap::new(rt.alloc(), LowBits(bits));
-        for id in 0..60usize {
-            let added = map.try_emplace(counters.key(&rt, id as u64, id), counters.value(&rt, id));
-            assert!(rt; matches!(added, Ok(Emplaced::Inserted)), "{id}");
-        }
+        add_each(&rt, &mut map, &counters, 0..60, 0);
         map.retain(|key, _| key.number >= 20);
-        for id in 0..60usize {
-            let due = if id < 20 { (1, 1) } else { (0, 0) };
-            assert_eq!(rt; counters.of(&rt, id), due, "{id}");
-        }
+        counters.expect_each(&rt, 0..20, (1, 1));
+        counters.expect_each(&rt, 20..60, (0, 0));
         drop(map);
-        assert!(rt; counters.all_are(1), "{bits} bits");
+        counters.expect_all(&rt, 1);
     }
     Ok(())
 }

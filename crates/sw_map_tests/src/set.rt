@@ -1,9 +1,12 @@
 //! The set.
+use crate::expected::{expect, expect_at};
 use std::alloc::Global;
 use std::process::Abort;
 use std::test::Fail;
 use sw_flat::{FlatSet, Why};
 use sw_probe::{ByteKey, Constant, Direct, Fnv1a, KeyHash, LowBits};
+
+type Words = FlatSet<Vec<u8>, Fnv1a>;
 
 fn insert<H: KeyHash<u64>>(rt: &impl Abort, set: &mut FlatSet<u64, H>, key: u64, new: bool) {
     assert!(rt;
@@ -12,14 +15,68 @@ fn insert<H: KeyHash<u64>>(rt: &impl Abort, set: &mut FlatSet<u64, H>, key: u64,
     );
 }
 
-// The keys of a set, ascending.
-fn sorted<H: KeyHash<u64>>(alloc: Global, set: &FlatSet<u64, H>) -> Result<Vec<u64>, Fail> {
+// Expects so many keys, so many slots and room for so many keys.
+fn expect_sizes<H: KeyHash<u64>>(rt: &impl Abort, set: &FlatSet<u64, H>, due: [usize; 3]) {
+    let len = set.len();
+    expect(rt, [len, set.capacity(), set.room()], due);
+    assert!(rt; set.is_empty() == (len == 0) && set.table().len() == len);
+}
+
+// Expects these keys of a set, ascending.
+fn expect_keys<H: KeyHash<u64>>(
+    rt: &impl Abort,
+    alloc: Global,
+    set: &FlatSet<u64, H>,
+    due: &[u64],
+) -> Result<(), Fail> {
     let mut keys = Vec::new(alloc);
     for key in set.iter() {
         keys.push(*key)?;
     }
     keys.sort()?;
-    Ok(keys)
+    expect(rt, keys.as_slice(), due);
+    Ok(())
+}
+
+// Expects these keys of the list that a set is made into, ascending.
+fn expect_list<H: KeyHash<u64> + Drop>(
+    rt: &impl Abort,
+    set: FlatSet<u64, H>,
+    due: &[u64],
+) -> Result<(), Fail> {
+    let Ok(mut list) = set.into_list() else {
+        return Err(Fail::from("no memory"));
+    };
+    list.sort()?;
+    expect(rt, list.as_slice(), due);
+    Ok(())
+}
+
+// A set of one group of slots grows to two.
+fn grow<H: KeyHash<u64>>(rt: &impl Abort, set: &mut FlatSet<u64, H>) -> Result<(), Fail> {
+    expect_sizes(rt, set, [0, 16, 12]);
+    insert(rt, set, 4, true);
+    insert(rt, set, 4, false);
+    set.reserve(13)?;
+    expect_sizes(rt, set, [1, 32, 25]);
+    Ok(())
+}
+
+// The key 4 is in both sets, and 5 in the other alone.
+fn merge<H: KeyHash<u64>>(
+    rt: &impl Abort,
+    alloc: Global,
+    set: &mut FlatSet<u64, H>,
+    other: &mut FlatSet<u64, H>,
+) -> Result<(), Fail> {
+    insert(rt, other, 4, true);
+    insert(rt, other, 5, true);
+    set.merge(other)?;
+    expect_keys(rt, alloc, set, &[4, 5])?;
+    expect_keys(rt, alloc, other, &[4])?;
+    expect(rt, other.extract(&4), Some(4));
+    expect(rt, other.extract(&4), None);
+    Ok(())
 }
 
 fn each_call<H: KeyHash<u64> + Drop>(
@@ -28,30 +85,12 @@ fn each_call<H: KeyHash<u64> + Drop>(
     hasher: H,
     mut other: FlatSet<u64, H>,
 ) -> Result<(), Fail> {
-    let mut set: FlatSet<u64, H> = FlatSet::with_room(alloc, hasher, 1)?;
-    assert_eq!(rt; set.capacity(), 16);
-    assert!(rt; set.is_empty());
-    insert(rt, &mut set, 4, true);
-    insert(rt, &mut set, 4, false);
-    set.reserve(13)?;
-    assert_eq!(rt; set.capacity(), 32);
-    assert_eq!(rt; set.room(), 25);
-    insert(rt, &mut other, 4, true);
-    insert(rt, &mut other, 5, true);
-    set.merge(&mut other)?;
-    assert_eq!(rt; sorted(alloc, &set)?.as_slice(), [4, 5].as_slice());
-    assert_eq!(rt; sorted(alloc, &other)?.as_slice(), [4].as_slice());
+    let mut set = FlatSet::with_room(alloc, hasher, 1)?;
+    grow(rt, &mut set)?;
+    merge(rt, alloc, &mut set, &mut other)?;
     set.rehash();
-    assert!(rt; set.contains(&5));
-    assert_eq!(rt; other.extract(&4), Some(4));
-    assert_eq!(rt; other.extract(&4), None);
-    let Ok(mut list) = set.into_list() else {
-        assert!(rt; false, "no memory");
-        return Ok(());
-    };
-    list.sort()?;
-    assert_eq!(rt; list.as_slice(), [4, 5].as_slice());
-    Ok(())
+    expect(rt, set.contains(&5), true);
+    expect_list(rt, set, &[4, 5])
 }
 
 #[test]
@@ -64,47 +103,59 @@ fn each_call_of_a_small_set(rt: HostRuntime) -> Result<(), Fail> {
     each_call(&rt, alloc, Direct, FlatSet::new(alloc, Direct))
 }
 
-#[test]
-fn erased_and_cleared(rt: HostRuntime) -> Result<(), Fail> {
-    let mut set: FlatSet<u64, Constant> = FlatSet::new(rt.alloc(), Constant(0));
+// Of a hundred keys the even ones are erased.
+fn erase_even(rt: &impl Abort, set: &mut FlatSet<u64, Constant>) {
     for key in 0..100u64 {
-        insert(&rt, &mut set, key, true);
+        insert(rt, set, key, true);
     }
     for half in 0..50u64 {
-        assert!(rt; set.erase(&(2 * half)));
-        assert!(rt; !set.erase(&(2 * half)));
+        expect_at(rt, half, set.erase(&(2 * half)), true);
+        expect_at(rt, half, set.erase(&(2 * half)), false);
     }
-    assert_eq!(rt; set.len(), 50);
     for key in 0..100u64 {
-        assert_eq!(rt; set.contains(&key), key % 2 == 1, "key {key}");
+        expect_at(rt, key, set.contains(&key), key % 2 == 1);
     }
-    assert_eq!(rt; set.table().len(), 50);
-    let slots = set.capacity();
+}
+
+#[test]
+fn erased_and_cleared(rt: HostRuntime) {
+    let mut set: FlatSet<u64, Constant> = FlatSet::new(rt.alloc(), Constant(0));
+    erase_even(&rt, &mut set);
+    expect_sizes(&rt, &set, [50, 128, 100]);
     set.clear();
-    assert!(rt; set.is_empty());
-    assert_eq!(rt; set.capacity(), slots);
-    assert_eq!(rt; set.reserve(209_715_201), Err(Why::Limit));
+    expect_sizes(&rt, &set, [0, 128, 100]);
+    expect(&rt, set.reserve(209_715_201), Err(Why::Limit));
+}
+
+fn insert_word(
+    rt: &impl Abort,
+    alloc: Global,
+    set: &mut Words,
+    word: &str,
+    new: bool,
+) -> Result<(), Fail> {
+    let key = Vec::from_slice(alloc, word.as_bytes())?;
+    assert!(rt;
+        matches!(set.insert(key), Ok(answer) if answer == new),
+        "{word}"
+    );
     Ok(())
 }
 
 #[test]
 fn words(rt: HostRuntime) -> Result<(), Fail> {
-    let alloc = rt.alloc();
-    let mut set: FlatSet<Vec<u8>, Fnv1a> = FlatSet::new(alloc, Fnv1a { seed: 1 });
+    let mut set: Words = FlatSet::new(rt.alloc(), Fnv1a { seed: 1 });
     for (word, new) in [("Oslo", true), ("Rome", true), ("Oslo", false), ("", true)] {
-        let key: Vec<u8> = Vec::from_slice(alloc, word.as_bytes())?;
-        assert!(rt;
-            matches!(set.insert(key), Ok(answer) if answer == new),
-            "{word}"
-        );
+        insert_word(&rt, rt.alloc(), &mut set, word, new)?;
     }
-    assert!(rt; set.contains(&ByteKey(b"Rome")));
-    assert!(rt; !set.contains(&ByteKey(b"rome")));
-    let Some(taken) = set.extract(&ByteKey(b"")) else {
-        assert!(rt; false, "the empty word is there");
-        return Ok(());
-    };
-    assert!(rt; taken.is_empty());
-    assert_eq!(rt; set.len(), 2);
+    expect(&rt, set.contains(&ByteKey(b"Rome")), true);
+    expect(&rt, set.contains(&ByteKey(b"rome")), false);
+    extract_the_empty_word(&rt, &mut set);
     Ok(())
+}
+
+fn extract_the_empty_word(rt: &impl Abort, set: &mut Words) {
+    let taken = set.extract(&ByteKey(b""));
+    assert!(rt; taken.is_some_and(|word| word.is_empty()));
+    expect(rt, set.len(), 2);
 }

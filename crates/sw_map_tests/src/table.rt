@@ -1,121 +1,161 @@
 //! The table.
+use crate::expected::{expect, expect_at};
+use crate::loaded::{
+    FIRST, GONE, Keys, LATER, SECOND, byte_of, expect_kinds, expect_sizes, kinds, load, sizes,
+};
+use std::alloc::Global;
 use std::process::Abort;
 use std::test::Fail;
 use sw_probe::{Constant, Direct, Fnv1a, KeyHash};
 use sw_table::{Table, Why};
 
-type Numbers<H> = Table<u64, u64, H>;
+pub(crate) type Numbers<H> = Table<u64, u64, H>;
 
-// Adds an entry whose key is not there, and reads it back from the slot that it got.
-fn add<H: KeyHash<u64>>(rt: &impl Abort, table: &mut Numbers<H>, key: u64, value: u64) {
-    assert!(rt; table.find(&key).is_none(), "key {key}");
+/// Adds an entry whose key is not there, and reads it back from the slot that it got.
+pub(crate) fn adds<H: KeyHash<u64>>(table: &mut Numbers<H>, key: u64, value: u64) -> bool {
+    if table.find(&key).is_some() {
+        return false;
+    }
     match table.place(key, value) {
         Ok(slot) => {
             let (stored, held) = table.at(slot);
-            assert_eq!(rt; *stored, key);
-            assert_eq!(rt; *held, value, "key {key}");
+            *stored == key && *held == value
         }
-        Err(_) => assert!(rt; false, "key {key} was refused"),
+        Err(_) => false,
     }
 }
 
-fn value_of<H: KeyHash<u64>>(table: &Numbers<H>, key: u64) -> Option<u64> {
+fn add<H: KeyHash<u64>>(rt: &impl Abort, table: &mut Numbers<H>, key: u64, value: u64) {
+    assert!(rt; adds(table, key, value), "key {key}");
+}
+
+pub(crate) fn value_of<H: KeyHash<u64>>(table: &Numbers<H>, key: u64) -> Option<u64> {
     let slot = table.find(&key)?;
     Some(*table.at(slot).1)
 }
 
-fn take<H: KeyHash<u64>>(table: &mut Numbers<H>, key: u64) -> Option<(u64, u64)> {
+fn expect_value<H: KeyHash<u64>>(rt: &impl Abort, table: &Numbers<H>, key: u64, due: Option<u64>) {
+    expect_at(rt, key, value_of(table, key), due);
+}
+
+pub(crate) fn take<H: KeyHash<u64>>(table: &mut Numbers<H>, key: u64) -> Option<(u64, u64)> {
     let slot = table.find(&key)?;
     Some(table.remove(slot))
 }
 
-// How many bytes are full, deleted and empty.
-fn kinds<H: KeyHash<u64>>(table: &Numbers<H>) -> [usize; 3] {
-    let (mut full, mut deleted, mut empty) = (0usize, 0usize, 0usize);
-    for i in 0..table.capacity() {
-        match table.byte(i) {
-            0x80 => empty = empty.saturating_add(1),
-            0xfe => deleted = deleted.saturating_add(1),
-            _ => full = full.saturating_add(1),
-        }
+impl Keys for Numbers<Direct> {
+    type Value = u64;
+
+    fn add(&mut self, key: u64, value: u64) -> bool {
+        adds(self, key, value)
     }
-    [full, deleted, empty]
+
+    fn take(&mut self, key: u64) -> bool {
+        take(self, key).is_some()
+    }
+
+    fn table(&self) -> &Numbers<Direct> {
+        self
+    }
 }
 
 #[test]
 fn room_for_thirteen(rt: HostRuntime) -> Result<(), Fail> {
-    let hasher = Fnv1a { seed: 0 };
-    let mut table = Table::with_room(rt.alloc(), hasher, 13)?;
-    assert_eq!(rt; table.capacity(), 32);
-    assert_eq!(rt; table.room(), 25);
+    let mut table = Table::with_room(rt.alloc(), Fnv1a { seed: 0 }, 13)?;
+    expect(&rt, sizes(&table), [0, 32, 25]);
     add(&rt, &mut table, 1, 10);
     table.reserve(26)?;
-    assert_eq!(rt; table.capacity(), 64);
-    assert_eq!(rt; table.room(), 50);
-    assert_eq!(rt; value_of(&table, 1), Some(10));
-    assert_eq!(rt; table.len(), 1);
+    expect(&rt, sizes(&table), [1, 64, 50]);
+    expect_value(&rt, &table, 1, Some(10));
+    Ok(())
+}
+
+// Numbers of entries, and the slots and the room of a table that is made for them.
+const LEAST: [(usize, [usize; 3]); 8] = [
+    (0, [0, 0, 0]),
+    (1, [0, 16, 12]),
+    (12, [0, 16, 12]),
+    (13, [0, 32, 25]),
+    (25, [0, 32, 25]),
+    (26, [0, 64, 50]),
+    (50, [0, 64, 50]),
+    (51, [0, 128, 100]),
+];
+
+fn expect_room(rt: &impl Abort, alloc: Global, n: usize, due: [usize; 3]) -> Result<(), Fail> {
+    let table: Numbers<Direct> = Table::with_room(alloc, Direct, n)?;
+    expect_at(rt, n as u64, sizes(&table), due);
     Ok(())
 }
 
 #[test]
 fn least_capacities(rt: HostRuntime) -> Result<(), Fail> {
-    for (n, slots, room) in [
-        (0, 0, 0),
-        (1, 16, 12),
-        (12, 16, 12),
-        (13, 32, 25),
-        (25, 32, 25),
-        (26, 64, 50),
-        (50, 64, 50),
-        (51, 128, 100),
-    ] {
-        let table: Numbers<Direct> = Table::with_room(rt.alloc(), Direct, n)?;
-        assert_eq!(rt; table.capacity(), slots, "room for {n}");
-        assert_eq!(rt; table.room(), room, "room for {n}");
-        assert_eq!(rt; table.len(), 0, "room for {n}");
+    for (n, due) in LEAST {
+        expect_room(&rt, rt.alloc(), n, due)?;
     }
     Ok(())
 }
 
 #[test]
-fn past_the_greatest_capacity(rt: HostRuntime) -> Result<(), Fail> {
+fn past_the_greatest_capacity(rt: HostRuntime) {
     let alloc = rt.alloc();
     let made: Result<Numbers<Direct>, Why> = Table::with_room(alloc, Direct, 209_715_201);
     assert!(rt; matches!(made, Err(Why::Limit)));
     let mut table: Numbers<Direct> = Table::new(alloc, Direct);
-    assert_eq!(rt; table.reserve(209_715_201), Err(Why::Limit));
-    assert_eq!(rt; table.reserve(usize::MAX), Err(Why::Limit));
-    assert_eq!(rt; table.capacity(), 0);
-    Ok(())
+    for n in [209_715_201, usize::MAX] {
+        expect(&rt, table.reserve(n), Err(Why::Limit));
+    }
+    expect(&rt, table.capacity(), 0);
 }
 
-#[test]
-fn from_slot_to_slot(rt: HostRuntime) -> Result<(), Fail> {
-    let mut table = Table::new(rt.alloc(), Direct);
-    assert!(rt; table.next_full(0).is_none());
-    // Under `Direct` the probe of a key n begins at group n / 128, modulo the number of groups: of
-    // four groups, these keys have the groups 0, 3 and 2.
-    for key in [7, 128 * 3 + 5, 128 * 2 + 6] {
-        add(&rt, &mut table, key, key.wrapping_mul(2));
-    }
-    table.reserve(50)?;
-    assert_eq!(rt; table.capacity(), 64);
-    let (mut from, mut keys) = (0usize, Vec::new(rt.alloc()));
+// The entries of a table, in the order of their slots.
+fn by_slots(alloc: Global, table: &Numbers<Direct>) -> Result<Vec<(u64, u64)>, Fail> {
+    let (mut from, mut entries) = (0usize, Vec::new(alloc));
     for _ in 0..table.capacity() {
         let Some(slot) = table.next_full(from) else {
             break;
         };
         let (key, value) = table.at(slot);
-        assert_eq!(rt; *value, key.wrapping_mul(2));
-        keys.push(*key)?;
+        entries.push((*key, *value))?;
         from = slot.index.saturating_add(1);
     }
-    assert_eq!(rt; keys.as_slice(), [7, 128 * 2 + 6, 128 * 3 + 5].as_slice());
-    assert_eq!(rt; table.byte(0), 7);
-    assert_eq!(rt; table.byte(16), 0x80);
-    assert_eq!(rt; table.byte(32), 6);
-    assert_eq!(rt; table.byte(48), 5);
+    Ok(entries)
+}
+
+fn expect_by_slots(
+    rt: &impl Abort,
+    alloc: Global,
+    table: &Numbers<Direct>,
+    due: &[(u64, u64)],
+) -> Result<(), Fail> {
+    expect(rt, by_slots(alloc, table)?.as_slice(), due);
     Ok(())
+}
+
+// Under `Direct` the probe of a key n begins at group n / 128, modulo the number of groups: of four
+// groups, the keys 7, 128 * 3 + 5 and 128 * 2 + 6 have the groups 0, 3 and 2.
+#[test]
+fn from_slot_to_slot(rt: HostRuntime) -> Result<(), Fail> {
+    let mut table = Table::new(rt.alloc(), Direct);
+    assert!(rt; table.next_full(0).is_none());
+    for (key, value) in [(7, 14), (389, 778), (262, 524)] {
+        add(&rt, &mut table, key, value);
+    }
+    table.reserve(50)?;
+    expect(&rt, table.capacity(), 64);
+    for (i, byte) in [(0, 7), (16, 0x80), (32, 6), (48, 5)] {
+        expect_at(&rt, i as u64, byte_of(&table, i), Some(byte));
+    }
+    expect_by_slots(&rt, rt.alloc(), &table, &[(7, 14), (262, 524), (389, 778)])
+}
+
+/// Gives a key that is there another value, and hands the old one out.
+pub(crate) fn write<H: KeyHash<u64>>(table: &mut Numbers<H>, key: u64, value: u64) -> Option<u64> {
+    let slot = table.find(&key)?;
+    let held = table.at_mut(slot);
+    let old = *held;
+    *held = value;
+    Some(old)
 }
 
 #[test]
@@ -124,107 +164,96 @@ fn a_value_written_in_place(rt: HostRuntime) -> Result<(), Fail> {
     for key in 0..3u64 {
         add(&rt, &mut table, key, 5);
     }
-    if let Some(slot) = table.find(&1) {
-        *table.at_mut(slot) = 9;
-    }
+    expect(&rt, write(&mut table, 1, 9), Some(5));
     for (key, value) in [(0, 5), (1, 9), (2, 5)] {
-        assert_eq!(rt; value_of(&table, key), Some(value), "key {key}");
+        expect_value(&rt, &table, key, Some(value));
     }
     Ok(())
 }
 
+// Whether a key is not there, and is placed by the same hash that it was sought by.
+fn places_by_hash(table: &mut Numbers<Fnv1a>, key: u64) -> bool {
+    let hash = table.hash(&key);
+    table.find_hashed(&key, hash).is_none() && table.place_hashed(key, key, hash).is_ok()
+}
+
 #[test]
-fn one_hash_for_two_calls(rt: HostRuntime) -> Result<(), Fail> {
+fn one_hash_for_two_calls(rt: HostRuntime) {
     let mut table: Numbers<Fnv1a> = Table::new(rt.alloc(), Fnv1a { seed: 3 });
     for key in 0..100u64 {
-        let hash = table.hash(&key);
-        assert!(rt; table.find_hashed(&key, hash).is_none(), "key {key}");
-        let placed = table.place_hashed(key, key, hash);
-        assert!(rt; placed.is_ok(), "key {key}");
+        assert!(rt; places_by_hash(&mut table, key), "key {key}");
     }
-    assert_eq!(rt; table.len(), 100);
+    expect(&rt, table.len(), 100);
     for key in 0..100u64 {
-        assert_eq!(rt; value_of(&table, key), Some(key), "key {key}");
+        expect_value(&rt, &table, key, Some(key));
     }
-    Ok(())
+}
+
+// Takes one of twelve entries out.
+fn take_one(rt: &impl Abort, table: &mut Numbers<Direct>) {
+    for key in 0..12u64 {
+        add(rt, table, key, key);
+    }
+    expect(rt, take(table, 5), Some((5, 5)));
+    expect(rt, take(table, 5), None);
+    expect(rt, kinds(table), [11, 0, 5]);
 }
 
 #[test]
 fn a_slot_in_a_group_with_an_empty_byte_becomes_empty(rt: HostRuntime) -> Result<(), Fail> {
     let mut table = Table::with_room(rt.alloc(), Direct, 12)?;
-    for key in 0..12u64 {
-        add(&rt, &mut table, key, key);
-    }
-    assert_eq!(rt; take(&mut table, 5), Some((5, 5)));
-    assert_eq!(rt; take(&mut table, 5), None);
-    assert_eq!(rt; kinds(&table), [11, 0, 5]);
+    take_one(&rt, &mut table);
     table.clear();
-    assert_eq!(rt; kinds(&table), [0, 0, 16]);
-    assert_eq!(rt; table.len(), 0);
-    assert_eq!(rt; value_of(&table, 6), None);
+    expect(&rt, kinds(&table), [0, 0, 16]);
+    expect(&rt, table.len(), 0);
+    expect_value(&rt, &table, 6, None);
     Ok(())
+}
+
+// Expects each key n of these, with the value n / 256.
+fn expect_held(rt: &impl Abort, table: &Numbers<Direct>, keys: &[u64]) {
+    for key in keys {
+        expect_value(rt, table, *key, Some(*key / 256));
+    }
+}
+
+fn expect_gone(rt: &impl Abort, table: &Numbers<Direct>, keys: &[u64]) {
+    for key in keys {
+        expect_value(rt, table, *key, None);
+    }
+}
+
+// A fourth key leaves a table at full load, and another comes.
+fn sweep(rt: &impl Abort, table: &mut Numbers<Direct>) {
+    assert!(rt; take(table, 768).is_some());
+    expect_kinds(rt, table, [24, 4, 4]);
+    add(rt, table, 3200, 12);
+    expect_kinds(rt, table, [25, 0, 7]);
+    expect_sizes(rt, table, [25, 32, 25]);
 }
 
 #[test]
 fn deleted_bytes_are_swept_before_the_table_grows(rt: HostRuntime) -> Result<(), Fail> {
     let mut table = Table::with_room(rt.alloc(), Direct, 25)?;
-    assert_eq!(rt; table.capacity(), 32);
-    for j in 0..16u64 {
-        add(&rt, &mut table, 256 * j, j);
-    }
-    for j in 0..9u64 {
-        add(&rt, &mut table, 128 + 256 * j, j);
-    }
-    assert_eq!(rt; kinds(&table), [25, 0, 7]);
-    for key in [0, 256, 512] {
-        assert!(rt; take(&mut table, key).is_some(), "key {key}");
-    }
-    assert_eq!(rt; kinds(&table), [22, 3, 7]);
-    for j in 9..12u64 {
-        add(&rt, &mut table, 128 + 256 * j, j);
-    }
-    assert_eq!(rt; kinds(&table), [25, 3, 4]);
-    assert!(rt; take(&mut table, 768).is_some());
-    assert_eq!(rt; kinds(&table), [24, 4, 4]);
-    add(&rt, &mut table, 3200, 12);
-    assert_eq!(rt; table.len(), 25);
-    assert_eq!(rt; table.capacity(), 32);
-    assert_eq!(rt; kinds(&table), [25, 0, 7]);
-    for j in 4..16u64 {
-        assert_eq!(rt; value_of(&table, 256 * j), Some(j), "key 256 * {j}");
-    }
-    for j in 0..13u64 {
-        assert_eq!(rt;
-            value_of(&table, 128 + 256 * j),
-            Some(j),
-            "key 128 + 256 * {j}"
-        );
-    }
-    for key in [0, 256, 512, 768] {
-        assert_eq!(rt; value_of(&table, key), None, "key {key}");
-    }
+    expect(&rt, table.capacity(), 32);
+    load(&rt, &mut table);
+    sweep(&rt, &mut table);
+    expect_held(&rt, &table, &FIRST[4..]);
+    expect_held(&rt, &table, &SECOND);
+    expect_held(&rt, &table, &LATER);
+    expect_held(&rt, &table, &[3200]);
+    expect_gone(&rt, &table, &GONE);
+    expect_gone(&rt, &table, &[768]);
     Ok(())
 }
 
 #[test]
 fn a_rehash_that_is_called(rt: HostRuntime) -> Result<(), Fail> {
     let mut table = Table::with_room(rt.alloc(), Direct, 25)?;
-    for j in 0..16u64 {
-        add(&rt, &mut table, 256 * j, j);
-    }
-    for j in 0..9u64 {
-        add(&rt, &mut table, 128 + 256 * j, j);
-    }
-    for key in [0, 256, 512] {
-        assert!(rt; take(&mut table, key).is_some(), "key {key}");
-    }
-    for j in 9..12u64 {
-        add(&rt, &mut table, 128 + 256 * j, j);
-    }
+    load(&rt, &mut table);
     table.rehash();
-    assert_eq!(rt; kinds(&table), [25, 0, 7]);
+    expect_kinds(&rt, &table, [25, 0, 7]);
     add(&rt, &mut table, 3200, 12);
-    assert_eq!(rt; table.len(), 26);
-    assert_eq!(rt; table.capacity(), 32);
+    expect_sizes(&rt, &table, [26, 32, 25]);
     Ok(())
 }
