@@ -2,15 +2,16 @@
 ghost use Rattle.std.specs.Prelude.{◌≡◌, ◌+◌, [], Err, IfOk};
 ghost use Rattle.gq_spill.specs.Runs.{is_fault, one_if};
 
+use crate::nameless::nameless_file;
 use crate::run_file::RunFile;
 use gq_spill::{RunId, RunStore, StoreError};
 use std::alloc::{AllocError, Global};
-use std::fs::{self, Files, OpenOptions};
+use std::fs::Files;
 
-/// Runs that are kept in a folder, each in a file of its own. A file of the same name is emptied.
+/// Runs that are kept in a folder, each in a file of its own, which has no name once it is open.
 ///
-/// Appended bytes are gathered, and written in pieces of up to 64 KiB. A file is removed when its run
-/// is discarded.
+/// Appended bytes are gathered, and written in pieces of up to 64 KiB. A file is closed, and with that
+/// gone, when its run is discarded or the store ends, however the program ends.
 #[derive(Drop)]
 pub struct DirStore<'a, R: Files> {
     alloc: Global,
@@ -45,10 +46,8 @@ fn open<R: Files>(
     let Ok(path) = format!(in alloc; "{folder}/run-{number}.gq") else {
         return Err(StoreError::Memory);
     };
-    let mut options = OpenOptions::new();
-    options.read(true).write(true).create(true).truncate(true);
-    match options.open(files, path.as_str()) {
-        Ok(file) => Ok(RunFile::new(alloc, file, path)),
+    match nameless_file(files, path.as_str()) {
+        Ok(file) => Ok(RunFile::new(alloc, file)),
         Err(_) => Err(StoreError::Fault),
     }
 }
@@ -106,11 +105,6 @@ impl<'a, R: Files> RunStore for DirStore<'a, R> {
     }
 
     fn discard(&mut self, id: RunId) {
-        let place = &mut self.kept[id.number as usize];
-        if let Some(run) = place {
-            // A file that can't be removed stays.
-            let _ = fs::remove_file(self.files, run.path());
-        }
-        *place = None;
+        self.kept[id.number as usize] = None;
     }
 }

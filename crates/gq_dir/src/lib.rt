@@ -1,12 +1,16 @@
-//! A run store in a folder: run n, counted from 0, is the file `run-n.gq` there.
+//! A run store in a folder: run n, counted from 0, is a file that is made there as `run-n.gq`, and has no name
+//! from then on.
 //!
 //! ```text
 //! let mut store = DirStore::new(alloc, &rt, "/tmp/runs")?;
-//! let run = store.make()?;                  // /tmp/runs/run-0.gq, emptied where it was there
+//! let run = store.make()?;                  // made as /tmp/runs/run-0.gq; the folder is empty again
 //! store.append(run, b"Oslo")?;
 //! store.read(run, 0, &mut buffer)?;
-//! store.discard(run);                       // the file is gone
+//! store.discard(run);                       // its bytes are given back to the system
 //! ```
+//!
+//! So stores that share a folder, of one program or of several, do not know one another, and nothing stays
+//! behind a program that is killed. [`nameless`] has what this stands on.
 //!
 //! # The contract above this crate
 //!
@@ -16,6 +20,7 @@
 #![tactic(auto)]
 
 mod dir_store;
+mod nameless;
 mod run_file;
 
 pub use dir_store::DirStore;

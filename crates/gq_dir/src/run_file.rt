@@ -12,24 +12,22 @@ const WAITING: usize = 65_536;
 #[derive(Drop)]
 pub struct RunFile<F: Drop> {
     file: F,
-    path: String,
+    // How many bytes the file has.
+    written: u64,
     waiting: Vec<u8>,
     // Whether the file's next write goes to its end.
     is_at_end: bool,
 }
 
 impl<F: Read + Write + Seek + Drop> RunFile<F> {
-    pub fn new(alloc: Global, file: F, path: String) -> RunFile<F> {
+    /// A run without bytes, in a file without bytes.
+    pub fn new(alloc: Global, file: F) -> RunFile<F> {
         RunFile {
             file,
-            path,
+            written: 0,
             waiting: Vec::new(alloc),
             is_at_end: true,
         }
-    }
-
-    pub fn path(&self) -> &str {
-        self.path.as_str()
     }
 
     /// Puts bytes at the end. Small ones wait; where that fails later, it is the later call's fault.
@@ -38,8 +36,12 @@ impl<F: Read + Write + Seek + Drop> RunFile<F> {
             self.write_waiting()?;
         }
         if bytes.len() >= WAITING {
-            go_to_end(&mut self.file, &mut self.is_at_end)?;
-            return write_all(&mut self.file, bytes);
+            return write_at_end(
+                &mut self.file,
+                &mut self.written,
+                &mut self.is_at_end,
+                bytes,
+            );
         }
         match self.waiting.extend_from_slice(bytes) {
             Ok(()) => Ok(()),
@@ -52,59 +54,48 @@ impl<F: Read + Write + Seek + Drop> RunFile<F> {
         if self.waiting.is_empty() {
             return Ok(());
         }
-        go_to_end(&mut self.file, &mut self.is_at_end)?;
-        write_all(&mut self.file, self.waiting.as_slice())?;
+        write_at_end(
+            &mut self.file,
+            &mut self.written,
+            &mut self.is_at_end,
+            self.waiting.as_slice(),
+        )?;
         self.waiting.clear();
         Ok(())
     }
 
-    /// Reads from a place on, as many bytes as fit into the buffer or as there are.
+    /// Reads from a place on, as many bytes as fit into the buffer or as there are. A file that has fewer than
+    /// were written fails.
     pub fn read(&mut self, at: u64, buffer: &mut [u8]) -> Result<usize, StoreError>
         ensures { IfOk result (λ count. count ≤ length buffer.old) }
     {
         self.write_waiting()?;
+        let left = self.written.saturating_sub(at);
+        let count = left.min(buffer.len() as u64) as usize;
         self.is_at_end = false;
-        if self.file.seek(SeekFrom::Start(at)).is_err() {
+        if self.file.seek(SeekFrom::Start(at)).is_err()
+            || self.file.read_exact(&mut buffer[..count]).is_err()
+        {
             return Err(StoreError::Fault);
         }
-        read_all(&mut self.file, buffer)
+        Ok(count)
     }
 }
 
-// Goes to the end of a file, where it isn't there.
-fn go_to_end<F: Seek>(file: &mut F, is_at_end: &mut bool) -> Result<(), StoreError> {
-    if !*is_at_end {
-        if file.seek(SeekFrom::End(0)).is_err() {
-            return Err(StoreError::Fault);
-        }
-        *is_at_end = true;
+// Writes all bytes behind those that a file has, however few of them a write takes.
+fn write_at_end<F: Write + Seek>(
+    file: &mut F,
+    written: &mut u64,
+    is_at_end: &mut bool,
+    bytes: &[u8],
+) -> Result<(), StoreError> {
+    if !*is_at_end && file.seek(SeekFrom::Start(*written)).is_err() {
+        return Err(StoreError::Fault);
     }
+    *is_at_end = true;
+    if file.write_all(bytes).is_err() {
+        return Err(StoreError::Fault);
+    }
+    *written = written.saturating_add(bytes.len() as u64);
     Ok(())
-}
-
-// Writes all bytes, however many a write takes.
-fn write_all<F: Write>(file: &mut F, bytes: &[u8]) -> Result<(), StoreError> {
-    let mut rest = bytes;
-    while !rest.is_empty() {
-        match file.write(rest) {
-            Ok(count) if count > 0 => rest = &rest[count..],
-            _ => return Err(StoreError::Fault),
-        }
-    }
-    Ok(())
-}
-
-// Reads until the buffer is full or the file at its end, however few bytes a read gives.
-fn read_all<F: Read>(file: &mut F, buffer: &mut [u8]) -> Result<usize, StoreError>
-    ensures { IfOk result (λ count. count ≤ length buffer.old) }
-{
-    let mut count = 0;
-    while count < buffer.len() {
-        match file.read(&mut buffer[count..]) {
-            Ok(0) => return Ok(count),
-            Ok(more) => count += more,
-            Err(_) => return Err(StoreError::Fault),
-        }
-    }
-    Ok(count)
 }

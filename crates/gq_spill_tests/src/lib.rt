@@ -19,6 +19,8 @@ mod reading;
 #[cfg(test)]
 mod records;
 #[cfg(test)]
+mod reluctant;
+#[cfg(test)]
 mod rows;
 #[cfg(test)]
 mod starved;
