@@ -1,15 +1,15 @@
 -- One slot of several is written to.
-use Rattle.std.proofs.Common.{◌≡◌, ◌<◌, ◌+◌, ◌++◌, ℕ, zero, suc, Bool, true, false, List, [], ◌∷◌, length, refl, sym, ◌∙◌, arith, ◌||◌, ◌⊎◌, inl, inr, get_or, set, Option, Some, None}
+use Rattle.std.proofs.Common.{◌≡◌, ◌<◌, ◌+◌, ◌++◌, ℕ, zero, suc, Bool, true, false, List, [], ◌∷◌, length, refl, sym, ◌∙◌, arith, ◌||◌, ◌⊎◌, inl, inr, get_or, set, Option, Some, None, ap, length-append}
 use Rattle.std.specs.Prelude.{IsTrue}
 use Rattle.std.specs.List.{sum_by}
 use Rattle.std.proofs.lemmas.List.Sums.{sum_by-cons}
 use Rattle.gq_row.specs.declared.value.Value.{Value}
 use Rattle.gq_spill.specs.Runs.{Runs}
-use Rattle.gq_spill.specs.Writing.{Writing}
+use Rattle.gq_spill.specs.Writing.{Writing, Wrote, with_row}
 use Rattle.gq_group.specs.Access.{RunSet, Apart, LeavesOthers, KeepsOwn}
 use Rattle.gq_group.specs.Levels.{one_if_some}
 use Rattle.gq_group.specs.RunSources.{wrote_stays, same_number}
-use Rattle.gq_group.specs.Slots.{is_run, among, Separate, Ours, SlotHolds, AllHeld, push_at}
+use Rattle.gq_group.specs.Slots.{is_run, among, Separate, Ours, SlotHolds, AllHeld, push_at, HasRun}
 use Rattle.gq_group.specs.declared.slot.Slot.{Slot}
 use Rattle.gq_group.proofs.AccessLemmas.{keeps-apart, or_in, or_from}
 
@@ -169,3 +169,16 @@ held-one r [] i x parts within h = absurd (omega arith)
 held-one r (y ∷ slots) i x [] within h = absurd h
 held-one r (y ∷ slots) zero x (part ∷ parts) within h = (part, h.0)
 held-one r (y ∷ slots) (suc i) x (part ∷ parts) within h = held-one r slots i x parts (omega arith) h.1
+
+-- one row more was written to a run
+pub more-held : (w new : Writing) (r s : Runs) (rows : List (List Value)) (row : List Value) → w.mark.records ≡ length rows → w.refused ≡ None → s.honest ≡ r.honest → new ≡ with_row w row
+    → (IsTrue r.honest → Wrote w r rows) → (IsTrue r.honest → Wrote w r rows → Wrote new s (rows ++ row ∷ [])) → HasRun new s (rows ++ row ∷ [])
+more-held w new r s rows row count going honest is had write =
+    let longer = length-append rows (row ∷ []) in
+    let one : new.mark.records ≡ w.mark.records + 1 = ap (λ (x : Writing). x.mark.records) is in
+    record {
+      some = omega (arith, longer);
+      count = omega (arith, longer, one, count);
+      going = ap (λ (x : Writing). x.refused) is ∙ going;
+      wrote = λ h. let before : IsTrue r.honest = sym honest ∙ h in write before (had before);
+    }

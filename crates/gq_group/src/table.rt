@@ -45,9 +45,9 @@ fn start_alone<H: KeyHash<Key> + Copy>(
     )) }
     ensures hasher { IfOk result (λ map. map.hasher ≡ hasher) }
 {
-    let mut map = FlatMap::new(alloc, hasher);
     let key = Key::of(alloc, &Row::new(Vec::new(alloc)), &[])?;
     let aggs = Aggs::start(alloc, spec.aggs())?;
+    let mut map = FlatMap::new(alloc, hasher);
     let Ok(_) = map.insert_or_assign(key, aggs) else {
         return Err(AllocError);
     };

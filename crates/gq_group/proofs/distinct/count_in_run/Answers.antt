@@ -1,11 +1,11 @@
-use Rattle.std.proofs.Common.{◌≡◌, ◌++◌, [], List, length, Err, true, true≢false, arith, sym, ap, subst, ◌∙◌}
+use Rattle.std.proofs.Common.{◌≡◌, ◌++◌, [], List, length, Err, true, true≢false, arith, sym, ap, subst, ◌∙◌, refl}
 use Rattle.std.proofs.lemmas.Grind.{common_steps}
 use Rattle.gq_spill.specs.declared.run_mark.RunMark.{RunMark}
 use Rattle.gq_group.specs.Access.{either, Apart, HasCause}
 use Rattle.gq_group.specs.Groups.{Spec, Group, keys_of, out_of_range}
 use Rattle.gq_group.specs.RunSources.{only}
 use Rattle.gq_group.specs.declared.refusal.Refusal.{Refusal}
-use Rattle.gq_group.proofs.AccessLemmas.{apart-later, keeps-apart}
+use Rattle.gq_group.proofs.AccessLemmas.{apart-later, keeps-apart, leaves-refl}
 use Rattle.gq_group.proofs.FirstLemmas.{Pairing}
 use Rattle.gq_group.proofs.PairLemmas.{pairs_range, between, left_between, few_between, as_many_keys, both_pushed, both_counted}
 use Rattle.gq_group.proofs.PhaseLemmas.{cause-blamed, leaves-phases, apart-both, apart-one, ok_anyway, if_ok_both, taken_twice}
@@ -139,3 +139,10 @@ count_pairs-requires-clause-apart g c = grind (arith, common_steps)
 
 pub returns-then-mark-first-clause-others : goal.returns-then-mark-first-clause-others
 returns-then-mark-first-clause-others g c = grind (arith, common_steps)
+
+pub returns-in-Err-clause-others : goal.returns-in-Err-clause-others
+returns-in-Err-clause-others g c =
+    let s = g.S.RunStore.runs c.group.new.store in
+    let m = c.group.new.sink.writer.mark.id.number in
+    let k = g.K.GroupSink.owns c.args.sink.now in
+    leaves-phases c.args.keys.writer.mark.id.number m m _ _ k k _ s s c.in-Err.ensures.grows_sink refl c.in-Err.ensures.others (leaves-refl (either (only m) k) s)

@@ -45,3 +45,6 @@ returns-clause-others g c = grind (arith, common_steps)
 
 pub returns-in-Ok-group-clause-count : goal.returns-in-Ok-group-clause-count
 returns-in-Ok-group-clause-count g c = grind (arith, common_steps)
+
+pub returns-in-Ok-group-clause-others : goal.returns-in-Ok-group-clause-others
+returns-in-Ok-group-clause-others g c = grind (arith, common_steps)

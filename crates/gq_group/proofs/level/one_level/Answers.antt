@@ -12,9 +12,9 @@ use Rattle.gq_group.specs.Residents.{taken}
 use Rattle.gq_group.specs.Slots.{among}
 use Rattle.gq_group.specs.declared.budget.Budget.{Budget}
 use Rattle.gq_group.specs.declared.level.Level.{Level}
-use Rattle.gq_group.proofs.AccessLemmas.{keeps-apart, or_left, or_right}
+use Rattle.gq_group.proofs.AccessLemmas.{keeps-apart, leaves-both, or_left, or_right}
 use Rattle.gq_group.proofs.LevelLemmas.{parted, numbers, class_less, range-taken}
-use Rattle.gq_group.proofs.ReadLemmas.{apart-step, apart-flip, ours-empty, apart-empty, leaves-empty}
+use Rattle.gq_group.proofs.ReadLemmas.{apart-step, apart-flip, apart-either, ours-empty, apart-empty, leaves-empty}
 use Rattle.gq_group.proofs.SlotLemmas.{held-stays}
 use Rattle.gq_group.proofs.level.one_level.Goals as goal
 
@@ -129,3 +129,133 @@ returns-clause-source g c =
     let ready = c.in_ok-taken.ensures.source in
     let kept : KeepsOwn b s t = keeps-apart k k' b s t c.in_ok-groups.ensures.others (λ run i. or_left (b run) (slots run) (apart run i)) (g.met.R.RowSource.own_live c.read_rows.new.source s ready) in
     g.met.R.RowSource.stays_ready c.read_rows.new.source s t kept ready
+
+pub returns-in_err-taken-clause-apart : goal.returns-in_err-taken-clause-apart
+returns-in_err-taken-clause-apart g c =
+    let r = g.S.RunStore.runs c.args.store.now in
+    let s = g.S.RunStore.runs c.read_rows.new.store in
+    let k = g.K.GroupSink.owns c.args.sink.now in
+    let a = g.R.RowSource.owns c.args.source.now in
+    let b = g.R.RowSource.owns c.read_rows.new.source in
+    let slots = among c.read_rows.new.slots.items in
+    let taken = c.in_err-taken.ensures in
+    let step : LeavesOthers a (either b slots) r s = taken.others in
+    let live = g.met.K.GroupSink.own_live c.args.sink.now r c.requires.sink in
+    let away : Apart k (either b slots) = apart-step r s a (either b slots) k step (apart-flip a k c.requires.apart) live in
+    apart-either slots b k taken.apart (apart-flip k slots (λ run i. or_right (b run) (slots run) (away run i)))
+
+pub returns-in_err-taken-clause-still_apart : goal.returns-in_err-taken-clause-still_apart
+returns-in_err-taken-clause-still_apart g c =
+    let r = g.S.RunStore.runs c.args.store.now in
+    let s = g.S.RunStore.runs c.read_rows.new.store in
+    let k = g.K.GroupSink.owns c.args.sink.now in
+    let a = g.R.RowSource.owns c.args.source.now in
+    let b = g.R.RowSource.owns c.read_rows.new.source in
+    let slots = among c.read_rows.new.slots.items in
+    let taken = c.in_err-taken.ensures in
+    let step : LeavesOthers a (either b slots) r s = taken.others in
+    let live = g.met.K.GroupSink.own_live c.args.sink.now r c.requires.sink in
+    let away : Apart k (either b slots) = apart-step r s a (either b slots) k step (apart-flip a k c.requires.apart) live in
+    apart-flip k b (λ run i. or_left (b run) (slots run) (away run i))
+
+pub returns-in_err-groups-clause-apart : goal.returns-in_err-groups-clause-apart
+returns-in_err-groups-clause-apart g c =
+    let r = g.S.RunStore.runs c.args.store.now in
+    let s = g.S.RunStore.runs c.read_rows.new.store in
+    let k = g.K.GroupSink.owns c.args.sink.now in
+    let a = g.R.RowSource.owns c.args.source.now in
+    let b = g.R.RowSource.owns c.read_rows.new.source in
+    let slots = among c.read_rows.new.slots.items in
+    let taken = c.in_ok-taken.ensures in
+    let step : LeavesOthers a (either b slots) r s = taken.others in
+    let live = g.met.K.GroupSink.own_live c.args.sink.now r c.requires.sink in
+    let away : Apart k (either b slots) = apart-step r s a (either b slots) k step (apart-flip a k c.requires.apart) live in
+    let t = g.S.RunStore.runs c.push_all.new.store in
+    let k' = g.K.GroupSink.owns c.push_all.new.sink in
+    let then : LeavesOthers k k' s t = c.in_err-groups.ensures.others in
+    let sink : Apart slots k = apart-flip k slots (λ run i. or_right (b run) (slots run) (away run i)) in
+    apart-either slots b k' taken.apart (apart-step s t k k' slots then sink taken.ours.live)
+
+pub returns-in_err-groups-clause-still_apart : goal.returns-in_err-groups-clause-still_apart
+returns-in_err-groups-clause-still_apart g c =
+    let r = g.S.RunStore.runs c.args.store.now in
+    let s = g.S.RunStore.runs c.read_rows.new.store in
+    let k = g.K.GroupSink.owns c.args.sink.now in
+    let a = g.R.RowSource.owns c.args.source.now in
+    let b = g.R.RowSource.owns c.read_rows.new.source in
+    let slots = among c.read_rows.new.slots.items in
+    let taken = c.in_ok-taken.ensures in
+    let step : LeavesOthers a (either b slots) r s = taken.others in
+    let live = g.met.K.GroupSink.own_live c.args.sink.now r c.requires.sink in
+    let away : Apart k (either b slots) = apart-step r s a (either b slots) k step (apart-flip a k c.requires.apart) live in
+    let t = g.S.RunStore.runs c.push_all.new.store in
+    let k' = g.K.GroupSink.owns c.push_all.new.sink in
+    let then : LeavesOthers k k' s t = c.in_err-groups.ensures.others in
+    let sink : Apart b k = apart-flip k b (λ run i. or_left (b run) (slots run) (away run i)) in
+    apart-step s t k k' b then sink (g.met.R.RowSource.own_live c.read_rows.new.source s taken.source)
+
+pub returns-in_err-groups-clause-others : goal.returns-in_err-groups-clause-others
+returns-in_err-groups-clause-others g c =
+    let r = g.S.RunStore.runs c.args.store.now in
+    let s = g.S.RunStore.runs c.read_rows.new.store in
+    let k = g.K.GroupSink.owns c.args.sink.now in
+    let a = g.R.RowSource.owns c.args.source.now in
+    let b = g.R.RowSource.owns c.read_rows.new.source in
+    let slots = among c.read_rows.new.slots.items in
+    let taken = c.in_ok-taken.ensures in
+    let step : LeavesOthers a (either b slots) r s = taken.others in
+    let t = g.S.RunStore.runs c.push_all.new.store in
+    let k' = g.K.GroupSink.owns c.push_all.new.sink in
+    let then : LeavesOthers k k' s t = c.in_err-groups.ensures.others in
+    leaves-both a (either b slots) k k' r s t step then
+
+pub returns-clause-apart : goal.returns-clause-apart
+returns-clause-apart g c =
+    let r = g.S.RunStore.runs c.args.store.now in
+    let s = g.S.RunStore.runs c.read_rows.new.store in
+    let k = g.K.GroupSink.owns c.args.sink.now in
+    let a = g.R.RowSource.owns c.args.source.now in
+    let b = g.R.RowSource.owns c.read_rows.new.source in
+    let slots = among c.read_rows.new.slots.items in
+    let taken = c.in_ok-taken.ensures in
+    let step : LeavesOthers a (either b slots) r s = taken.others in
+    let live = g.met.K.GroupSink.own_live c.args.sink.now r c.requires.sink in
+    let away : Apart k (either b slots) = apart-step r s a (either b slots) k step (apart-flip a k c.requires.apart) live in
+    let t = g.S.RunStore.runs c.push_all.new.store in
+    let k' = g.K.GroupSink.owns c.push_all.new.sink in
+    let then : LeavesOthers k k' s t = c.in_ok-groups.ensures.others in
+    let sink : Apart slots k = apart-flip k slots (λ run i. or_right (b run) (slots run) (away run i)) in
+    apart-either slots b k' taken.apart (apart-step s t k k' slots then sink taken.ours.live)
+
+pub returns-clause-still_apart : goal.returns-clause-still_apart
+returns-clause-still_apart g c =
+    let r = g.S.RunStore.runs c.args.store.now in
+    let s = g.S.RunStore.runs c.read_rows.new.store in
+    let k = g.K.GroupSink.owns c.args.sink.now in
+    let a = g.R.RowSource.owns c.args.source.now in
+    let b = g.R.RowSource.owns c.read_rows.new.source in
+    let slots = among c.read_rows.new.slots.items in
+    let taken = c.in_ok-taken.ensures in
+    let step : LeavesOthers a (either b slots) r s = taken.others in
+    let live = g.met.K.GroupSink.own_live c.args.sink.now r c.requires.sink in
+    let away : Apart k (either b slots) = apart-step r s a (either b slots) k step (apart-flip a k c.requires.apart) live in
+    let t = g.S.RunStore.runs c.push_all.new.store in
+    let k' = g.K.GroupSink.owns c.push_all.new.sink in
+    let then : LeavesOthers k k' s t = c.in_ok-groups.ensures.others in
+    let sink : Apart b k = apart-flip k b (λ run i. or_left (b run) (slots run) (away run i)) in
+    apart-step s t k k' b then sink (g.met.R.RowSource.own_live c.read_rows.new.source s taken.source)
+
+pub returns-clause-others : goal.returns-clause-others
+returns-clause-others g c =
+    let r = g.S.RunStore.runs c.args.store.now in
+    let s = g.S.RunStore.runs c.read_rows.new.store in
+    let k = g.K.GroupSink.owns c.args.sink.now in
+    let a = g.R.RowSource.owns c.args.source.now in
+    let b = g.R.RowSource.owns c.read_rows.new.source in
+    let slots = among c.read_rows.new.slots.items in
+    let taken = c.in_ok-taken.ensures in
+    let step : LeavesOthers a (either b slots) r s = taken.others in
+    let t = g.S.RunStore.runs c.push_all.new.store in
+    let k' = g.K.GroupSink.owns c.push_all.new.sink in
+    let then : LeavesOthers k k' s t = c.in_ok-groups.ensures.others in
+    leaves-both a (either b slots) k k' r s t step then

@@ -101,3 +101,44 @@ returns-then-not-fits-clause-cause g c = grind (arith, common_steps)
 
 pub overflow_add-runs : goal.overflow_add-runs
 overflow_add-runs g c = grind (arith, common_steps)
+
+pub returns-then-not-fits-clause-others : goal.returns-then-not-fits-clause-others
+returns-then-not-fits-clause-others g c =
+    let inv = c.rows.invariant in
+    let a = g.R.RowSource.owns c.rows.source in
+    let b = g.R.RowSource.owns c.next.new.self in
+    let k = among c.rows.slots.items in
+    let r = g.S.RunStore.runs c.rows.store in
+    let s = g.S.RunStore.runs c.next.new.store in
+    let step : LeavesOthers a b r s = c.in_ok-row.ensures.others in
+    leaves-trans _ _ _ _ _ _ inv.others (leaves-left a b k r s step)
+
+pub returns-in_err-placed-clause-others : goal.returns-in_err-placed-clause-others
+returns-in_err-placed-clause-others g c =
+    let inv = c.rows.invariant in
+    let a = g.R.RowSource.owns c.rows.source in
+    let b = g.R.RowSource.owns c.next.new.self in
+    let k = among c.rows.slots.items in
+    let r = g.S.RunStore.runs c.rows.store in
+    let s = g.S.RunStore.runs c.next.new.store in
+    let step : LeavesOthers a b r s = c.in_ok-row.ensures.others in
+    let k' = among c.place_row.new.slots.items in
+    let t = g.S.RunStore.runs c.place_row.new.store in
+    let then : LeavesOthers k k' s t = c.in_err-placed.ensures.others in
+    leaves-trans _ _ _ _ _ _ inv.others (leaves-both a b k k' r s t step then)
+
+pub returns-in_err-placed-clause-apart : goal.returns-in_err-placed-clause-apart
+returns-in_err-placed-clause-apart g c =
+    let inv = c.rows.invariant in
+    let a = g.R.RowSource.owns c.rows.source in
+    let b = g.R.RowSource.owns c.next.new.self in
+    let k = among c.rows.slots.items in
+    let r = g.S.RunStore.runs c.rows.store in
+    let s = g.S.RunStore.runs c.next.new.store in
+    let step : LeavesOthers a b r s = c.in_ok-row.ensures.others in
+    let k' = among c.place_row.new.slots.items in
+    let t = g.S.RunStore.runs c.place_row.new.store in
+    let then : LeavesOthers k k' s t = c.in_err-placed.ensures.others in
+    let apart : Apart k b = apart-step r s a b k step inv.apart inv.ours.live in
+    let live = g.met.R.RowSource.own_live c.next.new.self s c.in_ok-row.ensures.ready in
+    apart-flip b k' (apart-step s t k k' b then (apart-flip k b apart) live)

@@ -377,3 +377,24 @@ returns-clause-made g c = grind (arith, common_steps)
 
 pub overflow_add-runs : goal.overflow_add-runs
 overflow_add-runs g c = grind (arith, common_steps)
+
+pub returns-in_err-done-clause-apart : goal.returns-in_err-done-clause-apart
+returns-in_err-done-clause-apart g c =
+    let r0 = g.S.RunStore.runs c.args.store.now in
+    let r = g.S.RunStore.runs c.runs.store in
+    let inv = c.runs.invariant in
+    let front = c.pop.new.self.items in
+    let slot = c.in-Some.slot in
+    let popped : c.runs.stack.items ≡ front ++ slot ∷ [] = sym c.reserve.ensures.items ∙ c.in-Some.ensures.items in
+    let a : RunSet = either (g.R.RowSource.owns c.args.source.now) (g.K.GroupSink.owns c.args.sink.now) in
+    let src : RunSet = g.R.RowSource.owns c.one_level.new.source in
+    let k : RunSet = g.K.GroupSink.owns c.runs.sink in
+    let on : OnStack a (either src k) (front ++ slot ∷ []) r0 r = subst (λ st. OnStack a (either src k) st r0 r) popped inv.on in
+    let w = c.in-Some-writer.writer in
+    let is = c.in-Some-writer.is in
+    let t = g.S.RunStore.runs c.read_run-outcome.new.store in
+    let slots = c.read_run-outcome.new.slots.items in
+    let k' : RunSet = g.K.GroupSink.owns c.read_run-outcome.new.sink in
+    let told = c.read_run-outcome.ensures in
+    let live = g.met.R.RowSource.own_live c.one_level.new.source r inv.source in
+    lemmas.src_sink a src k k' front slots slot w r0 r told.others.0 t is on told.others.1 told.others.2 inv.both live
