@@ -8,7 +8,7 @@ use crate::list_sink::ListSink;
 use crate::list_source::ListSource;
 use gq_group::{Budget, Refusal, group_distinct};
 use gq_row::{Key, Row};
-use gq_spill::MemStore;
+use gq_spill::{MemStore, RunStore};
 use std::alloc::{AllocError, Global};
 use std::collections::VecDeque;
 use std::process::Abort;
@@ -37,6 +37,20 @@ fn counted<H: KeyHash<Key> + Copy>(
     rows: VecDeque<Row>,
     entries: u32,
 ) -> Result<Answer, Refusal> {
+    let mut store = MemStore::new(alloc);
+    counted_over(alloc, hasher, by, column, rows, &mut store, entries)
+}
+
+/// The same over a store.
+pub(crate) fn counted_over<H: KeyHash<Key> + Copy, S: RunStore>(
+    alloc: Global,
+    hasher: H,
+    by: &[usize],
+    column: usize,
+    rows: VecDeque<Row>,
+    store: &mut S,
+    entries: u32,
+) -> Result<Answer, Refusal> {
     let Some(budget) = Budget::new(entries) else {
         return Err(Refusal::Memory);
     };
@@ -55,7 +69,6 @@ fn counted<H: KeyHash<Key> + Copy>(
         alloc,
         groups: Vec::new(alloc),
     };
-    let mut store = MemStore::new(alloc);
     let spent = group_distinct(
         alloc,
         hasher,
@@ -63,7 +76,7 @@ fn counted<H: KeyHash<Key> + Copy>(
         column,
         &mut source,
         &mut sink,
-        &mut store,
+        store,
         budget,
     )?;
     let ListSink { mut groups, .. } = sink;

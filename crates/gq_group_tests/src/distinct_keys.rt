@@ -9,7 +9,7 @@ use crate::list_source::ListSource;
 use gq_group::{Budget, Refusal};
 use gq_row::{Key, Row};
 use gq_select::distinct;
-use gq_spill::MemStore;
+use gq_spill::{MemStore, RunStore};
 use std::alloc::{AllocError, Global};
 use std::collections::VecDeque;
 use std::process::Abort;
@@ -37,6 +37,19 @@ fn keys<H: KeyHash<Key> + Copy>(
     rows: VecDeque<Row>,
     entries: u32,
 ) -> Result<Answer, Refusal> {
+    let mut store = MemStore::new(alloc);
+    keys_over(alloc, hasher, columns, rows, &mut store, entries)
+}
+
+/// The same over a store.
+pub(crate) fn keys_over<H: KeyHash<Key> + Copy, S: RunStore>(
+    alloc: Global,
+    hasher: H,
+    columns: &[usize],
+    rows: VecDeque<Row>,
+    store: &mut S,
+    entries: u32,
+) -> Result<Answer, Refusal> {
     let Some(budget) = Budget::new(entries) else {
         return Err(Refusal::Memory);
     };
@@ -52,16 +65,7 @@ fn keys<H: KeyHash<Key> + Copy>(
         alloc,
         groups: Vec::new(alloc),
     };
-    let mut store = MemStore::new(alloc);
-    let spent = distinct(
-        alloc,
-        hasher,
-        by,
-        &mut source,
-        &mut sink,
-        &mut store,
-        budget,
-    )?;
+    let spent = distinct(alloc, hasher, by, &mut source, &mut sink, store, budget)?;
     let ListSink { mut groups, .. } = sink;
     if groups.sort().is_err() {
         return Err(Refusal::Memory);

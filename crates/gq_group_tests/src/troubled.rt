@@ -1,5 +1,7 @@
 //! Groups over stores in which one call goes wrong.
 use crate::counting::Counting;
+use crate::distinct::counted_over;
+use crate::distinct_keys::keys_over;
 use crate::groups::{Rows, counts_and_sums, fifty_told, grouped_over, rows_of, spec, told};
 use gq_agg::AggKind;
 use gq_row::Key;
@@ -126,4 +128,59 @@ fn a_read_cut_short_is_no_groups(rt: HostRuntime) -> Result<(), Fail> {
     assert_damaged(&rt, alloc, Constant(0), &[1, 2, 3, 4])?;
     assert_damaged(&rt, alloc, Fnv1a { seed: 0 }, &[1, 2])?;
     assert_ends_before(&rt, alloc, Constant(0), Trouble::Short(5))
+}
+
+/// What is asked of four rows: how many values each key has, how many different ones, and the keys.
+#[derive(Clone, Copy)]
+enum Asked {
+    Values,
+    DifferentValues,
+    Keys,
+}
+
+/// What comes of four rows, one group at a time, over a store of which a call fails, and how many runs
+/// are left.
+fn worked_over(alloc: Global, asked: Asked, call: u64) -> Result<(String, u64), AllocError> {
+    let rows = rows_of(alloc, Rows::Worked)?;
+    let spec = spec(alloc, &[0], &[(AggKind::Count, 1)])?;
+    let failing = FuseStore::new(MemStore::new(alloc), Trouble::Fail(call));
+    let mut store = Counting::new(alloc, failing);
+    let found = match asked {
+        Asked::Values => grouped_over(alloc, Constant(0), &spec, rows, &mut store, 1),
+        Asked::DifferentValues => { counted_over(alloc, Constant(0), &[0], 1, rows, &mut store, 1) }
+        Asked::Keys => keys_over(alloc, Constant(0), &[0], rows, &mut store, 1),
+    };
+    Ok((told(alloc, found)?, store.live))
+}
+
+/// Lets each call of the store fail in turn, until none does and what is due comes; how many did. No run
+/// is left in any case.
+fn failing(rt: &impl Abort, alloc: Global, asked: Asked, due: &str) -> Result<u64, Fail> {
+    for call in 1..100u64 {
+        let (found, live) = worked_over(alloc, asked, call)?;
+        assert_eq!(rt; live, 0, "call {call}");
+        if found.as_str() == due {
+            return Ok(call - 1);
+        }
+        assert_eq!(rt; found.as_str(), FAILED, "call {call}");
+    }
+    Err(Fail::new("calls failed to the end"))
+}
+
+/// A run is made, written to and read; of different values more than one.
+#[test]
+fn each_call_of_each_grouping_fails(rt: HostRuntime) -> Result<(), Fail> {
+    let alloc = rt.alloc();
+    let values = failing(&rt, alloc, Asked::Values, "4 rows, 2 groups; 1:2; 2:1")?;
+    assert_eq!(rt; values, 3);
+    let keys = failing(&rt, alloc, Asked::Keys, "4 rows, 2 groups; 1:; 2:")?;
+    assert_eq!(rt; keys, 3);
+    let different = failing(
+        &rt,
+        alloc,
+        Asked::DifferentValues,
+        "4 rows, 2 groups; 1:1; 2:1",
+    )?;
+    assert!(rt; 3 < different, "{different} calls");
+    Ok(())
 }

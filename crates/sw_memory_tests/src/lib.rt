@@ -15,3 +15,5 @@ mod map;
 mod starved;
 #[cfg(test)]
 mod table;
+#[cfg(test)]
+mod turns;
