@@ -22,6 +22,16 @@ impl<'a> Pieces<'a> {
             error: ErrorKind::Other,
         }
     }
+
+    /// Pieces of one byte, of which a read fails.
+    pub fn failing(bytes: &'a [u8], fails_at: usize, error: ErrorKind) -> Pieces<'a> {
+        Pieces {
+            bytes,
+            size: 1,
+            fails_at,
+            error,
+        }
+    }
 }
 
 impl<'a> Read for Pieces<'a> {

@@ -1,7 +1,8 @@
 //! Engines to try.
-use gq_engine::{Budget, Engine, MemStore, RunStore};
+use gq_engine::{Budget, Engine, Fault, MemStore, RunStore, Summary};
 use gq_row::{Key, Limits};
 use std::alloc::{AllocError, Global};
+use std::io::{Read, Write};
 use std::test::Fail;
 use sw_probe::{Fnv1a, KeyHash};
 
@@ -36,6 +37,15 @@ pub fn engine_over<H: KeyHash<Key> + Copy, S: RunStore + Drop>(
     Ok(Engine::new(alloc, hasher, store, budget, Limits::greatest()))
 }
 
+/// Runs a script. Nothing is said of what comes of it, which a proof of a test has no use for.
+pub fn run<H: KeyHash<Key> + Copy, S: RunStore, R: Read + Drop, W: Write>(
+    engine: &mut Engine<H, S>,
+    reader: R,
+    writer: &mut W,
+) -> Result<Summary, Fault> {
+    engine.run(reader, writer)
+}
+
 /// What an engine writes to a script.
 pub fn written_to<H: KeyHash<Key> + Copy, S: RunStore>(
     alloc: Global,
@@ -43,8 +53,33 @@ pub fn written_to<H: KeyHash<Key> + Copy, S: RunStore>(
     script: &[u8],
 ) -> Vec<u8> {
     let mut written = Vec::new(alloc);
-    let _ = engine.run(script, &mut written);
+    let _ = run(engine, script, &mut written);
     written
+}
+
+/// What an engine answers to a script, without a fault.
+pub fn answers<H: KeyHash<Key> + Copy, S: RunStore>(
+    alloc: Global,
+    engine: &mut Engine<H, S>,
+    script: &[u8],
+) -> Result<Vec<u8>, Fail> {
+    let mut written = Vec::new(alloc);
+    match run(engine, script, &mut written) {
+        Ok(_) => Ok(written),
+        Err(_) => Err(Fail::new("a fault")),
+    }
+}
+
+/// What an engine without tables writes to a script under limits, and how the run ends.
+pub fn run_alone<R: Read + Drop>(
+    alloc: Global,
+    limits: Limits,
+    reader: R,
+) -> (Vec<u8>, Result<Summary, Fault>) {
+    let mut engine = engine(alloc, limits);
+    let mut written = Vec::new(alloc);
+    let ended = run(&mut engine, reader, &mut written);
+    (written, ended)
 }
 
 /// Commands, one after the other.

@@ -1,14 +1,14 @@
 //! Readers and writers that fail: what was written then, and what the tables are.
 use crate::devices::{Endless, Fussy, Pieces, Trouble};
-use crate::engines::engine;
+use crate::engines::{answers, engine, run, run_alone};
+use crate::expected::expect_at;
 use crate::runs::{STATIONS, script};
-use gq_engine::{Engine, Fault, MemStore};
+use gq_engine::Fault;
 use gq_row::{Bounds, Limits};
 use std::alloc::{AllocError, Global};
-use std::io::ErrorKind;
+use std::io::{ErrorKind, Read, Write};
 use std::process::Abort;
 use std::test::Fail;
-use sw_probe::Fnv1a;
 
 /// The replies to the first lines of the script.
 fn replies_to(alloc: Global, lines: usize) -> Result<Vec<u8>, AllocError> {
@@ -30,21 +30,47 @@ fn cities_after(commands: usize) -> &'static [u8] {
     }
 }
 
-/// Asserts that the tables are those after the first commands of the script.
-fn assert_stands_after(
+/// Runs a script over no tables, and expects that it ends in a fault, and that the tables are then
+/// those after the first commands of the script.
+fn expect_fault<R: Read + Drop, W: Write>(
     rt: &impl Abort,
     alloc: Global,
-    engine: &mut Engine<Fnv1a, MemStore>,
+    reader: R,
+    writer: &mut W,
+    fault: Fault,
     commands: usize,
-) {
+) -> Result<(), Fail> {
+    let mut engine = engine(alloc, Limits::greatest());
+    let ended = run(&mut engine, reader, writer);
+    assert!(rt; ended == Err(fault), "after {commands}");
+    let counted = answers(alloc, &mut engine, b"group s by city show count(*)")?;
+    expect_at(rt, commands, counted.as_slice(), cities_after(commands));
+    Ok(())
+}
+
+/// How many lines are whole within the first bytes of a script.
+fn lines_within(script: &[u8], bytes: usize) -> usize {
+    script
+        .iter()
+        .take(bytes)
+        .filter(|byte| **byte == b'\n')
+        .count()
+}
+
+fn expect_read_fault(
+    rt: &impl Abort,
+    alloc: Global,
+    script: &[u8],
+    fails_at: usize,
+    error: ErrorKind,
+) -> Result<(), Fail> {
+    let lines = lines_within(script, fails_at.saturating_sub(1));
+    let due = replies_to(alloc, lines)?;
     let mut written = Vec::new(alloc);
-    let ended = engine.run(b"group s by city show count(*)".as_slice(), &mut written);
-    assert!(rt; ended.is_ok());
-    assert_eq!(rt;
-        written.as_slice(),
-        cities_after(commands),
-        "after {commands}"
-    );
+    let reader = Pieces::failing(script, fails_at, error);
+    expect_fault(rt, alloc, reader, &mut written, Fault::Read, lines)?;
+    expect_at(rt, fails_at, written.as_slice(), due.as_slice());
+    Ok(())
 }
 
 /// A read that fails at each call in turn: the lines that came whole are answered, and then the
@@ -54,27 +80,27 @@ fn each_read_fails(rt: HostRuntime) -> Result<(), Fail> {
     let whole = script(rt.alloc())?;
     for fails_at in 1..whole.len().saturating_add(2) {
         for error in [ErrorKind::Other, ErrorKind::Interrupted] {
-            let mut engine = engine(rt.alloc(), Limits::greatest());
-            let mut written = Vec::new(rt.alloc());
-            let reader = Pieces {
-                bytes: whole.as_slice(),
-                size: 1,
-                fails_at,
-                error,
-            };
-            let ended = engine.run(reader, &mut written);
-            assert!(rt; ended == Err(Fault::Read), "read {fails_at}");
-            let lines = whole
-                .as_slice()
-                .iter()
-                .take(fails_at - 1)
-                .filter(|byte| **byte == b'\n')
-                .count();
-            let due = replies_to(rt.alloc(), lines)?;
-            assert_eq!(rt; written.as_slice(), due.as_slice(), "read {fails_at}");
-            assert_stands_after(&rt, rt.alloc(), &mut engine, lines);
+            expect_read_fault(&rt, rt.alloc(), whole.as_slice(), fails_at, error)?;
         }
     }
+    Ok(())
+}
+
+/// So many lines that say no command are answered, and then the limit is met.
+fn expect_no_end(
+    rt: &impl Abort,
+    alloc: Global,
+    limits: Limits,
+    bytes: [u8; 2],
+    lines: usize,
+) -> Result<(), Fail> {
+    let mut due = Vec::new(alloc);
+    for _line in 0..lines {
+        due.extend_from_slice(b"err 1 Syntax\n")?;
+    }
+    let (written, ended) = run_alone(alloc, limits, Endless { bytes, given: 0 });
+    assert!(rt; ended == Err(Fault::Read), "{bytes:?}");
+    expect_at(rt, bytes, written.as_slice(), due.as_slice());
     Ok(())
 }
 
@@ -91,21 +117,32 @@ fn a_reader_without_an_end(rt: HostRuntime) -> Result<(), Fail> {
     // whole within the limit are answered.
     let cases: [([u8; 2], usize); 4] = [(*b"\n\n", 0), (*b"xx", 0), (*b"  ", 0), (*b"x\n", 50)];
     for (bytes, lines) in cases {
-        let mut engine = engine(rt.alloc(), limits);
-        let mut written = Vec::new(rt.alloc());
-        let ended = engine.run(Endless { bytes, given: 0 }, &mut written);
-        assert!(rt; ended == Err(Fault::Read), "{bytes:?}");
-        let mut due = Vec::new(rt.alloc());
-        for _line in 0..lines {
-            due.extend_from_slice(b"err 1 Syntax\n")?;
-        }
-        assert_eq!(rt; written.as_slice(), due.as_slice(), "{bytes:?}");
+        expect_no_end(&rt, rt.alloc(), limits, bytes, lines)?;
     }
     Ok(())
 }
 
-/// Trouble at each write in turn, of a writer that takes a byte at a time: a front of what is due
-/// was written, and the tables are as after the command whose reply was being written.
+/// A writer that takes a byte at a time has trouble at its k-th write: a front of what is due was
+/// written, and the tables are as after the command whose reply was being written.
+fn expect_write_fault(
+    rt: &impl Abort,
+    alloc: Global,
+    script: &[u8],
+    due: &[u8],
+    k: usize,
+    trouble: Trouble,
+) -> Result<(), Fail> {
+    let taken = k.saturating_sub(1).min(due.len());
+    let (front, _rest) = due.split_at(taken);
+    // Each of the first four replies has five bytes.
+    let commands = (taken / 5 + 1).min(5);
+    let mut writer = Fussy::new(alloc, 1, trouble, k);
+    expect_fault(rt, alloc, script, &mut writer, Fault::Write, commands)?;
+    expect_at(rt, k, writer.written.as_slice(), front);
+    Ok(())
+}
+
+/// Trouble at each write in turn.
 #[test]
 fn each_write_fails(rt: HostRuntime) -> Result<(), Fail> {
     let whole = script(rt.alloc())?;
@@ -116,34 +153,43 @@ fn each_write_fails(rt: HostRuntime) -> Result<(), Fail> {
             Trouble::Write(ErrorKind::Interrupted),
             Trouble::Full,
         ] {
-            let mut engine = engine(rt.alloc(), Limits::greatest());
-            let mut writer = Fussy::new(rt.alloc(), 1, trouble, k);
-            let ended = engine.run(whole.as_slice(), &mut writer);
-            assert!(rt; ended == Err(Fault::Write), "write {k}");
-            let (front, _rest) = due.as_slice().split_at((k - 1).min(due.len()));
-            assert_eq!(rt; writer.written.as_slice(), front, "write {k}");
-            // Each of the first four replies has five bytes.
-            let commands = ((k - 1) / 5 + 1).min(5);
-            assert_stands_after(&rt, rt.alloc(), &mut engine, commands);
+            expect_write_fault(
+                &rt,
+                rt.alloc(),
+                whole.as_slice(),
+                due.as_slice(),
+                k,
+                trouble,
+            )?;
         }
     }
     Ok(())
 }
 
-/// Each flush fails in turn: the reply before it was written whole.
+/// The k-th flush fails: the reply before it was written whole.
+fn expect_flush_fault(
+    rt: &impl Abort,
+    alloc: Global,
+    script: &[u8],
+    k: usize,
+    error: ErrorKind,
+    most: usize,
+) -> Result<(), Fail> {
+    let due = replies_to(alloc, k)?;
+    let mut writer = Fussy::new(alloc, most, Trouble::Flush(error), k);
+    expect_fault(rt, alloc, script, &mut writer, Fault::Write, k)?;
+    expect_at(rt, k, writer.written.as_slice(), due.as_slice());
+    Ok(())
+}
+
+/// Each flush fails in turn.
 #[test]
 fn each_flush_fails(rt: HostRuntime) -> Result<(), Fail> {
     let whole = script(rt.alloc())?;
     for k in 1..STATIONS.len().saturating_add(1) {
         for error in [ErrorKind::Other, ErrorKind::Interrupted] {
             for most in [1usize, 1000] {
-                let mut engine = engine(rt.alloc(), Limits::greatest());
-                let mut writer = Fussy::new(rt.alloc(), most, Trouble::Flush(error), k);
-                let ended = engine.run(whole.as_slice(), &mut writer);
-                assert!(rt; ended == Err(Fault::Write), "flush {k}");
-                let due = replies_to(rt.alloc(), k)?;
-                assert_eq!(rt; writer.written.as_slice(), due.as_slice(), "flush {k}");
-                assert_stands_after(&rt, rt.alloc(), &mut engine, k);
+                expect_flush_fault(&rt, rt.alloc(), whole.as_slice(), k, error, most)?;
             }
         }
     }

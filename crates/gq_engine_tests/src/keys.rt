@@ -1,76 +1,95 @@
 //! Keys hashed and compared, owned and borrowed, with ample memory. The hashes were computed by
 //! another program from the bytes that stand here.
-use gq_row::{Key, KeyCells, KeyRef, Row, Text, Value};
+use crate::expected::{expect, expect_at};
+use crate::plain::{Plain, row_of, values_of};
+use gq_row::{Key, KeyCells, KeyRef, Row, Value};
 use std::alloc::{AllocError, Global};
 use std::mem::size_of;
+use std::process::Abort;
 use std::test::Fail;
 use sw_probe::{Fnv1a, KeyHash, Names};
 
-const PLAIN: Fnv1a = Fnv1a { seed: 0 };
-
-fn hash_of<Q: Names<Key>>(hasher: &Fnv1a, key: &Q) -> u64 {
-    <Fnv1a as KeyHash<Key>>::hash(hasher, key)
-}
-
 /// Null, -1 and `Oslo`.
-fn worked_row(alloc: Global) -> Result<Row, AllocError> {
-    let mut cells = Vec::new(alloc);
-    cells.push(Value::Null)?;
-    cells.push(Value::Int(-1))?;
-    cells.push(Value::Text(Text::new(String::from_str(alloc, "Oslo")?)))?;
-    Ok(Row::new(cells))
-}
+const WORKED: [Plain; 3] = [Plain::Null, Plain::Int(-1), Plain::Text("Oslo")];
 
 /// FNV-1a over 00, 01 ffffffffffffffff, 02 00000004 4f736c6f.
+const WHOLE: u64 = 0x24ee_2c99_d176_32ab;
+
+fn expect_hash<Q: Names<Key>>(rt: &impl Abort, seed: u64, key: &Q, due: u64) {
+    let hash = <Fnv1a as KeyHash<Key>>::hash(&Fnv1a { seed }, key);
+    expect_at(rt, seed, hash, due);
+}
+
+/// The whole row as a key of its own and as cells.
+fn expect_whole(rt: &impl Abort, alloc: Global, row: &Row) -> Result<(), AllocError> {
+    assert!(rt; row.len() == 3);
+    let key = Key::of(alloc, row, &[0, 1, 2])?;
+    expect_hash(rt, 0, &key, WHOLE);
+    expect_hash(rt, 7, &key, 0x7dfc_2a47_4bdc_0e1e);
+    expect_hash(rt, 0, &KeyCells(row.cells()), WHOLE);
+    Ok(())
+}
+
+/// Columns of the row, borrowed: all; over 02 00000004 4f736c6f, 00, since they have an order of their
+/// own; and over no bytes.
+fn expect_borrowed(rt: &impl Abort, row: &Row) {
+    assert!(rt; row.len() == 3);
+    expect_hash(rt, 0, &KeyRef::new(row, &[0, 1, 2]), WHOLE);
+    expect_hash(rt, 0, &KeyRef::new(row, &[2, 0]), 0x5f59_5b64_154a_6212);
+    expect_hash(rt, 0, &KeyRef::new(row, &[]), 0xcbf2_9ce4_8422_2325);
+}
+
+fn expect_cells(
+    rt: &impl Abort,
+    alloc: Global,
+    plain: &[Plain],
+    due: u64,
+) -> Result<(), AllocError> {
+    let cells = values_of(alloc, plain)?;
+    expect_hash(rt, 0, &KeyCells(cells.as_slice()), due);
+    Ok(())
+}
+
+/// Beside those of the row over 00, and over 02 00000000.
 #[test]
 fn worked_hashes(rt: HostRuntime) -> Result<(), Fail> {
-    let row = worked_row(rt.alloc())?;
-    assert_eq!(rt; row.len(), 3);
-    let key = Key::of(rt.alloc(), &row, &[0, 1, 2])?;
-    let hash = 0x24ee_2c99_d176_32ab;
-    assert_eq!(rt; hash_of(&PLAIN, &key), hash);
-    assert_eq!(rt; hash_of(&PLAIN, &KeyRef::new(&row, &[0, 1, 2])), hash);
-    assert_eq!(rt; hash_of(&PLAIN, &KeyCells(row.cells())), hash);
-    // With seed 7.
-    let seeded = Fnv1a { seed: 7 };
-    assert_eq!(rt; hash_of(&seeded, &key), 0x7dfc_2a47_4bdc_0e1e);
-    // Over 02 00000004 4f736c6f, 00: the key's columns in their own order.
-    let turned = 0x5f59_5b64_154a_6212;
-    assert_eq!(rt; hash_of(&PLAIN, &KeyRef::new(&row, &[2, 0])), turned);
-    // Over no bytes, 00, and 02 00000000.
-    assert_eq!(rt;
-        hash_of(&PLAIN, &KeyRef::new(&row, &[])),
-        0xcbf2_9ce4_8422_2325
-    );
-    assert_eq!(rt;
-        hash_of(&PLAIN, &KeyCells(&[Value::Null])),
-        0xaf63_bd4c_8601_b7df
-    );
-    let empty = [Value::Text(Text::new(String::new(rt.alloc())))];
-    assert_eq!(rt; hash_of(&PLAIN, &KeyCells(&empty)), 0xfe1a_162e_1fca_be15);
+    let row = row_of(rt.alloc(), &WORKED)?;
+    expect_whole(&rt, rt.alloc(), &row)?;
+    expect_borrowed(&rt, &row);
+    expect_cells(&rt, rt.alloc(), &[Plain::Null], 0xaf63_bd4c_8601_b7df)?;
+    expect_cells(&rt, rt.alloc(), &[Plain::Text("")], 0xfe1a_162e_1fca_be15)?;
     Ok(())
+}
+
+fn expect_same<Q: Names<Key>>(rt: &impl Abort, asked: &Q, key: &Key, due: bool) {
+    expect(rt, asked.same(key), due);
+}
+
+/// The key is of the row's last column and the one before it.
+fn expect_turned(rt: &impl Abort, row: &Row, key: &Key) {
+    assert!(rt; row.len() == 3);
+    expect_same(rt, &KeyRef::new(row, &[2, 1]), key, true);
+    expect_same(rt, &KeyRef::new(row, &[1, 2]), key, false);
+    expect_same(rt, &KeyRef::new(row, &[2]), key, false);
+    expect_same(rt, &KeyRef::new(row, &[2, 1, 0]), key, false);
+    expect_same(rt, &KeyCells(key.cells()), key, true);
+    expect_same(rt, &KeyCells(row.cells()), key, false);
 }
 
 #[test]
 fn same_in_each_form(rt: HostRuntime) -> Result<(), Fail> {
-    let row = worked_row(rt.alloc())?;
-    assert_eq!(rt; row.len(), 3);
-    let key = Key::of(rt.alloc(), &row, &[2, 1])?;
-    assert!(rt; KeyRef::new(&row, &[2, 1]).same(&key));
-    assert!(rt; !KeyRef::new(&row, &[1, 2]).same(&key));
-    assert!(rt; !KeyRef::new(&row, &[2]).same(&key));
-    assert!(rt; !KeyRef::new(&row, &[2, 1, 0]).same(&key));
-    assert!(rt; KeyCells(key.cells()).same(&key));
-    assert!(rt; !KeyCells(row.cells()).same(&key));
+    let row = row_of(rt.alloc(), &WORKED)?;
+    assert!(rt; row.len() == 3);
+    expect_turned(&rt, &row, &Key::of(rt.alloc(), &row, &[2, 1])?);
     let null = Key::of(rt.alloc(), &row, &[0])?;
-    assert!(rt; KeyCells(&[Value::Null]).same(&null));
-    assert!(rt; !KeyCells(&[Value::Int(0)]).same(&null));
+    expect_same(&rt, &KeyCells(&[Value::Null]), &null, true);
+    expect_same(&rt, &KeyCells(&[Value::Int(0)]), &null, false);
     Ok(())
 }
 
 /// A key of two columns stands in its slot whole.
 #[test]
 fn sizes(rt: HostRuntime) {
-    assert_eq!(rt; size_of::<Value>(), 32);
-    assert_eq!(rt; size_of::<(Key, Row)>(), 104);
+    expect(&rt, size_of::<Value>(), 32);
+    expect(&rt, size_of::<(Key, Row)>(), 104);
 }

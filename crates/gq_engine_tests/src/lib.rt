@@ -7,9 +7,15 @@
 #![tactic(auto)]
 
 #[cfg(test)]
+mod cut_scripts;
+#[cfg(test)]
 mod devices;
 #[cfg(test)]
 mod engines;
+#[cfg(test)]
+mod expected;
+#[cfg(test)]
+mod failing_store;
 #[cfg(test)]
 mod faults;
 #[cfg(test)]
@@ -22,6 +28,8 @@ mod lines;
 mod lying;
 #[cfg(test)]
 mod payloads;
+#[cfg(test)]
+mod plain;
 #[cfg(test)]
 mod refusal_texts;
 #[cfg(test)]

@@ -1,5 +1,6 @@
 //! Each limit at its value and one past it.
-use crate::engines::engine;
+use crate::engines::run_alone;
+use crate::expected::expect_at;
 use gq_engine::Fault;
 use gq_row::{Bounds, Limits};
 use std::alloc::Global;
@@ -37,38 +38,35 @@ fn with(field: &str, value: u64) -> Bounds {
     bounds
 }
 
+/// Expects that a field takes a value, which it has then.
+fn expect_taken(rt: &impl Abort, field: &str, value: u64) {
+    let made = Limits::new(with(field, value));
+    let taken = made.is_some_and(|limits| limits.bounds == with(field, value));
+    expect_at(rt, (field, value), taken, true);
+}
+
+fn expect_refused(rt: &impl Abort, field: &str, value: u64) {
+    let refused = Limits::new(with(field, value)).is_none();
+    expect_at(rt, (field, value), refused, true);
+}
+
 /// Asserts that each field takes values from one to its greatest, and no others.
 fn assert_fields(rt: &impl Abort, fields: &[(&str, u64)]) {
     for (field, greatest) in fields {
         for value in [1, *greatest] {
-            let made = Limits::new(with(field, value));
-            assert!(rt;
-                made.is_some_and(|limits| limits.bounds == with(field, value)),
-                "{field} {value}"
-            );
+            expect_taken(rt, field, value);
         }
         for value in [0, greatest.saturating_add(1), u64::MAX] {
-            assert!(rt;
-                Limits::new(with(field, value)).is_none(),
-                "{field} {value}"
-            );
+            expect_refused(rt, field, value);
         }
-        let bounds = with(field, *greatest);
-        assert!(rt; bounds == Limits::greatest().bounds, "{field}");
+        let is_greatest = with(field, *greatest) == Limits::greatest().bounds;
+        expect_at(rt, *field, is_greatest, true);
     }
 }
 
 #[test]
 fn limits_from_one_to_the_greatest(rt: HostRuntime) {
     assert_fields(&rt, &FIELDS);
-}
-
-/// What a run under limits writes, and whether a read fault ended it.
-fn run(alloc: Global, limits: Limits, script: &[u8]) -> (Vec<u8>, bool) {
-    let mut engine = engine(alloc, limits);
-    let mut written = Vec::new(alloc);
-    let ended = engine.run(script, &mut written);
-    (written, ended == Err(Fault::Read))
 }
 
 /// A field, its value, a script, and what it must write then.
@@ -164,6 +162,25 @@ const CASES: [(&str, u64, &[u8], &[u8]); 17] = [
     ("script", 3, b"\xEF\xBB\xBF", b""),
 ];
 
+/// Expects what a script writes under a limit, and whether a read fault ends it.
+fn expect_case(
+    rt: &impl Abort,
+    alloc: Global,
+    field: &str,
+    value: u64,
+    script: &[u8],
+    due: &[u8],
+    faults: bool,
+) -> Result<(), Fail> {
+    let Some(limits) = Limits::new(with(field, value)) else {
+        return Err(Fail::new("no limits"));
+    };
+    let (written, ended) = run_alone(alloc, limits, script);
+    expect_at(rt, (field, value), written.as_slice(), due);
+    expect_at(rt, (field, value), ended == Err(Fault::Read), faults);
+    Ok(())
+}
+
 /// Asserts that each script writes what stands beside it, and ends in a read fault or does not.
 fn assert_cases(
     rt: &impl Abort,
@@ -172,12 +189,7 @@ fn assert_cases(
     faults: bool,
 ) -> Result<(), Fail> {
     for (field, value, script, due) in cases {
-        let Some(limits) = Limits::new(with(field, *value)) else {
-            return Err(Fail::new("no limits"));
-        };
-        let (written, faulted) = run(alloc, limits, script);
-        assert_eq!(rt; written.as_slice(), *due, "{field} {value}");
-        assert!(rt; faulted == faults, "{field} {value}");
+        expect_case(rt, alloc, field, *value, script, due, faults)?;
     }
     Ok(())
 }

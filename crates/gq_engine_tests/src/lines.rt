@@ -1,11 +1,14 @@
 //! Lines and scripts, as users write them. Expected answers are the language's rules, written by
 //! hand.
 use crate::devices::Pieces;
+use crate::expected::{expect, expect_at};
+use crate::plain::{Plain, are};
 use gq_command::{
     Aggregate, Command, CommandReader, Item, LineRefusal, Payload, ReadFault, parse_line,
 };
-use gq_row::{Bounds, Kind, Limits, Value};
+use gq_row::{Bounds, Column, Kind, Limits, Text};
 use std::alloc::{AllocError, Global};
+use std::fmt::Debug;
 use std::io::{ErrorKind, Read};
 use std::process::Abort;
 use std::test::Fail;
@@ -25,27 +28,46 @@ pub fn small(line: usize, script: u64) -> Option<Limits> {
     })
 }
 
-/// What a line gives, in one letter: a command's form, a load's by its payload, or a refusal.
-fn letter(answer: &Result<Command, LineRefusal>) -> char {
-    match answer {
-        Ok(Command::Create { .. }) => 'c',
-        Ok(Command::Drop { .. }) => 'd',
-        Ok(Command::Load { payload, .. }) => match payload {
+/// A command's form in one letter, a load's by its payload.
+fn letter_of_command(command: &Command) -> char {
+    match command {
+        Command::Create { .. } => 'c',
+        Command::Drop { .. } => 'd',
+        Command::Load { payload, .. } => match payload {
             Payload::Bytes(_) => 'b',
             Payload::Open => 'o',
             Payload::TooLong => 't',
             Payload::NoMemory => 'm',
         },
-        Ok(Command::Upsert { .. }) => 'u',
-        Ok(Command::Delete { .. }) => 'x',
-        Ok(Command::Show { .. }) => 's',
-        Ok(Command::Group { .. }) => 'g',
-        Ok(Command::Distinct { .. }) => 'n',
-        Err(LineRefusal::Syntax) => 'S',
-        Err(LineRefusal::LineTooLong) => 'T',
-        Err(LineRefusal::Limit) => 'L',
-        Err(LineRefusal::Memory) => 'M',
+        Command::Upsert { .. } => 'u',
+        Command::Delete { .. } => 'x',
+        Command::Show { .. } => 's',
+        Command::Group { .. } => 'g',
+        Command::Distinct { .. } => 'n',
     }
+}
+
+/// A refusal in one letter.
+fn letter_of_refusal(refusal: &LineRefusal) -> char {
+    match refusal {
+        LineRefusal::Syntax => 'S',
+        LineRefusal::LineTooLong => 'T',
+        LineRefusal::Limit => 'L',
+        LineRefusal::Memory => 'M',
+    }
+}
+
+fn letter_of_said(said: &Result<Command, LineRefusal>) -> char {
+    match said {
+        Ok(command) => letter_of_command(command),
+        Err(refusal) => letter_of_refusal(refusal),
+    }
+}
+
+/// What a line gives, in one letter.
+fn letter(alloc: Global, line: &[u8], limits: &Limits) -> char {
+    let said = parse_line(alloc, line, limits);
+    letter_of_said(&said)
 }
 
 /// Lines, each with what it gives at the greatest limits.
@@ -145,8 +167,7 @@ const LINES: [(&[u8], char); 84] = [
 /// Asserts that each line gives what stands beside it.
 fn assert_letters(rt: &impl Abort, alloc: Global, limits: &Limits, lines: &[(&[u8], char)]) {
     for (line, want) in lines {
-        let got = letter(&parse_line(alloc, line, limits));
-        assert_eq!(rt; got, *want, "{line:?}");
+        expect_at(rt, *line, letter(alloc, line, limits), *want);
     }
 }
 
@@ -155,86 +176,126 @@ fn lines_at_the_greatest_limits(rt: HostRuntime) {
     assert_letters(&rt, rt.alloc(), &Limits::greatest(), &LINES);
 }
 
-#[test]
-fn what_a_create_says(rt: HostRuntime) -> Result<(), Fail> {
-    let limits = Limits::greatest();
-    let made = parse_line(
-        rt.alloc(),
-        b"create \"a\"\"b\" (id int, city text, key (id))",
-        &limits,
-    );
-    let Ok(
+fn no_such_command() -> Fail {
+    Fail::new("no such command")
+}
+
+/// The command that a line says at the greatest limits, alone in a list.
+fn said(alloc: Global, line: &[u8]) -> Result<Vec<Command>, Fail> {
+    let mut said = Vec::new(alloc);
+    match parse_line(alloc, line, &Limits::greatest()) {
+        Ok(command) => said.push(command)?,
+        Err(_) => return Err(no_such_command()),
+    }
+    Ok(said)
+}
+
+fn expect_column(rt: &impl Abort, column: &Column, name: &str, kind: Kind) {
+    expect(rt, column.name.as_str(), name);
+    assert!(rt; column.kind == kind);
+}
+
+fn expect_columns(rt: &impl Abort, columns: &[Column], due: &[(&str, Kind)]) {
+    expect(rt, columns.len(), due.len());
+    for (column, (name, kind)) in columns.iter().zip(due) {
+        expect_column(rt, column, name, *kind);
+    }
+}
+
+/// Expects one name alone.
+fn expect_name(rt: &impl Abort, names: &[Text], due: &str) {
+    expect(rt, names.len(), 1);
+    assert!(rt; names.iter().all(|name| name.as_str() == due));
+}
+
+fn expect_create(rt: &impl Abort, said: &[Command]) -> Result<(), Fail> {
+    let [
         Command::Create {
             table,
             columns,
             key,
         },
-    ) = made
+    ] = said
     else {
-        return Err(Fail::new("no such command"));
+        return Err(no_such_command());
     };
-    assert_eq!(rt; table.as_str(), "a\"b");
-    assert_eq!(rt; columns.len(), 2);
-    for (column, (name, kind)) in columns
-        .as_slice()
-        .iter()
-        .zip([("id", Kind::Int), ("city", Kind::Text)])
-    {
-        assert_eq!(rt; column.name.as_str(), name);
-        assert!(rt; column.kind == kind);
-    }
-    assert_eq!(rt; key.len(), 1);
-    assert!(rt; key.as_slice().iter().all(|name| name.as_str() == "id"));
+    expect(rt, table.as_str(), "a\"b");
+    let due = [("id", Kind::Int), ("city", Kind::Text)];
+    expect_columns(rt, columns.as_slice(), &due);
+    expect_name(rt, key.as_slice(), "id");
+    Ok(())
+}
+
+#[test]
+fn what_a_create_says(rt: HostRuntime) -> Result<(), Fail> {
+    let line = b"create \"a\"\"b\" (id int, city text, key (id))";
+    expect_create(&rt, said(rt.alloc(), line)?.as_slice())
+}
+
+fn expect_upsert(rt: &impl Abort, said: &[Command]) -> Result<(), Fail> {
+    let [Command::Upsert { table, values }] = said else {
+        return Err(no_such_command());
+    };
+    expect(rt, table.as_str(), "s");
+    assert!(rt;
+        are(
+            values.cells(),
+            &[Plain::Int(7), Plain::Text("it's"), Plain::Null]
+        )
+    );
     Ok(())
 }
 
 #[test]
 fn what_an_upsert_says(rt: HostRuntime) -> Result<(), Fail> {
-    let limits = Limits::greatest();
-    let put = parse_line(rt.alloc(), b"upsert s (+7, 'it''s', nUll)", &limits);
-    let Ok(Command::Upsert { table, values }) = put else {
-        return Err(Fail::new("no such command"));
+    expect_upsert(
+        &rt,
+        said(rt.alloc(), b"upsert s (+7, 'it''s', nUll)")?.as_slice(),
+    )
+}
+
+fn expect_delete(rt: &impl Abort, said: &[Command]) -> Result<(), Fail> {
+    let [Command::Delete { table, values }] = said else {
+        return Err(no_such_command());
     };
-    assert_eq!(rt; table.as_str(), "s");
-    assert!(rt;
-        matches!(values.cells(), [Value::Int(7), Value::Text(text), Value::Null] if text.as_str() == "it's")
-    );
+    expect(rt, table.as_str(), "a b");
+    assert!(rt; are(values.cells(), &[Plain::Text("x"), Plain::Int(-7)]));
     Ok(())
 }
 
 #[test]
 fn what_a_delete_says(rt: HostRuntime) -> Result<(), Fail> {
-    let limits = Limits::greatest();
-    let taken = parse_line(rt.alloc(), b"delete \"a b\" ('x', -7)", &limits);
-    let Ok(Command::Delete { table, values }) = taken else {
-        return Err(Fail::new("no such command"));
-    };
-    assert_eq!(rt; table.as_str(), "a b");
-    assert!(rt;
-        matches!(values.cells(), [Value::Text(text), Value::Int(-7)] if text.as_str() == "x")
-    );
-    Ok(())
+    expect_delete(
+        &rt,
+        said(rt.alloc(), b"delete \"a b\" ('x', -7)")?.as_slice(),
+    )
+}
+
+fn is_drop(said: &[Command], name: &str) -> bool {
+    matches!(said, [Command::Drop { table }] if table.as_str() == name)
+}
+
+fn is_show(said: &[Command], name: &str) -> bool {
+    matches!(said, [Command::Show { table }] if table.as_str() == name)
+}
+
+fn is_open_load(said: &[Command], name: &str) -> bool {
+    matches!(said, [Command::Load { table, payload: Payload::Open }] if table.as_str() == name)
 }
 
 #[test]
 fn what_a_name_alone_says(rt: HostRuntime) -> Result<(), Fail> {
-    let limits = Limits::greatest();
-    let dropped = parse_line(rt.alloc(), b"DROP \"s\"", &limits);
-    assert!(rt; matches!(&dropped, Ok(Command::Drop { table }) if table.as_str() == "s"));
-    let shown = parse_line(rt.alloc(), b"show S", &limits);
-    assert!(rt; matches!(&shown, Ok(Command::Show { table }) if table.as_str() == "S"));
-    let loaded = parse_line(rt.alloc(), b"load \"load\"", &limits);
-    assert!(rt;
-        matches!(&loaded, Ok(Command::Load { table, payload: Payload::Open }) if table.as_str() == "load")
-    );
+    let dropped = said(rt.alloc(), b"DROP \"s\"")?;
+    expect(&rt, is_drop(dropped.as_slice(), "s"), true);
+    let shown = said(rt.alloc(), b"show S")?;
+    expect(&rt, is_show(shown.as_slice(), "S"), true);
+    let loaded = said(rt.alloc(), b"load \"load\"")?;
+    expect(&rt, is_open_load(loaded.as_slice(), "load"), true);
     Ok(())
 }
 
-#[test]
-fn what_a_group_says(rt: HostRuntime) -> Result<(), Fail> {
-    let limits = Limits::greatest();
-    let asked = parse_line(rt.alloc(), b"group s by city show count(*)", &limits);
-    let Ok(
+fn expect_group(rt: &impl Abort, said: &[Command]) -> Result<(), Fail> {
+    let [
         Command::Group {
             table,
             by,
@@ -243,16 +304,23 @@ fn what_a_group_says(rt: HostRuntime) -> Result<(), Fail> {
             exists,
             having,
         },
-    ) = asked
+    ] = said
     else {
-        return Err(Fail::new("no such command"));
+        return Err(no_such_command());
     };
-    assert_eq!(rt; table.as_str(), "s");
-    assert_eq!(rt; by.len(), 1);
-    assert!(rt; by.as_slice().iter().all(|name| name.as_str() == "city"));
+    expect(rt, table.as_str(), "s");
+    expect_name(rt, by.as_slice(), "city");
     assert!(rt; matches!(shown.as_slice(), [Aggregate::CountAll]));
     assert!(rt; tests.is_empty() && exists.is_none() && having.is_empty());
     Ok(())
+}
+
+#[test]
+fn what_a_group_says(rt: HostRuntime) -> Result<(), Fail> {
+    expect_group(
+        &rt,
+        said(rt.alloc(), b"group s by city show count(*)")?.as_slice(),
+    )
 }
 
 /// Lines under small limits: each limit of a line, at the limit and one past it.
@@ -304,18 +372,19 @@ fn length_of_a_line(rt: HostRuntime) -> Result<(), Fail> {
 }
 
 /// What a `next` of a reader gave: a command's form, a refusal, `F` for a fault, `.` for the end.
-pub fn letter_of(given: Result<Option<Item>, ReadFault>) -> char {
+pub fn letter_of(given: &Result<Option<Item>, ReadFault>) -> char {
     match given {
-        Ok(Some(Item::Command(command))) => letter(&Ok(command)),
-        Ok(Some(Item::Refused(refusal))) => letter(&Err(refusal)),
+        Ok(Some(Item::Command(command))) => letter_of_command(command),
+        Ok(Some(Item::Refused(refusal))) => letter_of_refusal(refusal),
         Ok(None) => '.',
         Err(ReadFault) => 'F',
     }
 }
 
-/// The same of the reader's next item.
+/// The same of a reader's next item.
 fn next_letter<R: Read>(alloc: Global, reader: &mut CommandReader<R>, limits: &Limits) -> char {
-    letter_of(reader.next(alloc, limits))
+    let given = reader.next(alloc, limits);
+    letter_of(&given)
 }
 
 /// Scripts under small limits, each with what every `next` of its reader gives.
@@ -364,6 +433,21 @@ pub fn letters<R: Read>(
     Ok(letters)
 }
 
+/// Expects what the calls of `next` of a new reader give.
+pub fn expect_items<C: Debug + Copy, R: Read + Drop>(
+    rt: &impl Abort,
+    alloc: Global,
+    case: C,
+    reader: R,
+    limits: &Limits,
+    due: &str,
+) -> Result<(), AllocError> {
+    let mut reader = CommandReader::new(reader);
+    let found = letters(alloc, &mut reader, limits, due.len())?;
+    expect_at(rt, case, found.as_str(), due);
+    Ok(())
+}
+
 /// Asserts that each script gives the items that stand beside it.
 fn assert_items(
     rt: &impl Abort,
@@ -372,9 +456,7 @@ fn assert_items(
     scripts: &[(&[u8], &str)],
 ) -> Result<(), Fail> {
     for (script, wants) in scripts {
-        let mut reader = CommandReader::new(*script);
-        let found = letters(alloc, &mut reader, limits, wants.len())?;
-        assert_eq!(rt; found.as_str(), *wants, "{script:?}");
+        expect_items(rt, alloc, *script, *script, limits, wants)?;
     }
     Ok(())
 }
@@ -387,22 +469,25 @@ fn items_of_a_script(rt: HostRuntime) -> Result<(), Fail> {
     assert_items(&rt, rt.alloc(), &limits, &SCRIPTS)
 }
 
+const TWO: &[u8] = b"upsert s (1)\nupsert s (1)\n";
+
+/// A fault is for good, whatever limits come then.
+fn expect_fault_for_good(rt: &impl Abort, alloc: Global, limits: [&Limits; 2]) -> Result<(), Fail> {
+    let [less, whole] = limits;
+    let mut reader = CommandReader::new(TWO);
+    let found = letters(alloc, &mut reader, less, 3)?;
+    expect(rt, found.as_str(), "uFF");
+    expect(rt, next_letter(alloc, &mut reader, whole), 'F');
+    Ok(())
+}
+
 #[test]
 fn limit_of_a_script(rt: HostRuntime) -> Result<(), Fail> {
-    let script: &[u8] = b"upsert s (1)\nupsert s (1)\n";
     let (Some(whole), Some(less)) = (small(40, 26), small(40, 25)) else {
         return Err(Fail::new("no limits"));
     };
-    let mut reader = CommandReader::new(script);
-    assert_eq!(rt;
-        letters(rt.alloc(), &mut reader, &whole, 4)?.as_str(),
-        "uu.."
-    );
-    let mut reader = CommandReader::new(script);
-    assert_eq!(rt; letters(rt.alloc(), &mut reader, &less, 3)?.as_str(), "uFF");
-    // A fault is for good, whatever limits come then.
-    assert_eq!(rt; next_letter(rt.alloc(), &mut reader, &whole), 'F');
-    Ok(())
+    expect_items(&rt, rt.alloc(), 26, TWO, &whole, "uu..")?;
+    expect_fault_for_good(&rt, rt.alloc(), [&less, &whole])
 }
 
 const SCRIPT: &[u8] = b"\xEF\xBB\xBFupsert s (1)\r\n-- note\nshow s\nupsert s (2)";
@@ -411,9 +496,14 @@ const SCRIPT: &[u8] = b"\xEF\xBB\xBFupsert s (1)\r\n-- note\nshow s\nupsert s (2
 fn pieces_of_any_size(rt: HostRuntime) -> Result<(), Fail> {
     let limits = Limits::greatest();
     for size in 1..50 {
-        let mut reader = CommandReader::new(Pieces::of(SCRIPT, size));
-        let found = letters(rt.alloc(), &mut reader, &limits, 5)?;
-        assert_eq!(rt; found.as_str(), "usu..", "{size}");
+        expect_items(
+            &rt,
+            rt.alloc(),
+            size,
+            Pieces::of(SCRIPT, size),
+            &limits,
+            "usu..",
+        )?;
     }
     Ok(())
 }
@@ -433,20 +523,15 @@ fn until_a_fault(bytes: usize) -> &'static str {
 #[test]
 fn failing_reads(rt: HostRuntime) -> Result<(), Fail> {
     let limits = Limits::greatest();
-    for fails_at in 1..48 {
-        let mut reader = CommandReader::new(Pieces {
-            bytes: SCRIPT,
-            size: 1,
-            fails_at,
-            error: if fails_at % 2 == 0 {
-                ErrorKind::Interrupted
-            } else {
-                ErrorKind::Other
-            },
-        });
+    for fails_at in 1..48usize {
+        let error = if fails_at % 2 == 0 {
+            ErrorKind::Interrupted
+        } else {
+            ErrorKind::Other
+        };
+        let reader = Pieces::failing(SCRIPT, fails_at, error);
         let wants = until_a_fault(fails_at - 1);
-        let found = letters(rt.alloc(), &mut reader, &limits, wants.len())?;
-        assert_eq!(rt; found.as_str(), wants, "{fails_at}");
+        expect_items(&rt, rt.alloc(), fails_at, reader, &limits, wants)?;
     }
     Ok(())
 }

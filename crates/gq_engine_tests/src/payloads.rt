@@ -1,10 +1,11 @@
 //! Loads with their payloads, as a reader gives them. What is expected is written by hand.
 use crate::devices::Pieces;
-use crate::lines::{letter_of, letters, small};
+use crate::expected::expect_at;
+use crate::lines::{expect_items, letter_of, letters, small};
 use gq_command::{Command, CommandReader, Item, Payload, ReadFault};
 use gq_row::Limits;
 use std::alloc::{AllocError, Global};
-use std::io::ErrorKind;
+use std::io::{ErrorKind, Read};
 use std::process::Abort;
 use std::test::Fail;
 
@@ -48,18 +49,32 @@ fn is_load(given: &Result<Option<Item>, ReadFault>, name: &str, bytes: &[u8]) ->
     }
 }
 
+/// Whether a `next` gave what is wanted.
+fn is_wanted(given: &Result<Option<Item>, ReadFault>, wanted: Wanted) -> bool {
+    match wanted {
+        Wanted::Load(name, bytes) => is_load(given, name, bytes),
+        Wanted::Other(letter) => letter_of(given) == letter,
+    }
+}
+
+/// Whether a reader's next item is what is wanted.
+fn gives<R: Read>(
+    alloc: Global,
+    reader: &mut CommandReader<R>,
+    limits: &Limits,
+    wanted: Wanted,
+) -> bool {
+    let given = reader.next(alloc, limits);
+    is_wanted(&given, wanted)
+}
+
 /// Asserts that a reader of pieces of this size gives the items.
 fn assert_gives(rt: &impl Abort, alloc: Global, items: &[Wanted], size: usize) {
     let limits = Limits::greatest();
     let mut reader = CommandReader::new(Pieces::of(SCRIPT, size));
-    for wanted in items {
-        let given = reader.next(alloc, &limits);
-        match wanted {
-            Wanted::Load(name, bytes) => {
-                assert!(rt; is_load(&given, name, bytes), "{name} by {size}");
-            }
-            Wanted::Other(want) => assert_eq!(rt; letter_of(given), *want, "{size}"),
-        }
+    for (i, wanted) in items.iter().enumerate() {
+        let is_given = gives(alloc, &mut reader, &limits, *wanted);
+        expect_at(rt, (size, i), is_given, true);
     }
 }
 
@@ -105,18 +120,45 @@ fn is_long(given: &Result<Option<Item>, ReadFault>, lines: usize) -> bool {
     }
 }
 
+/// Whether a reader's next item is a load of so many lines.
+fn gives_long<R: Read>(
+    alloc: Global,
+    reader: &mut CommandReader<R>,
+    limits: &Limits,
+    lines: usize,
+) -> bool {
+    let given = reader.next(alloc, limits);
+    is_long(&given, lines)
+}
+
+/// Expects a load of so many lines, a command and the end, in pieces of a size.
+fn expect_long(
+    rt: &impl Abort,
+    alloc: Global,
+    script: &[u8],
+    lines: usize,
+    size: usize,
+) -> Result<(), AllocError> {
+    let limits = Limits::greatest();
+    let mut reader = CommandReader::new(Pieces::of(script, size));
+    expect_at(
+        rt,
+        size,
+        gives_long(alloc, &mut reader, &limits, lines),
+        true,
+    );
+    let found = letters(alloc, &mut reader, &limits, 2)?;
+    expect_at(rt, size, found.as_str(), "u.");
+    Ok(())
+}
+
 /// A payload that goes over many of the reader's buffers.
 #[test]
 fn longer_than_a_buffer(rt: HostRuntime) -> Result<(), Fail> {
     const LINES: usize = 10_000;
-    let limits = Limits::greatest();
     let script = long(rt.alloc(), LINES)?;
     for size in [1, 7, 4096, 8191, 65536] {
-        let mut reader = CommandReader::new(Pieces::of(script.as_slice(), size));
-        let given = reader.next(rt.alloc(), &limits);
-        assert!(rt; is_long(&given, LINES), "{size}");
-        let found = letters(rt.alloc(), &mut reader, &limits, 2)?;
-        assert_eq!(rt; found.as_str(), "u.", "{size}");
+        expect_long(&rt, rt.alloc(), script.as_slice(), LINES, size)?;
     }
     Ok(())
 }
@@ -151,9 +193,8 @@ fn assert_frames(
 ) -> Result<(), Fail> {
     for (front, end, wants) in frames {
         let script = framed(alloc, front, end)?;
-        let mut reader = CommandReader::new(Pieces::of(script.as_slice(), size));
-        let found = letters(alloc, &mut reader, limits, wants.len())?;
-        assert_eq!(rt; found.as_str(), *wants, "{front:?}, {size}");
+        let reader = Pieces::of(script.as_slice(), size);
+        expect_items(rt, alloc, (*front, size), reader, limits, wants)?;
     }
     Ok(())
 }
@@ -177,15 +218,9 @@ fn limit_of_a_payload(rt: HostRuntime) -> Result<(), Fail> {
 fn faults_within_a_payload(rt: HostRuntime) -> Result<(), Fail> {
     let limits = Limits::greatest();
     for fails_at in 1..23 {
-        let mut reader = CommandReader::new(Pieces {
-            bytes: LOAD_AND_SHOW,
-            size: 1,
-            fails_at,
-            error: ErrorKind::Other,
-        });
+        let reader = Pieces::failing(LOAD_AND_SHOW, fails_at, ErrorKind::Other);
         let wants = if fails_at > 15 { "bFF" } else { "FF" };
-        let found = letters(rt.alloc(), &mut reader, &limits, wants.len())?;
-        assert_eq!(rt; found.as_str(), wants, "{fails_at}");
+        expect_items(&rt, rt.alloc(), fails_at, reader, &limits, wants)?;
     }
     Ok(())
 }
@@ -199,10 +234,9 @@ fn a_script_limit_within_a_payload(rt: HostRuntime) -> Result<(), Fail> {
         let Some(limits) = small(40, most) else {
             return Err(Fail::new("no limits"));
         };
-        let mut reader = CommandReader::new(Pieces::of(LOAD_AND_SHOW, 3));
+        let reader = Pieces::of(LOAD_AND_SHOW, 3);
         let wants = if most >= 15 { "bF" } else { "F" };
-        let found = letters(rt.alloc(), &mut reader, &limits, wants.len())?;
-        assert_eq!(rt; found.as_str(), wants, "{most}");
+        expect_items(&rt, rt.alloc(), most, reader, &limits, wants)?;
     }
     Ok(())
 }

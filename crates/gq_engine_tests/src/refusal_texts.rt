@@ -1,63 +1,83 @@
 //! What an error says of itself, written by hand.
+use crate::expected::expect;
 use gq_command::{LineRefusal, ReadFault};
 use gq_engine::{Fault, Refusal};
+use std::alloc::{AllocError, Global};
+use std::fmt::Display;
+use std::process::Abort;
 use std::test::Fail;
+
+fn expect_text<T: Display>(
+    rt: &impl Abort,
+    alloc: Global,
+    shown: &T,
+    due: &str,
+) -> Result<(), AllocError> {
+    let text = shown.to_string(alloc)?;
+    expect(rt, text.as_str(), due);
+    Ok(())
+}
+
+/// Expects the text beside each error.
+fn expect_texts<T: Display>(
+    rt: &impl Abort,
+    alloc: Global,
+    texts: &[(T, &str)],
+) -> Result<(), Fail> {
+    for (shown, due) in texts {
+        expect_text(rt, alloc, shown, due)?;
+    }
+    Ok(())
+}
+
+const LINES: [(LineRefusal, &str); 4] = [
+    (LineRefusal::Syntax, "the line says no command"),
+    (LineRefusal::LineTooLong, "the line is too long"),
+    (
+        LineRefusal::Limit,
+        "a name or a text is too long, or there are too many columns or aggregates",
+    ),
+    (LineRefusal::Memory, "no memory to read the line"),
+];
 
 #[test]
 fn refused_lines(rt: HostRuntime) -> Result<(), Fail> {
-    let texts = [
-        (LineRefusal::Syntax, "the line says no command"),
-        (LineRefusal::LineTooLong, "the line is too long"),
-        (
-            LineRefusal::Limit,
-            "a name or a text is too long, or there are too many columns or aggregates",
-        ),
-        (LineRefusal::Memory, "no memory to read the line"),
-    ];
-    for (refusal, want) in &texts {
-        assert_eq!(rt; refusal.to_string(rt.alloc())?.as_str(), *want);
-    }
-    Ok(())
+    expect_texts(&rt, rt.alloc(), &LINES)
 }
 
 #[test]
 fn a_fault_of_a_reader(rt: HostRuntime) -> Result<(), Fail> {
-    assert_eq!(rt;
-        ReadFault.to_string(rt.alloc())?.as_str(),
-        "a read failed, or the script is too long"
-    );
-    Ok(())
+    let due = "a read failed, or the script is too long";
+    expect_texts(&rt, rt.alloc(), &[(ReadFault, due)])
 }
+
+const COMMANDS: [(Refusal, &str); 7] = [
+    (Refusal::Syntax, "no command"),
+    (Refusal::NoTable, "no such table"),
+    (Refusal::TypeMismatch, "the values don't fit the columns"),
+    (Refusal::NullKey, "null in a key column"),
+    (
+        Refusal::FieldCount,
+        "more or fewer fields than the header has",
+    ),
+    (Refusal::Memory, "out of memory"),
+    (Refusal::LoadOpen, "the payload was not closed"),
+];
 
 #[test]
 fn refusals_of_commands(rt: HostRuntime) -> Result<(), Fail> {
-    let texts = [
-        (Refusal::Syntax, "no command"),
-        (Refusal::NoTable, "no such table"),
-        (Refusal::TypeMismatch, "the values don't fit the columns"),
-        (Refusal::NullKey, "null in a key column"),
-        (
-            Refusal::FieldCount,
-            "more or fewer fields than the header has",
-        ),
-        (Refusal::Memory, "out of memory"),
-        (Refusal::LoadOpen, "the payload was not closed"),
-    ];
-    for (refusal, want) in &texts {
-        assert_eq!(rt; refusal.to_string(rt.alloc())?.as_str(), *want);
-    }
-    Ok(())
+    expect_texts(&rt, rt.alloc(), &COMMANDS)
 }
+
+const RUNS: [(Fault, &str); 2] = [
+    (
+        Fault::Read,
+        "a read failed, or the script is past its limit",
+    ),
+    (Fault::Write, "a write failed"),
+];
 
 #[test]
 fn faults_of_runs(rt: HostRuntime) -> Result<(), Fail> {
-    assert_eq!(rt;
-        Fault::Read.to_string(rt.alloc())?.as_str(),
-        "a read failed, or the script is past its limit"
-    );
-    assert_eq!(rt;
-        Fault::Write.to_string(rt.alloc())?.as_str(),
-        "a write failed"
-    );
-    Ok(())
+    expect_texts(&rt, rt.alloc(), &RUNS)
 }

@@ -1,6 +1,7 @@
 //! Commands, replies and runs, with ample memory.
 use crate::devices::Pieces;
-use crate::engines::engine;
+use crate::engines::{engine, run, run_alone};
+use crate::expected::{expect, expect_at};
 use gq_command::parse_line;
 use gq_engine::{Engine, MemStore, Refusal, Reply, Summary, reply_text};
 use gq_row::{Limits, Value};
@@ -63,15 +64,13 @@ const COUNTED: [(&[u8], &[u8], u64, u64); 4] = [
 /// Asserts that each script writes and counts what stands beside it.
 fn assert_counted(rt: &impl Abort, alloc: Global, cases: &[(&[u8], &[u8], u64, u64)]) {
     for (script, due, commands, refused) in cases {
-        let mut engine = engine(alloc, Limits::greatest());
-        let mut written = Vec::new(alloc);
-        let ended = engine.run(*script, &mut written);
-        assert_eq!(rt; written.as_slice(), *due);
+        let (written, ended) = run_alone(alloc, Limits::greatest(), *script);
+        expect_at(rt, *script, written.as_slice(), *due);
         let summary = Summary {
             commands: *commands,
             refused: *refused,
         };
-        assert!(rt; ended == Ok(summary), "{script:?}");
+        expect_at(rt, *script, ended, Ok(summary));
     }
 }
 
@@ -81,23 +80,28 @@ fn a_run_counts_its_commands_and_refusals(rt: HostRuntime) {
 }
 
 /// Asserts that each line is answered with the reply beside it, in a run of its own.
-fn assert_answers(rt: &impl Abort, alloc: Global, lines: &[(&[u8], &[u8])]) {
-    let mut engine = engine(alloc, Limits::greatest());
+fn assert_answers(
+    rt: &impl Abort,
+    alloc: Global,
+    engine: &mut Engine<Fnv1a, MemStore>,
+    lines: &[(&[u8], &[u8])],
+) {
     for (line, reply) in lines {
         let mut written = Vec::new(alloc);
-        let ended = engine.run(*line, &mut written);
-        assert_eq!(rt; written.as_slice(), *reply);
+        let ended = run(engine, *line, &mut written);
+        expect_at(rt, *line, written.as_slice(), *reply);
         let summary = Summary {
             commands: 1,
             refused: 0,
         };
-        assert!(rt; ended == Ok(summary));
+        expect_at(rt, *line, ended, Ok(summary));
     }
 }
 
 #[test]
 fn tables_stay_from_run_to_run(rt: HostRuntime) {
-    assert_answers(&rt, rt.alloc(), &STATIONS);
+    let mut engine = engine(rt.alloc(), Limits::greatest());
+    assert_answers(&rt, rt.alloc(), &mut engine, &STATIONS);
 }
 
 /// Whether a reply has one row, of `Rome` and 2, where it has rows.
@@ -114,6 +118,29 @@ fn is_rome_twice(reply: &Reply) -> bool {
     }
 }
 
+/// What is answered to a line's command.
+fn carried_out(
+    alloc: Global,
+    engine: &mut Engine<Fnv1a, MemStore>,
+    line: &[u8],
+) -> Result<Reply, Fail> {
+    match parse_line(alloc, line, &Limits::greatest()) {
+        Ok(command) => Ok(engine.execute(command)),
+        Err(_) => Err(Fail::new("a line says no command")),
+    }
+}
+
+fn expect_text(
+    rt: &impl Abort,
+    alloc: Global,
+    reply: &Reply,
+    due: &[u8],
+) -> Result<(), AllocError> {
+    let text = reply_text(alloc, reply)?;
+    expect(rt, text.as_slice(), due);
+    Ok(())
+}
+
 /// Asserts that each line's command is carried out with the reply beside it.
 fn assert_carried_out(
     rt: &impl Abort,
@@ -121,75 +148,78 @@ fn assert_carried_out(
     engine: &mut Engine<Fnv1a, MemStore>,
     lines: &[(&[u8], &[u8])],
 ) -> Result<(), Fail> {
-    let limits = Limits::greatest();
     for (line, due) in lines {
-        let Ok(command) = parse_line(alloc, line, &limits) else {
-            return Err(Fail::new("a line says no command"));
-        };
-        let reply = engine.execute(command);
-        assert!(rt; !reply.is_refusal() && is_rome_twice(&reply));
-        assert_eq!(rt; reply_text(alloc, &reply)?.as_slice(), *due);
+        let reply = carried_out(alloc, engine, line)?;
+        expect_at(rt, *line, reply.is_refusal(), false);
+        expect_at(rt, *line, is_rome_twice(&reply), true);
+        expect_text(rt, alloc, &reply, due)?;
     }
     Ok(())
+}
+
+fn expect_null_key(rt: &impl Abort, alloc: Global, reply: &Reply) -> Result<(), AllocError> {
+    let is_null_key = matches!(
+        reply,
+        Reply::Refused {
+            code: Refusal::NullKey,
+            number: None
+        }
+    );
+    expect(rt, is_null_key, true);
+    expect(rt, reply.is_refusal(), true);
+    expect_text(rt, alloc, reply, b"err 8 NullKey\n")
 }
 
 #[test]
 fn commands_carried_out_one_by_one(rt: HostRuntime) -> Result<(), Fail> {
-    let limits = Limits::greatest();
-    let mut engine = engine(rt.alloc(), limits);
+    let mut engine = engine(rt.alloc(), Limits::greatest());
     assert_carried_out(&rt, rt.alloc(), &mut engine, &STATIONS)?;
-    let Ok(command) = parse_line(rt.alloc(), b"upsert s (null, 'x')", &limits) else {
-        return Err(Fail::new("a line says no command"));
-    };
-    let reply = engine.execute(command);
-    assert!(rt;
-        matches!(
-            &reply,
-            Reply::Refused {
-                code: Refusal::NullKey,
-                number: None
-            }
-        )
-    );
-    assert!(rt; reply.is_refusal());
-    assert_eq!(rt;
-        reply_text(rt.alloc(), &reply)?.as_slice(),
-        b"err 8 NullKey\n".as_slice()
-    );
+    let reply = carried_out(rt.alloc(), &mut engine, b"upsert s (null, 'x')")?;
+    expect_null_key(&rt, rt.alloc(), &reply)?;
     Ok(())
+}
+
+fn expect_refusal_text(
+    rt: &impl Abort,
+    alloc: Global,
+    code: Refusal,
+    number: Option<u64>,
+    due: &[u8],
+) -> Result<(), AllocError> {
+    expect_text(rt, alloc, &Reply::Refused { code, number }, due)
 }
 
 #[test]
 fn texts_of_replies(rt: HostRuntime) -> Result<(), Fail> {
-    let cases: [(Reply, &[u8]); 5] = [
-        (Reply::Done(0), b"ok 0\n"),
-        (Reply::Done(u64::MAX), b"ok 18446744073709551615\n"),
-        (
-            Reply::Refused {
-                code: Refusal::Memory,
-                number: None,
-            },
-            b"err 15 Memory\n",
-        ),
-        (
-            Reply::Refused {
-                code: Refusal::BadInt,
-                number: Some(3),
-            },
-            b"err 11 BadInt 3\n",
-        ),
-        (
-            Reply::Refused {
-                code: Refusal::LineTooLong,
-                number: Some(u64::MAX),
-            },
-            b"err 2 LineTooLong 18446744073709551615\n",
-        ),
-    ];
-    for (reply, due) in &cases {
-        assert_eq!(rt; reply_text(rt.alloc(), reply)?.as_slice(), *due);
-    }
+    let alloc = rt.alloc();
+    expect_text(&rt, alloc, &Reply::Done(0), b"ok 0\n")?;
+    let most = Some(u64::MAX);
+    expect_text(
+        &rt,
+        alloc,
+        &Reply::Done(u64::MAX),
+        b"ok 18446744073709551615\n",
+    )?;
+    expect_refusal_text(&rt, alloc, Refusal::Memory, None, b"err 15 Memory\n")?;
+    expect_refusal_text(&rt, alloc, Refusal::BadInt, Some(3), b"err 11 BadInt 3\n")?;
+    let line: &[u8] = b"err 2 LineTooLong 18446744073709551615\n";
+    expect_refusal_text(&rt, alloc, Refusal::LineTooLong, most, line)?;
     Ok(())
+}
+
+/// The first bytes of a script, in pieces of a size.
+fn expect_cut(
+    rt: &impl Abort,
+    alloc: Global,
+    script: &[u8],
+    count: usize,
+    size: usize,
+    due: &[u8],
+) {
+    let (front, _rest) = script.split_at(count.min(script.len()));
+    let (written, ended) = run_alone(alloc, Limits::greatest(), Pieces::of(front, size));
+    expect_at(rt, (count, size), ended.is_ok(), true);
+    expect_at(rt, (count, size), written.as_slice(), due);
 }
 
 /// A script cut at each of its bytes, given at once and in pieces.
@@ -199,15 +229,13 @@ fn scripts_cut_at_each_byte(rt: HostRuntime) -> Result<(), Fail> {
     for count in 0..whole.len().saturating_add(1) {
         let due = replies_to_front(rt.alloc(), count)?;
         for size in [1usize, 2, 3, 7, 1000] {
-            let (front, _rest) = whole.as_slice().split_at(count.min(whole.len()));
-            let mut engine = engine(rt.alloc(), Limits::greatest());
-            let mut written = Vec::new(rt.alloc());
-            let ended = engine.run(Pieces::of(front, size), &mut written);
-            assert!(rt; ended.is_ok());
-            assert_eq!(rt;
-                written.as_slice(),
+            expect_cut(
+                &rt,
+                rt.alloc(),
+                whole.as_slice(),
+                count,
+                size,
                 due.as_slice(),
-                "{count} bytes by {size}"
             );
         }
     }

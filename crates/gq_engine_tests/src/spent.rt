@@ -1,6 +1,7 @@
 //! What an engine says that its groupings took.
-use crate::engines::engine;
-use gq_engine::{Budget, Engine, MemStore, Spent};
+use crate::engines::{answers, engine, engine_over};
+use crate::expected::expect_at;
+use gq_engine::{Engine, MemStore, Spent};
 use gq_row::{Key, Limits};
 use std::alloc::{AllocError, Global};
 use std::process::Abort;
@@ -23,19 +24,6 @@ fn spent(rows_read: u64, rows_written: u64, groups: u64, runs: u64) -> Spent {
     }
 }
 
-/// What an engine answers to a script.
-fn answers<H: KeyHash<Key> + Copy>(
-    alloc: Global,
-    engine: &mut Engine<H, MemStore>,
-    script: &[u8],
-) -> Result<Vec<u8>, Fail> {
-    let mut written = Vec::new(alloc);
-    match engine.run(script, &mut written) {
-        Ok(_) => Ok(written),
-        Err(_) => Err(Fail::new("a fault")),
-    }
-}
-
 /// A table of 500 rows in fifty groups of ten.
 fn rows_in_groups(alloc: Global) -> Result<Vec<u8>, AllocError> {
     let mut script = Vec::new(alloc);
@@ -47,6 +35,30 @@ fn rows_in_groups(alloc: Global) -> Result<Vec<u8>, AllocError> {
     Ok(script)
 }
 
+/// Groups that table's rows, and expects what its groupings took then.
+fn expect_grouped<H: KeyHash<Key> + Copy>(
+    rt: &impl Abort,
+    alloc: Global,
+    engine: &mut Engine<H, MemStore>,
+    budget: u32,
+    due: Spent,
+) -> Result<(), Fail> {
+    let replies = answers(alloc, engine, b"group b by n show count(*)")?;
+    let front: &[u8] = b"ok 50\nn,count(*)\n0,10\n1,10\n";
+    assert!(rt; replies.as_slice().starts_with(front));
+    expect_at(rt, budget, engine.spent(), due);
+    Ok(())
+}
+
+fn twice(took: Spent) -> Spent {
+    spent(
+        took.rows_read.saturating_mul(2),
+        took.rows_written.saturating_mul(2),
+        took.groups.saturating_mul(2),
+        took.runs.saturating_mul(2),
+    )
+}
+
 /// Asserts what one grouping of that table takes within a budget, and that another takes it again.
 fn assert_takes<H: KeyHash<Key> + Copy>(
     rt: &impl Abort,
@@ -55,30 +67,12 @@ fn assert_takes<H: KeyHash<Key> + Copy>(
     budget: u32,
     due: Spent,
 ) -> Result<(), Fail> {
-    let Some(groups) = Budget::new(budget) else {
-        return Err(Fail::new("no budget"));
-    };
-    let limits = Limits::greatest();
-    let mut engine = Engine::new(alloc, hasher, MemStore::new(alloc), groups, limits);
     let script = rows_in_groups(alloc)?;
+    let mut engine = engine_over(alloc, hasher, MemStore::new(alloc), budget)?;
     answers(alloc, &mut engine, script.as_slice())?;
-    assert_eq!(rt; engine.spent(), NOTHING, "budget {budget}");
-    let replies = answers(alloc, &mut engine, b"group b by n show count(*)")?;
-    assert!(rt;
-        replies
-            .as_slice()
-            .starts_with(b"ok 50\nn,count(*)\n0,10\n1,10\n")
-    );
-    assert_eq!(rt; engine.spent(), due, "budget {budget}");
-    answers(alloc, &mut engine, b"group b by n show count(*)")?;
-    let twice = spent(
-        due.rows_read.saturating_mul(2),
-        due.rows_written.saturating_mul(2),
-        due.groups.saturating_mul(2),
-        due.runs.saturating_mul(2),
-    );
-    assert_eq!(rt; engine.spent(), twice, "budget {budget}");
-    Ok(())
+    expect_at(rt, budget, engine.spent(), NOTHING);
+    expect_grouped(rt, alloc, &mut engine, budget, due)?;
+    expect_grouped(rt, alloc, &mut engine, budget, twice(due))
 }
 
 /// With one group at a time, and all keys of one hash, each run is written again but for a group; one
@@ -96,69 +90,69 @@ fn five_hundred_rows_in_fifty_groups(rt: HostRuntime) -> Result<(), Fail> {
     Ok(())
 }
 
+/// Lines, their replies, and how many rows were read and how many groups were made by then.
+const LINES: [(&[u8], &[u8], (u64, u64)); 15] = [
+    (b"create t (a int, b int, c text)", b"ok 0\n", (0, 0)),
+    (b"upsert t (1, 9223372036854775807, 'x')", b"ok 1\n", (0, 0)),
+    (b"upsert t (1, 1, 'y')", b"ok 1\n", (0, 0)),
+    (b"upsert t (2, 5, null)", b"ok 1\n", (0, 0)),
+    (b"group t by a show sum(b)", b"err 13 SumRange\n", (0, 0)),
+    (b"distinct t on a", b"ok 2\na\n1\n2\n", (0, 0)),
+    (
+        b"group t by a show count(*)",
+        b"ok 2\na,count(*)\n1,2\n2,1\n",
+        (3, 2),
+    ),
+    (b"group t by a show sum(b)", b"err 13 SumRange\n", (3, 2)),
+    (
+        b"group t by a show count(distinct c)",
+        b"ok 2\na,count(distinct c)\n1,2\n2,0\n",
+        (6, 4),
+    ),
+    (
+        b"group t by a show count(distinct b), min(c), count(distinct c) where b < 9",
+        b"ok 2\na,count(distinct b),min(c),count(distinct c)\n1,1,y,1\n2,1,\\N,0\n",
+        (8, 6),
+    ),
+    (
+        b"group t by a show count(*) having a > 7",
+        b"ok 0\na,count(*)\n",
+        (11, 8),
+    ),
+    (
+        b"group t show count(*) where a = 7",
+        b"ok 1\ncount(*)\n0\n",
+        (11, 9),
+    ),
+    (
+        b"group t by b show count(*) not exists t (a) = (a)",
+        b"ok 0\nb,count(*)\n",
+        (11, 9),
+    ),
+    (b"group t by d show count(*)", b"err 5 NoColumn\n", (11, 9)),
+    (b"drop t", b"ok 0\n", (11, 9)),
+];
+
+/// Expects what each line is answered, and what was spent by then.
+fn expect_lines(
+    rt: &impl Abort,
+    alloc: Global,
+    engine: &mut Engine<Fnv1a, MemStore>,
+    lines: &[(&[u8], &[u8], (u64, u64))],
+) -> Result<(), Fail> {
+    for (line, reply, (rows_read, groups)) in lines {
+        let replies = answers(alloc, engine, line)?;
+        expect_at(rt, *line, replies.as_slice(), *reply);
+        let due = spent(*rows_read, 0, *groups, 0);
+        expect_at(rt, *line, engine.spent(), due);
+    }
+    Ok(())
+}
+
 /// What a grouping takes is of the rows that `where` and `exists` keep, whatever `having` says, and
 /// counts of different values add nothing. No other command raises it, and none that is refused.
 #[test]
 fn only_groups_that_are_answered(rt: HostRuntime) -> Result<(), Fail> {
-    let alloc = rt.alloc();
-    let mut engine = engine(alloc, Limits::greatest());
-    let cases: [(&[u8], &[u8], Spent); 15] = [
-        (b"create t (a int, b int, c text)", b"ok 0\n", NOTHING),
-        (
-            b"upsert t (1, 9223372036854775807, 'x')",
-            b"ok 1\n",
-            NOTHING,
-        ),
-        (b"upsert t (1, 1, 'y')", b"ok 1\n", NOTHING),
-        (b"upsert t (2, 5, null)", b"ok 1\n", NOTHING),
-        (b"group t by a show sum(b)", b"err 13 SumRange\n", NOTHING),
-        (b"distinct t on a", b"ok 2\na\n1\n2\n", NOTHING),
-        (
-            b"group t by a show count(*)",
-            b"ok 2\na,count(*)\n1,2\n2,1\n",
-            spent(3, 0, 2, 0),
-        ),
-        (
-            b"group t by a show sum(b)",
-            b"err 13 SumRange\n",
-            spent(3, 0, 2, 0),
-        ),
-        (
-            b"group t by a show count(distinct c)",
-            b"ok 2\na,count(distinct c)\n1,2\n2,0\n",
-            spent(6, 0, 4, 0),
-        ),
-        (
-            b"group t by a show count(distinct b), min(c), count(distinct c) where b < 9",
-            b"ok 2\na,count(distinct b),min(c),count(distinct c)\n1,1,y,1\n2,1,\\N,0\n",
-            spent(8, 0, 6, 0),
-        ),
-        (
-            b"group t by a show count(*) having a > 7",
-            b"ok 0\na,count(*)\n",
-            spent(11, 0, 8, 0),
-        ),
-        (
-            b"group t show count(*) where a = 7",
-            b"ok 1\ncount(*)\n0\n",
-            spent(11, 0, 9, 0),
-        ),
-        (
-            b"group t by b show count(*) not exists t (a) = (a)",
-            b"ok 0\nb,count(*)\n",
-            spent(11, 0, 9, 0),
-        ),
-        (
-            b"group t by d show count(*)",
-            b"err 5 NoColumn\n",
-            spent(11, 0, 9, 0),
-        ),
-        (b"drop t", b"ok 0\n", spent(11, 0, 9, 0)),
-    ];
-    for (line, reply, due) in cases {
-        let replies = answers(alloc, &mut engine, line)?;
-        assert_eq!(rt; replies.as_slice(), reply, "{line:?}");
-        assert_eq!(rt; engine.spent(), due, "{line:?}");
-    }
-    Ok(())
+    let mut engine = engine(rt.alloc(), Limits::greatest());
+    expect_lines(&rt, rt.alloc(), &mut engine, &LINES)
 }

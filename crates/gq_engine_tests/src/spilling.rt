@@ -1,8 +1,9 @@
 //! Groups past an engine's budget: over stores that fail or lie, what is answered then, and that the
 //! tables are as before; and that the budget is the one that was handed in.
 use crate::engines::{engine_over, written_to};
+use crate::expected::expect_at;
 use crate::lying::{Altered, Swapped};
-use gq_engine::{MemStore, RunStore};
+use gq_engine::{Engine, MemStore, RunStore};
 use gq_row::Key;
 use gq_spill::{FuseStore, Trouble};
 use std::alloc::{AllocError, Global};
@@ -37,25 +38,50 @@ fn lines(alloc: Global) -> Result<String, AllocError> {
     Ok(out)
 }
 
+/// The commands that make the rows, whose lines these are.
+fn script_of(alloc: Global, lines: &str) -> Result<String, AllocError> {
+    format!(in alloc; "create b (n int, g int, key (n))\nload b\nn,g\n{lines}\\.\n")
+}
+
+fn shown_of(alloc: Global, lines: &str) -> Result<String, AllocError> {
+    format!(in alloc; "ok 500\nn,g\n{lines}")
+}
+
+fn groups(alloc: Global) -> Result<String, AllocError> {
+    let mut groups = String::from_str(alloc, "ok 50\ng,count(*),sum(n)\n")?;
+    for g in 0..50u64 {
+        let sum = 10 * g + 2250;
+        groups.push_str(format!(in alloc; "{g},10,{sum}\n")?.as_str())?;
+    }
+    Ok(groups)
+}
+
 impl Fifty {
     fn new(alloc: Global) -> Result<Fifty, AllocError> {
         let lines = lines(alloc)?;
-        let lines = lines.as_str();
-        let script = format!(in alloc;
-            "create b (n int, g int, key (n))\nload b\nn,g\n{lines}\\.\n"
-        )?;
-        let shown = format!(in alloc; "ok 500\nn,g\n{lines}")?;
-        let mut groups = String::from_str(alloc, "ok 50\ng,count(*),sum(n)\n")?;
-        for g in 0..50u64 {
-            let sum = 10 * g + 2250;
-            groups.push_str(format!(in alloc; "{g},10,{sum}\n")?.as_str())?;
-        }
+        let script = script_of(alloc, lines.as_str())?;
+        let shown = shown_of(alloc, lines.as_str())?;
         Ok(Fifty {
             script: script.into_bytes(),
             shown: shown.into_bytes(),
-            groups: groups.into_bytes(),
+            groups: groups(alloc)?.into_bytes(),
         })
     }
+}
+
+/// What the groups of the rows are answered by an engine without tables. The rows are as before then.
+fn answer_by<H: KeyHash<Key> + Copy, S: RunStore>(
+    rt: &impl Abort,
+    alloc: Global,
+    fifty: &Fifty,
+    engine: &mut Engine<H, S>,
+) -> Vec<u8> {
+    let made = written_to(alloc, engine, fifty.script.as_slice());
+    assert!(rt; made.as_slice() == LOADED);
+    let answer = written_to(alloc, engine, GROUPS);
+    let shown = written_to(alloc, engine, b"show b\n");
+    assert!(rt; shown.as_slice() == fifty.shown.as_slice());
+    answer
 }
 
 /// What the groups of the rows are answered over a store, within a budget of so many groups. The rows
@@ -69,12 +95,7 @@ fn answer<H: KeyHash<Key> + Copy, S: RunStore + Drop>(
     groups: u32,
 ) -> Result<Vec<u8>, Fail> {
     let mut engine = engine_over(alloc, hasher, store, groups)?;
-    let made = written_to(alloc, &mut engine, fifty.script.as_slice());
-    assert!(rt; made.as_slice() == LOADED);
-    let answer = written_to(alloc, &mut engine, GROUPS);
-    let shown = written_to(alloc, &mut engine, b"show b\n");
-    assert!(rt; shown.as_slice() == fifty.shown.as_slice());
-    Ok(answer)
+    Ok(answer_by(rt, alloc, fifty, &mut engine))
 }
 
 /// Asserts that the groups come under a hasher within each budget.
@@ -115,6 +136,20 @@ fn answer_troubled<H: KeyHash<Key> + Copy>(
     answer(rt, alloc, fifty, hasher, store, 10)
 }
 
+/// Expects what is answered then.
+fn expect_troubled<H: KeyHash<Key> + Copy>(
+    rt: &impl Abort,
+    alloc: Global,
+    fifty: &Fifty,
+    hasher: H,
+    trouble: Trouble,
+    due: &[u8],
+) -> Result<(), Fail> {
+    let answer = answer_troubled(rt, alloc, fifty, hasher, trouble)?;
+    assert!(rt; answer.as_slice() == due, "{trouble:?}");
+    Ok(())
+}
+
 /// Asserts that the store's failure is told where a call from the first to the last fails, each in turn.
 fn assert_fails<H: KeyHash<Key> + Copy>(
     rt: &impl Abort,
@@ -125,8 +160,7 @@ fn assert_fails<H: KeyHash<Key> + Copy>(
 ) -> Result<(), Fail> {
     let fifty = Fifty::new(alloc)?;
     for call in first..=last {
-        let answer = answer_troubled(rt, alloc, &fifty, hasher, Trouble::Fail(call))?;
-        assert!(rt; answer.as_slice() == FAILED, "call {call}");
+        expect_troubled(rt, alloc, &fifty, hasher, Trouble::Fail(call), FAILED)?;
     }
     Ok(())
 }
@@ -153,20 +187,24 @@ fn calls_of_later_readings_fail(rt: HostRuntime) -> Result<(), Fail> {
     let last = 4 + 1_000 + 4;
     assert_fails(&rt, alloc, Constant(0), 403, last)?;
     let fifty = Fifty::new(alloc)?;
-    let answer = answer_troubled(&rt, alloc, &fifty, Constant(0), Trouble::Fail(last + 1))?;
-    assert!(rt; answer.as_slice() == fifty.groups.as_slice());
-    Ok(())
+    let none = Trouble::Fail(last + 1);
+    expect_troubled(
+        &rt,
+        alloc,
+        &fifty,
+        Constant(0),
+        none,
+        fifty.groups.as_slice(),
+    )
 }
 
 #[test]
 fn a_read_cut_short_is_damage(rt: HostRuntime) -> Result<(), Fail> {
     let alloc = rt.alloc();
     let fifty = Fifty::new(alloc)?;
-    let alike = answer_troubled(&rt, alloc, &fifty, Constant(0), Trouble::Short(1))?;
-    assert!(rt; alike.as_slice() == DAMAGED);
-    let spread = answer_troubled(&rt, alloc, &fifty, Fnv1a { seed: 0 }, Trouble::Short(1))?;
-    assert!(rt; spread.as_slice() == DAMAGED);
-    Ok(())
+    let spread = Fnv1a { seed: 0 };
+    expect_troubled(&rt, alloc, &fifty, Constant(0), Trouble::Short(1), DAMAGED)?;
+    expect_troubled(&rt, alloc, &fifty, spread, Trouble::Short(1), DAMAGED)
 }
 
 /// What is answered within a budget of one where a byte of the first run reads as another.
@@ -181,17 +219,25 @@ fn answer_altered(rt: &impl Abort, alloc: Global, at: u64, by: u8) -> Result<Vec
     answer(rt, alloc, &fifty, Constant(0), store, 1)
 }
 
+fn expect_damage(rt: &impl Abort, alloc: Global, at: u64, by: u8) -> Result<(), Fail> {
+    let answer = answer_altered(rt, alloc, at, by)?;
+    assert!(rt; answer.as_slice() == DAMAGED);
+    Ok(())
+}
+
+/// Whether it is a reply at all.
+fn is_reply(answer: &[u8]) -> bool {
+    answer.starts_with(b"ok ") || answer.starts_with(b"err ")
+}
+
 /// A record begins with its length in four bytes, and a byte that tells the kind of its first value: no
 /// record is so long, and none has such a kind. What follows is a number, as good as another.
 #[test]
 fn a_byte_that_reads_as_another(rt: HostRuntime) -> Result<(), Fail> {
-    let alloc = rt.alloc();
-    let long = answer_altered(&rt, alloc, 0, 128)?;
-    assert!(rt; long.as_slice() == DAMAGED);
-    let of_no_kind = answer_altered(&rt, alloc, 4, 64)?;
-    assert!(rt; of_no_kind.as_slice() == DAMAGED);
-    let other = answer_altered(&rt, alloc, 12, 1)?;
-    assert!(rt; other.as_slice().starts_with(b"ok ") || other.as_slice().starts_with(b"err "));
+    expect_damage(&rt, rt.alloc(), 0, 128)?;
+    expect_damage(&rt, rt.alloc(), 4, 64)?;
+    let other = answer_altered(&rt, rt.alloc(), 12, 1)?;
+    assert!(rt; is_reply(other.as_slice()));
     Ok(())
 }
 
@@ -200,7 +246,7 @@ fn runs_that_read_as_each_other(rt: HostRuntime) -> Result<(), Fail> {
     let alloc = rt.alloc();
     let fifty = Fifty::new(alloc)?;
     let swapped = answer(&rt, alloc, &fifty, Constant(0), Swapped::new(alloc), 1)?;
-    assert!(rt; swapped.as_slice().starts_with(b"ok ") || swapped.as_slice().starts_with(b"err "));
+    assert!(rt; is_reply(swapped.as_slice()));
     Ok(())
 }
 
@@ -214,6 +260,19 @@ fn of_three(alloc: Global, query: &[u8], groups: u32, call: u64) -> Result<Vec<u
     Ok(written_to(alloc, &mut engine, query))
 }
 
+fn expect_of_three(
+    rt: &impl Abort,
+    alloc: Global,
+    query: &[u8],
+    groups: u32,
+    call: u64,
+    due: &[u8],
+) -> Result<(), Fail> {
+    let answer = of_three(alloc, query, groups, call)?;
+    expect_at(rt, groups, answer.as_slice(), due);
+    Ok(())
+}
+
 /// Asserts that a query of three rows needs as many calls of the store as those before one, within a
 /// budget of three groups and of the most, and more of them within one and two.
 fn assert_budget_counts(
@@ -224,12 +283,10 @@ fn assert_budget_counts(
     call: u64,
 ) -> Result<(), Fail> {
     for groups in [3, 65_536, 1_048_576] {
-        let within = of_three(alloc, query, groups, call)?;
-        assert_eq!(rt; within.as_slice(), reply, "{groups}");
+        expect_of_three(rt, alloc, query, groups, call, reply)?;
     }
     for groups in [1, 2] {
-        let past = of_three(alloc, query, groups, call)?;
-        assert_eq!(rt; past.as_slice(), FAILED, "{groups}");
+        expect_of_three(rt, alloc, query, groups, call, FAILED)?;
     }
     Ok(())
 }

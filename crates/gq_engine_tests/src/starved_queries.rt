@@ -1,7 +1,8 @@
 //! Queries while memory runs out: of forty rows, each is answered as with memory to spare, or answered
 //! Memory, and the tables are as before.
-use crate::engines::{engine_over, written_to};
-use gq_engine::MemStore;
+use crate::engines::{engine_over, run, written_to};
+use crate::expected::expect;
+use gq_engine::{Engine, MemStore};
 use gq_row::Key;
 use starved_tests::{POOL, POOLS, Starved};
 use std::alloc::{AllocError, Global};
@@ -117,34 +118,55 @@ fn refused_of(queries: &[Query], answers: &[u8]) -> Option<usize> {
     if left.is_empty() { Some(refused) } else { None }
 }
 
+/// Asks all, and answers how many of the queries were answered Memory, where each other was answered
+/// as it must be.
+fn ask<H: KeyHash<Key> + Copy>(
+    rt: &impl Abort,
+    engine: &mut Engine<H, MemStore>,
+    script: &[u8],
+    answers: &mut Vec<u8>,
+) -> Option<usize> {
+    answers.clear();
+    let ended = run(engine, script, answers);
+    assert!(rt; ended.is_ok());
+    refused_of(&QUERIES, answers.as_slice())
+}
+
+/// What the tables are.
+fn shown_by<H: KeyHash<Key> + Copy>(alloc: Global, engine: &mut Engine<H, MemStore>) -> Vec<u8> {
+    written_to(alloc, engine, SHOWS)
+}
+
+fn expect_shown<H: KeyHash<Key> + Copy>(
+    rt: &impl Abort,
+    alloc: Global,
+    engine: &mut Engine<H, MemStore>,
+    due: &[u8],
+) {
+    let shown = shown_by(alloc, engine);
+    assert!(rt; shown.as_slice() == due);
+}
+
 /// Asks with a little memory, then with more and more, until all replies come; how often there was too
-/// little before that. All is asked once with memory to spare before, so that the stack has grown as
-/// far as that takes it.
+/// little before that.
 fn starve<H: KeyHash<Key> + Copy>(
     rt: &impl Abort,
     alloc: Global,
-    hasher: H,
-    groups: u32,
+    engine: &mut Engine<H, MemStore>,
+    script: &[u8],
+    answers: &mut Vec<u8>,
 ) -> Result<usize, Fail> {
-    let mut engine = engine_over(alloc, hasher, MemStore::new(alloc), groups)?;
-    let made = written_to(alloc, &mut engine, tables(alloc)?.as_slice());
-    assert!(rt; made.as_slice() == LOADED);
-    let shown = written_to(alloc, &mut engine, SHOWS);
-    let script = script_of(alloc, &QUERIES)?;
-    let mut answers = Vec::with_capacity(alloc, REPLIES)?;
-    let _ = engine.run(script.as_slice(), &mut answers);
-    assert_eq!(rt; refused_of(&QUERIES, answers.as_slice()), Some(0));
+    let shown = shown_by(alloc, engine);
+    // Once with memory to spare before, so that the stack has grown as far as that takes it.
+    expect(rt, ask(rt, engine, script, answers), Some(0));
+    expect_shown(rt, alloc, engine, shown.as_slice());
     let mut starved = Starved::new(alloc)?;
     for step in 0..POOLS / 2 {
         let left = starved.leave(alloc, STEP.saturating_mul(step))?;
-        answers.clear();
-        let ended = engine.run(script.as_slice(), &mut answers);
-        assert!(rt; ended.is_ok(), "step {step}");
+        let refused = ask(rt, engine, script, answers);
         let spare = starved.leave(alloc, POOL)?;
-        let still = written_to(alloc, &mut engine, SHOWS);
-        assert!(rt; still.as_slice() == shown.as_slice(), "step {step}");
-        drop(still);
-        match refused_of(&QUERIES, answers.as_slice()) {
+        expect_shown(rt, alloc, engine, shown.as_slice());
+        match refused {
             Some(0) => return Ok(step),
             Some(_) => {}
             None => return Err(Fail::new("a query has a wrong answer")),
@@ -155,30 +177,48 @@ fn starve<H: KeyHash<Key> + Copy>(
     Err(Fail::new("memory was wanting to the end"))
 }
 
-#[test]
-fn one_group_at_once_under_fnv_1a(rt: HostRuntime) -> Result<(), Fail> {
-    let steps = starve(&rt, rt.alloc(), Fnv1a { seed: 0 }, 1)?;
+fn make_tables<H: KeyHash<Key> + Copy>(
+    rt: &impl Abort,
+    alloc: Global,
+    engine: &mut Engine<H, MemStore>,
+) -> Result<(), Fail> {
+    let script = tables(alloc)?;
+    let made = written_to(alloc, engine, script.as_slice());
+    assert!(rt; made.as_slice() == LOADED);
+    Ok(())
+}
+
+fn expect_starved<H: KeyHash<Key> + Copy>(
+    rt: &impl Abort,
+    alloc: Global,
+    hasher: H,
+    groups: u32,
+) -> Result<(), Fail> {
+    let script = script_of(alloc, &QUERIES)?;
+    let mut answers = Vec::with_capacity(alloc, REPLIES)?;
+    let mut engine = engine_over(alloc, hasher, MemStore::new(alloc), groups)?;
+    make_tables(rt, alloc, &mut engine)?;
+    let steps = starve(rt, alloc, &mut engine, script.as_slice(), &mut answers)?;
     assert!(rt; 10 < steps, "{steps} steps");
     Ok(())
+}
+
+#[test]
+fn one_group_at_once_under_fnv_1a(rt: HostRuntime) -> Result<(), Fail> {
+    expect_starved(&rt, rt.alloc(), Fnv1a { seed: 0 }, 1)
 }
 
 #[test]
 fn one_group_at_once_under_one_hash_for_all(rt: HostRuntime) -> Result<(), Fail> {
-    let steps = starve(&rt, rt.alloc(), Constant(0), 1)?;
-    assert!(rt; 10 < steps, "{steps} steps");
-    Ok(())
+    expect_starved(&rt, rt.alloc(), Constant(0), 1)
 }
 
 #[test]
 fn seven_groups_at_once_under_fnv_1a(rt: HostRuntime) -> Result<(), Fail> {
-    let steps = starve(&rt, rt.alloc(), Fnv1a { seed: 0 }, 7)?;
-    assert!(rt; 10 < steps, "{steps} steps");
-    Ok(())
+    expect_starved(&rt, rt.alloc(), Fnv1a { seed: 0 }, 7)
 }
 
 #[test]
 fn seven_groups_at_once_under_one_hash_for_all(rt: HostRuntime) -> Result<(), Fail> {
-    let steps = starve(&rt, rt.alloc(), Constant(0), 7)?;
-    assert!(rt; 10 < steps, "{steps} steps");
-    Ok(())
+    expect_starved(&rt, rt.alloc(), Constant(0), 7)
 }

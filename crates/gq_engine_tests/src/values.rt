@@ -1,59 +1,87 @@
 //! Values, rows, keys and schemas, with ample memory.
-use gq_row::{Column, Key, Kind, Row, Schema, Text, Value, compare, compare_keys};
+use crate::expected::{expect, expect_at};
+use crate::plain::{Plain, are, is, row_of, text, value_of, values_of};
+use gq_row::{Column, Key, Kind, Row, Schema, Value, compare, compare_keys};
 use std::alloc::{AllocError, Global};
 use std::cmp::Ordering;
+use std::process::Abort;
 use std::test::Fail;
 
-fn text(alloc: Global, chars: &str) -> Result<Text, AllocError> {
-    Ok(Text::new(String::from_str(alloc, chars)?))
+fn expect_copy(rt: &impl Abort, alloc: Global, plain: Plain) -> Result<(), AllocError> {
+    let value = value_of(alloc, plain)?;
+    let copy = value.copy(alloc)?;
+    assert!(rt; is(&copy, plain));
+    Ok(())
+}
+
+fn expect_copied_text(rt: &impl Abort, alloc: Global, chars: &str) -> Result<(), AllocError> {
+    let copy = text(alloc, chars)?.copy(alloc)?;
+    expect(rt, copy.as_str(), chars);
+    Ok(())
+}
+
+fn expect_copied_row(rt: &impl Abort, alloc: Global, plain: &[Plain]) -> Result<(), AllocError> {
+    let row = row_of(alloc, plain)?;
+    let copy = row.copy(alloc)?;
+    assert!(rt; are(copy.cells(), plain));
+    Ok(())
 }
 
 #[test]
 fn copies(rt: HostRuntime) -> Result<(), Fail> {
-    let a = Value::Text(text(rt.alloc(), "a")?);
-    assert!(rt; matches!(&a.copy(rt.alloc())?, Value::Text(t) if t.as_str() == "a"));
-    assert!(rt; matches!(Value::Int(-7).copy(rt.alloc())?, Value::Int(-7)));
-    assert!(rt; matches!(Value::Null.copy(rt.alloc())?, Value::Null));
-    assert_eq!(rt; text(rt.alloc(), "b")?.copy(rt.alloc())?.as_str(), "b");
+    for plain in [Plain::Text("a"), Plain::Int(-7), Plain::Null] {
+        expect_copy(&rt, rt.alloc(), plain)?;
+    }
+    expect_copied_text(&rt, rt.alloc(), "b")?;
+    expect_copied_row(&rt, rt.alloc(), &[Plain::Int(1), Plain::Text("a")])?;
+    let row = row_of(rt.alloc(), &[Plain::Int(1), Plain::Text("a")])?;
+    expect_keys(&rt, rt.alloc(), &row)
+}
 
-    let mut cells = Vec::new(rt.alloc());
-    cells.push(Value::Int(1))?;
-    cells.push(a)?;
-    let row = Row::new(cells);
-    let copy = row.copy(rt.alloc())?;
-    assert!(rt; matches!(copy.cells(), [Value::Int(1), Value::Text(t)] if t.as_str() == "a"));
-
-    assert_eq!(rt; row.len(), 2);
-    let key = Key::of(rt.alloc(), &row, &[1, 0])?;
-    assert!(rt; matches!(key.cells(), [Value::Text(t), Value::Int(1)] if t.as_str() == "a"));
-    let longer = Key::of(rt.alloc(), &row, &[1, 0, 0, 1, 0])?;
-    assert_eq!(rt; longer.len(), 5);
-    assert_eq!(rt; compare_keys(&key, &longer), Ordering::Less);
-    assert_eq!(rt; compare_keys(&longer, &key), Ordering::Greater);
-    assert_eq!(rt; compare_keys(&key, &key), Ordering::Equal);
+/// The keys of two columns, turned, and of five.
+fn expect_keys(rt: &impl Abort, alloc: Global, row: &Row) -> Result<(), Fail> {
+    assert!(rt; row.len() == 2);
+    let key = Key::of(alloc, row, &[1, 0])?;
+    assert!(rt; are(key.cells(), &[Plain::Text("a"), Plain::Int(1)]));
+    let longer = Key::of(alloc, row, &[1, 0, 0, 1, 0])?;
+    expect(rt, longer.len(), 5);
+    expect_order(rt, &key, &longer);
     Ok(())
 }
 
+fn expect_order(rt: &impl Abort, key: &Key, longer: &Key) {
+    expect(rt, compare_keys(key, longer), Ordering::Less);
+    expect(rt, compare_keys(longer, key), Ordering::Greater);
+    expect(rt, compare_keys(key, key), Ordering::Equal);
+}
+
 /// Null, then numbers, then texts by their bytes.
-#[test]
-fn values_in_order(rt: HostRuntime) -> Result<(), Fail> {
-    let ascending = [
-        Value::Null,
-        Value::Int(i64::MIN),
-        Value::Int(-1),
-        Value::Int(0),
-        Value::Int(i64::MAX),
-        Value::Text(text(rt.alloc(), "")?),
-        Value::Text(text(rt.alloc(), "B")?),
-        Value::Text(text(rt.alloc(), "a")?),
-        Value::Text(text(rt.alloc(), "ab")?),
-        Value::Text(text(rt.alloc(), "\u{e9}")?),
-    ];
-    for (i, a) in ascending.iter().enumerate() {
-        for (j, b) in ascending.iter().enumerate() {
-            assert_eq!(rt; compare(a, b), i.cmp(&j), "{i} and {j}");
+const ASCENDING: [Plain; 10] = [
+    Plain::Null,
+    Plain::Int(i64::MIN),
+    Plain::Int(-1),
+    Plain::Int(0),
+    Plain::Int(i64::MAX),
+    Plain::Text(""),
+    Plain::Text("B"),
+    Plain::Text("a"),
+    Plain::Text("ab"),
+    Plain::Text("\u{e9}"),
+];
+
+fn expect_ascending(rt: &impl Abort, values: &[Value]) {
+    for (i, a) in values.iter().enumerate() {
+        for (j, b) in values.iter().enumerate() {
+            expect_at(rt, (i, j), compare(a, b), i.cmp(&j));
         }
     }
+}
+
+#[test]
+fn values_in_order(rt: HostRuntime) -> Result<(), Fail> {
+    let ascending = values_of(rt.alloc(), &ASCENDING)?;
+    expect(&rt, ascending.len(), 10);
+    expect_ascending(&rt, ascending.as_slice());
     Ok(())
 }
 
@@ -68,30 +96,49 @@ fn columns(alloc: Global, names: &[&str]) -> Result<Vec<Column>, AllocError> {
     Ok(columns)
 }
 
-#[test]
-fn schemas(rt: HostRuntime) -> Result<(), Fail> {
-    let cases: [(&[&str], &[usize], bool); 7] = [
-        (&["a", "b"], &[], true),
-        (&["a", "b"], &[1, 0], true),
-        (&["a", "A"], &[0], true),
-        (&["a", "b", "a"], &[], false),
-        (&["a", "b"], &[2], false),
-        (&["a", "b"], &[0, 0], false),
-        (&[], &[], true),
-    ];
+/// Names of columns, the positions of the key's, and whether there is such a schema.
+const SCHEMAS: [(&[&str], &[usize], bool); 7] = [
+    (&["a", "b"], &[], true),
+    (&["a", "b"], &[1, 0], true),
+    (&["a", "A"], &[0], true),
+    (&["a", "b", "a"], &[], false),
+    (&["a", "b"], &[2], false),
+    (&["a", "b"], &[0, 0], false),
+    (&[], &[], true),
+];
+
+fn schema_of(alloc: Global, names: &[&str], key: &[usize]) -> Result<Option<Schema>, AllocError> {
+    let positions = Vec::from_slice(alloc, key)?;
+    Ok(Schema::new(columns(alloc, names)?, positions))
+}
+
+fn expect_schema(rt: &impl Abort, schema: &Schema, names: &[&str], key: &[usize]) {
+    expect(rt, schema.key(), key);
+    expect(rt, schema.columns().len(), names.len());
+    expect(
+        rt,
+        schema.find("b"),
+        names.iter().position(|name| *name == "b"),
+    );
+    expect(rt, schema.find("c"), None);
+}
+
+fn expect_schemas(
+    rt: &impl Abort,
+    alloc: Global,
+    cases: &[(&[&str], &[usize], bool)],
+) -> Result<(), Fail> {
     for (names, key, is_one) in cases {
-        let positions = Vec::from_slice(rt.alloc(), key)?;
-        let schema = Schema::new(columns(rt.alloc(), names)?, positions);
-        assert_eq!(rt; schema.is_some(), is_one, "{names:?} {key:?}");
-        if let Some(schema) = schema {
-            assert_eq!(rt; schema.key(), key);
-            assert_eq!(rt; schema.columns().len(), names.len());
-            assert_eq!(rt;
-                schema.find("b"),
-                names.iter().position(|name| *name == "b")
-            );
-            assert_eq!(rt; schema.find("c"), None);
+        let schema = schema_of(alloc, names, key)?;
+        expect_at(rt, (*names, *key), schema.is_some(), *is_one);
+        if let Some(schema) = &schema {
+            expect_schema(rt, schema, names, key);
         }
     }
     Ok(())
+}
+
+#[test]
+fn schemas(rt: HostRuntime) -> Result<(), Fail> {
+    expect_schemas(&rt, rt.alloc(), &SCHEMAS)
 }

@@ -1,0 +1,18 @@
+//! What was found, beside what is due.
+use std::fmt::Debug;
+use std::process::Abort;
+
+/// Expects that what was found is what is due.
+pub fn expect<T: PartialEq + Debug + Copy>(rt: &impl Abort, found: T, due: T) {
+    assert_eq!(rt; found, due);
+}
+
+/// Expects it of a case.
+pub fn expect_at<C: Debug + Copy, T: PartialEq + Debug + Copy>(
+    rt: &impl Abort,
+    case: C,
+    found: T,
+    due: T,
+) {
+    assert_eq!(rt; found, due, "{case:?}");
+}

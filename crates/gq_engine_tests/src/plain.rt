@@ -1,0 +1,54 @@
+//! Values, rows and keys, told by literals.
+use gq_row::{Row, Text, Value};
+use std::alloc::{AllocError, Global};
+
+/// A value, as a literal tells it.
+#[derive(Clone, Copy)]
+pub enum Plain {
+    Null,
+    Int(i64),
+    Text(&'static str),
+}
+
+pub fn text(alloc: Global, chars: &str) -> Result<Text, AllocError> {
+    Ok(Text::new(String::from_str(alloc, chars)?))
+}
+
+pub fn value_of(alloc: Global, plain: Plain) -> Result<Value, AllocError> {
+    Ok(match plain {
+        Plain::Null => Value::Null,
+        Plain::Int(number) => Value::Int(number),
+        Plain::Text(chars) => Value::Text(text(alloc, chars)?),
+    })
+}
+
+pub fn values_of(alloc: Global, plain: &[Plain]) -> Result<Vec<Value>, AllocError> {
+    let mut values = Vec::new(alloc);
+    for plain in plain {
+        values.push(value_of(alloc, *plain)?)?;
+    }
+    Ok(values)
+}
+
+pub fn row_of(alloc: Global, plain: &[Plain]) -> Result<Row, AllocError> {
+    Ok(Row::new(values_of(alloc, plain)?))
+}
+
+/// Whether a value is what a literal tells.
+pub fn is(value: &Value, plain: Plain) -> bool {
+    match (value, plain) {
+        (Value::Null, Plain::Null) => true,
+        (Value::Int(number), Plain::Int(due)) => *number == due,
+        (Value::Text(text), Plain::Text(due)) => text.as_str() == due,
+        _ => false,
+    }
+}
+
+/// Whether values are what these tell, one by one.
+pub fn are(values: &[Value], plain: &[Plain]) -> bool {
+    values.len() == plain.len()
+        && values
+            .iter()
+            .zip(plain)
+            .all(|(value, plain)| is(value, *plain))
+}
