@@ -9,7 +9,7 @@
 //! store.discard(run);                       // its bytes are given back to the system
 //! ```
 //!
-//! So stores that share a folder, of one program or of several, do not know one another, and nothing stays
+//! So stores that share a folder, of one program or of several, do not know one another, and no rows stay
 //! behind a program that is killed. [`nameless`] has what this stands on.
 //!
 //! # The contract above this crate

@@ -9,6 +9,7 @@ use gq_options::{BadLine, Options, read_words};
 use gq_row::{Bounds, Limits};
 use std::alloc::{AllocError, Global};
 use std::io::{self, ErrorKind, Read, Write};
+use std::process::Abort;
 use std::test::Fail;
 use std::time::SystemTime;
 use std::{env, fs};
@@ -453,6 +454,52 @@ fn write_faults(rt: HostRuntime) -> Result<(), Fail> {
             errors.written.as_slice(),
             b"groupsh: write fault\n".as_slice()
         );
+    }
+    Ok(())
+}
+
+/// Asserts what a session with a fault answers and tells, and that it wrote a front of what was due.
+fn assert_fault(rt: &impl Abort, status: u8, replies: &[u8], errors: &[u8], told: &[u8]) {
+    assert_eq!(rt; status, 3);
+    assert!(rt; b"ok 0\nok 1\n".as_slice().starts_with(replies));
+    assert_eq!(rt; errors, told);
+}
+
+/// A read that fails behind each byte of a script, and a writer that takes a byte less at each time, or
+/// nothing.
+#[test]
+fn faults_at_each_call(rt: HostRuntime) -> Result<(), Fail> {
+    let script: &'static [u8] = b"create s (a int)\nupsert s (1)\n";
+    for count in 0..=script.len() {
+        let mut engine = fresh(rt.alloc(), Limits::greatest())?;
+        let (mut replies, mut errors) = (Vec::new(rt.alloc()), Vec::new(rt.alloc()));
+        let (bytes, _rest) = script.split_at(count);
+        let status = session(
+            &mut engine,
+            Broken { bytes },
+            &mut replies,
+            &mut errors,
+            false,
+        );
+        let told = b"groupsh: read fault\n";
+        assert_fault(&rt, status, replies.as_slice(), errors.as_slice(), told);
+    }
+    // Each of the two replies has five bytes, which go by two, two and one.
+    for room in 0..6usize {
+        for error in [None, Some(ErrorKind::Other)] {
+            let mut engine = fresh(rt.alloc(), Limits::greatest())?;
+            let mut replies = Narrow::new(rt.alloc(), room, error);
+            let mut errors = Vec::new(rt.alloc());
+            let status = session(&mut engine, script, &mut replies, &mut errors, false);
+            let told = b"groupsh: write fault\n";
+            assert_fault(
+                &rt,
+                status,
+                replies.written.as_slice(),
+                errors.as_slice(),
+                told,
+            );
+        }
     }
     Ok(())
 }
