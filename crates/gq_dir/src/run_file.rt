@@ -92,10 +92,12 @@ fn write_at_end<F: Write + Seek>(
     if !*is_at_end && file.seek(SeekFrom::Start(*written)).is_err() {
         return Err(StoreError::Fault);
     }
-    *is_at_end = true;
+    // Where a write fails, a part of the bytes may stand there, which the next write goes over.
+    *is_at_end = false;
     if file.write_all(bytes).is_err() {
         return Err(StoreError::Fault);
     }
+    *is_at_end = true;
     *written = written.saturating_add(bytes.len() as u64);
     Ok(())
 }
