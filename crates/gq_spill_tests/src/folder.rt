@@ -214,6 +214,31 @@ fn a_write_that_fails_is_told_at_once(rt: HostRuntime) -> Result<(), Fail> {
     Ok(())
 }
 
+/// Whether a read that failed, since a part of what waited was written, gives all bytes when it is repeated.
+fn repeats<S: RunStore>(alloc: Global, store: &mut S) -> Result<bool, StoreError> {
+    let run = store.make()?;
+    store.append(run, b"0123456789")?;
+    let failed = gives_back(alloc, store, run, b"0123456789") == Err(StoreError::Fault);
+    let found = gives_back(alloc, store, run, b"0123456789")?;
+    store.discard(run);
+    Ok(failed && found)
+}
+
+#[test]
+fn a_read_that_failed_is_repeated(rt: HostRuntime) -> Result<(), Fail> {
+    let folder = new_folder(&rt)?;
+    let manner = Manner {
+        takes: 4,
+        failing: 1,
+        ..WILLING
+    };
+    let files = Reluctant::new(&rt, manner);
+    let mut store = DirStore::new(rt.alloc(), &files, folder.as_str())?;
+    assert_eq!(rt; repeats(rt.alloc(), &mut store), Ok(true));
+    fs::remove_dir(&rt, folder.as_str())?;
+    Ok(())
+}
+
 #[test]
 fn files_that_give_or_take_nothing(rt: HostRuntime) -> Result<(), Fail> {
     let manners = [
