@@ -16,6 +16,21 @@ SIGNS = {
 COUNT = ("count", "*")
 
 
+class NoCase(str):
+    """A text without case: the same as each other one with its fold, its bytes with A to Z as a to z."""
+
+    __slots__ = ("fold",)
+
+    def __init__(self, text):
+        self.fold = text.encode().lower()
+
+    def __eq__(self, other):
+        return isinstance(other, NoCase) and self.fold == other.fold
+
+    def __hash__(self):
+        return hash(self.fold)
+
+
 def cell(value):
     return "\\N" if value is None else str(value)
 
@@ -29,24 +44,36 @@ def literal(value):
 
 
 def order(value):
-    """Null first, then numbers, then texts by their bytes."""
+    """Null first, then numbers, then texts by their bytes, those without case by their folds."""
     if value is None:
         return (0, 0, b"")
     if isinstance(value, int):
         return (1, value, b"")
-    return (2, 0, value.encode())
+    return (2, 0, value.fold if isinstance(value, NoCase) else value.encode())
 
 
 def order_of_cells(row):
-    return [order(value) for value in row]
+    """By all cells from the left, and where they are the same by the bytes of those without case."""
+    return [order(value) for value in row] + [value.encode() for value in row if isinstance(value, NoCase)]
+
+
+def order_of_spellings(value):
+    return order_of_cells([value])
+
+
+def shown_key(key, keys):
+    """What is shown of keys that are the same as this one: the least spelling of each value."""
+    if not any(isinstance(value, NoCase) for value in key):
+        return key
+    return tuple(min(values, key=order_of_spellings) for values in zip(*keys))
 
 
 AGGREGATES = {
     "count": len,
     "count distinct": lambda values: len(set(values)),
     "sum": lambda values: sum(values) if values else None,
-    "min": lambda values: min(values, key=order, default=None),
-    "max": lambda values: max(values, key=order, default=None),
+    "min": lambda values: min(values, key=order_of_spellings, default=None),
+    "max": lambda values: max(values, key=order_of_spellings, default=None),
 }
 
 
@@ -56,6 +83,8 @@ def is_true(value, sign, other):
         return (value is None) == (sign == "is null")
     if value is None or other is None:
         return False
+    if NoCase in (type(value), type(other)):
+        value, other = NoCase(value), NoCase(other)
     return SIGNS[sign](order(value), order(other))
 
 
@@ -182,7 +211,7 @@ class Example:
     def show(self, name):
         names, key, _places, _rows = self.tables[name]
         columns = key or range(len(names))
-        rows = sorted(self.rows(name), key=lambda row: [order(row[i]) for i in columns])
+        rows = sorted(self.rows(name), key=lambda row: order_of_cells([row[i] for i in columns]))
         self.ask(["show", spelled(name)], names, rows)
 
     def aggregates(self, name, rows, shown):
@@ -191,25 +220,40 @@ class Example:
             values = rows if column == "*" else [value for value, in self.cells(name, rows, [column])]
             yield AGGREGATES[word]([value for value in values if value is not None])
 
-    def group(self, name, by, shown=(COUNT,), where=(), match=None, having=()):
+    def grouped(self, name, rows, by, shown):
+        """The groups of rows by some columns, in order: the key as it is shown, and what is shown."""
         groups = {} if by else {(): []}
-        rows = self.kept(name, where, match)
         for row, key in zip(rows, self.cells(name, rows, by)):
             groups.setdefault(key, []).append(row)
-        answer = [
-            [*key, *self.aggregates(name, groups[key], shown)] for key in sorted(groups, key=order_of_cells)
+        return [
+            [*shown_key(key, self.cells(name, groups[key], by)), *self.aggregates(name, groups[key], shown)]
+            for key in sorted(groups, key=order_of_cells)
         ]
+
+    def group(self, name, by, shown=(COUNT,), where=(), match=None, having=(), rollup=False):
+        rows = self.kept(name, where, match)
         header = [*by, *(shown_as(word, column) for word, column in shown)]
         words = ["group", spelled(name)]
-        words += [f"by {listed(by)}"] if by else []
+        words += [f"by rollup ({listed(by)})" if rollup else f"by {listed(by)}"] if by else []
         words += ["show " + ",".join(shown_as(word, spelled(column)) for word, column in shown)]
         words += spelled_tests("where", where) + spelled_match(match) + spelled_tests("having", having)
-        self.ask(words, header, passing(answer, header, having))
+        if not rollup:
+            self.ask(words, header, passing(self.grouped(name, rows, by, shown), header, having))
+            return
+        answer = []
+        for level in range(len(by) + 1):
+            nulls = [None] * (len(by) - level)
+            found = [[*row[:level], *nulls, *row[level:]] for row in self.grouped(name, rows, by[:level], shown)]
+            answer += [[level, *row] for row in passing(found, header, having)]
+        self.ask(words, ["level", *header], answer)
 
     def distinct(self, name, columns, where=()):
-        rows = set(self.cells(name, self.kept(name, where, None), columns))
+        keys = {}
+        for key in self.cells(name, self.kept(name, where, None), columns):
+            keys.setdefault(key, []).append(key)
+        rows = [shown_key(key, keys[key]) for key in sorted(keys, key=order_of_cells)]
         words = ["distinct", spelled(name), "on", listed(columns), *spelled_tests("where", where)]
-        self.ask(words, columns, sorted(rows, key=order_of_cells))
+        self.ask(words, columns, rows)
 
     def write(self):
         """Writes the script and its replies to the files that the command line names."""

@@ -9,13 +9,14 @@ tables again.
 import string
 from itertools import islice, product
 
-from example import COUNT, Example
+from example import COUNT, Example, NoCase
 
 MANY = 120_000
 LONGEST_LINE = 65_536
 LONGEST_TEXT = 65_535
 LONGEST_NAME = 63
-MOST_COLUMNS = 32
+MOST_COLUMNS = 128
+MOST_AGGREGATES = 16
 MOST_TABLES = 64
 GREATEST = 2**63 - 1
 
@@ -102,6 +103,7 @@ def groups_and_pairs(example):
     example.group("m", ["id"], [COUNT, *distinct, ("min", "city"), ("max", "city")])
     example.group("m", ["city"], [COUNT, ("count", "none"), *distinct, ("sum", "id")])
     example.group("m", ["few"], distinct[:3] * 2 + distinct[3:])
+    example.group("m", ["few"], distinct * 3 + distinct[:1], where=[("id", "<", 9000)])
     example.group("m", ["half"], [COUNT, *((word, "id") for word in ("count", "sum", "min", "max")), *least])
     example.group("m", ["half", "city"], [("sum", "few")], having=[("sum(few)", ">", 150)])
     example.group("m", [], [*distinct, COUNT, ("sum", "id"), ("max", "city")])
@@ -142,12 +144,74 @@ def sums(example):
     example.drop("s")
 
 
+def extremes(example):
+    """Texts that become the least and the greatest of a group, and of two, with each row."""
+    names = ["g", "up", "down"]
+    example.create("e", [("g", "int"), ("up", "text"), ("down", "text")])
+    example.load("e", names, [(i % 2, f"t{i:06}", f"t{MANY - i:06}") for i in range(MANY)])
+    example.group("e", [], [("max", "up"), ("min", "down"), ("min", "up"), ("max", "down")])
+    example.group("e", ["g"], [("max", "up"), ("min", "down")])
+    example.drop("e")
+
+
+def in_case(word, bits):
+    """A spelling of a word: a small letter where the bit is set, the first letter's the highest."""
+    letters = zip(word, reversed(range(len(word))))
+    return NoCase("".join(letter.lower() if bits >> i & 1 else letter.upper() for letter, i in letters))
+
+
+def spellings(example):
+    """Texts without case: groups by their folds, spellings of a group, columns that are shown by the least ones."""
+    names = ["n", "town", "word"]
+    towns = [in_case(f"town {i * 7919 % MANY // 2}", i) for i in range(MANY)]
+    words = [in_case("abcdefghijklmnopq", MANY - i) for i in range(MANY)]
+    rows = list(zip(range(MANY), towns, words))
+    example.create("c", [("n", "int"), ("town", "text nocase"), ("word", "text nocase")], ["town", "n"])
+    example.load("c", names, rows)
+    example.load("c", names, [(n, NoCase(town.swapcase()), word) for n, town, word in rows[::2]])
+    example.group("c", ["town"], [COUNT, ("max", "word"), ("count distinct", "word")])
+    example.group("c", ["word"], [COUNT, ("max", "word"), ("count distinct", "town")])
+    example.group("c", [], [("min", "word")], match=(False, "c", ["word", "town"], ["word", "town"]))
+    example.distinct("c", ["word", "town"], where=[("word", "<=", "ABCDEFGHIJKLMNOPQ")])
+    example.show("c")
+    example.drop("c")
+    wide = [f"c{i}" for i in range(MOST_COLUMNS)]
+    rows = [[in_case("kind", i // 3 ** (j % 4) % 16) for j in range(MOST_COLUMNS - 1)] for i in range(500)]
+    rows = [(*row, in_case(f"last {i % 50}", i // 50)) for i, row in enumerate(rows)]
+    example.create("w", [(name, "text nocase") for name in wide])
+    example.load("w", wide, rows)
+    example.group("w", wide, [COUNT, *[("min", "c0"), ("max", wide[-1]), ("count distinct", wide[-1])] * 5])
+    example.distinct("w", wide[::-1])
+    example.show("w")
+    example.drop("w")
+
+
+def rollups(example):
+    """Levels of a rollup, one more than a table has columns; rows of a level; what is shown of each."""
+    names = [f"c{i}" for i in range(MOST_COLUMNS)]
+    rows = [tuple(i // 3 ** (j % 5) % 3 or None for j in range(MOST_COLUMNS)) for i in range(200)]
+    example.create("w", [(name, "int") for name in names])
+    example.load("w", names, rows)
+    example.group("w", names, [COUNT, ("sum", "c0")], rollup=True)
+    example.group("w", names[::-1], [("count distinct", "c4")], having=[("c0", "is null", None)], rollup=True)
+    example.drop("w")
+    example.create("m", [("few", "int"), ("half", "int"), ("city", "text nocase")])
+    rows = [(i * 7919 % 300, i // 2, NoCase(f"{'Tt'[i % 2]}own {i % 50_021}")) for i in range(MANY)]
+    example.load("m", ["few", "half", "city"], rows)
+    example.group("m", ["few", "half"], [COUNT, ("sum", "half"), ("count distinct", "city")], rollup=True)
+    example.group("m", ["city"], [COUNT, ("max", "city")], having=[("count(*)", ">", 2)], rollup=True)
+    shown = [("min", "half"), ("max", "city"), ("count distinct", "half"), ("sum", "half")] * (MOST_AGGREGATES // 4)
+    example.group("m", ["few", "city"], shown, where=[("half", "<", 3000)], rollup=True)
+    example.drop("m")
+
+
 def longest_texts(example):
     """Bytes of a text, a key, a record of a run, a field and a line of an answer."""
-    names = [f"t{i}" for i in range(MOST_COLUMNS)]
+    columns = 32
+    names = [f"t{i}" for i in range(columns)]
     text, quotes = "x" * (LONGEST_TEXT - 1), '"' * LONGEST_TEXT
-    rows = [(*[text + "y"] * (MOST_COLUMNS - 1), text + end) for end in "ab"]
-    rows += [tuple([quotes] * MOST_COLUMNS), tuple([text] * MOST_COLUMNS)]
+    rows = [(*[text + "y"] * (columns - 1), text + end) for end in "ab"]
+    rows += [tuple([quotes] * columns), tuple([text] * columns)]
     example.create("l", [(name, "text") for name in names], names)
     example.load("l", names, rows)
     example.load("l", names, rows[:2])
@@ -170,7 +234,7 @@ def longest_names(example):
     example.create(table, [(name, "int") for name in names], names)
     example.upsert(table, *range(MOST_COLUMNS))
     example.load(table, names, [[7] * MOST_COLUMNS])
-    example.group(table, names, [("count distinct", name) for name in names[:8]])
+    example.group(table, names, [("count distinct", name) for name in names[:MOST_AGGREGATES]])
     example.distinct(table, names)
     example.show(table)
     example.drop(table)
@@ -247,6 +311,9 @@ def made():
     groups_and_pairs(example)
     matches(example)
     sums(example)
+    extremes(example)
+    spellings(example)
+    rollups(example)
     longest_texts(example)
     longest_names(example)
     payloads(example)

@@ -50,9 +50,9 @@ def made():
     example.say(f"create w ({names(1200).replace(',', ' int,')} int)", "err 14 Limit")
     example.say(f"upsert s ({', '.join(['1'] * 5000)})", "err 6 TypeMismatch")
     example.say(f"upsert s ({', '.join(['x'] * 5000)})", "err 1 Syntax")
-    wide = [f"n{i}" for i in range(32)]
+    wide = [f"n{i}" for i in range(128)]
     example.create("w", [(name, "int") for name in wide], wide[:20])
-    example.upsert("w", *range(32))
+    example.upsert("w", *range(128))
     example.group("w", wide)
 
     # Lines past 4,096 bytes, up to the longest that there may be and past it.

@@ -1,15 +1,15 @@
 -- The element of a list that no other wins over.
 use Rattle.std.proofs.Common.{◌≡◌, Bool, true, false, cond, not, ◌&&◌, ◌||◌, List, [], ◌∷◌, refl, sym, ap, ◌∙◌, true≢false, inl, inr, ◌⊎◌, Less, Equal, Greater, Ordering}
-use Rattle.std.specs.List.{fold, list_any}
+use Rattle.std.specs.List.{fold, list_all, list_any}
 use Rattle.std.specs.Cmp.{IsStrictWeakOrder}
 use Rattle.std.specs.Ordering.{is_lt, ordering_reverse}
-use Rattle.std.proofs.lemmas.Bool.{or_parts, or_from}
+use Rattle.std.proofs.lemmas.Bool.{or_parts, or_from, and_parts, and_from}
 use Rattle.std.proofs.lemmas.List.Sorted.{ranks_by}
 use Rattle.gq_row.specs.declared.value.Value.{Value}
-use Rattle.gq_row.specs.declared.value.Value.TheVariants.{Null, Int, Text}
+use Rattle.gq_row.specs.declared.value.Value.TheVariants.{Null, Int, Text, NoCase}
 use Rattle.gq_row.specs.Fitting.{is_null}
-use Rattle.gq_row.specs.Order.{compare_values, same_value}
-use Rattle.gq_row.proofs.OrderLemmas.{values_total, values_exact, same_value_exact}
+use Rattle.gq_row.specs.Order.{compare_values, equal_value}
+use Rattle.gq_row.proofs.OrderLemmas.{values_total, values_exact, equal_value_exact}
 use Rattle.gq_agg.specs.Values.{is_less, is_greater}
 
 or_true : (b : Bool) → (b || true) ≡ true
@@ -49,13 +49,25 @@ module _ {X : Type 0} (wins : X → X → Bool) (order : IsStrictWeakOrder wins)
       step false (inl e) = inl e
       step false (inr h) = inr (ap (λ b. same (fold choose a xs) x || b) h ∙ or_true (same (fold choose a xs) x))
 
--- a test that none of a list passes, one of the list doesn't pass
-pub none_passes : (p : Value → Bool) (xs : List Value) (v : Value) → list_any p xs ≡ false → list_any (same_value v) xs ≡ true → p v ≡ false
-none_passes p [] v none here = absurd (true≢false (sym here))
-none_passes p (x ∷ xs) v none here = step (same_value v x) refl here (none_passes p xs v (or_parts (p x) (list_any p xs) none).1)
+-- a test that the first and all others pass, the chosen one passes
+pub all_pass : {X : Type 0} (wins : X → X → Bool) (p : X → Bool) (a : X) (xs : List X) → list_all p (a ∷ xs) ≡ true → p (fold (λ y z. cond (wins y z) z y) a xs) ≡ true
+all_pass wins p a [] all = (and_parts (p a) true all).0
+all_pass wins p a (x ∷ xs) all =
+    let first = and_parts (p a) (list_all p (x ∷ xs)) all in
+    let second = and_parts (p x) (list_all p xs) first.1 in
+    step (wins a x) (all_pass wins p x xs first.1) (all_pass wins p a xs (and_from (p a) (list_all p xs) first.0 second.1))
   where
-    step : (b : Bool) → same_value v x ≡ b → (b || list_any (same_value v) xs) ≡ true → (list_any (same_value v) xs ≡ true → p v ≡ false) → p v ≡ false
-    step true e h later = ap p (same_value_exact v x e) ∙ (or_parts (p x) (list_any p xs) none).0
+    step : (b : Bool) → p (fold (λ y z. cond (wins y z) z y) x xs) ≡ true → p (fold (λ y z. cond (wins y z) z y) a xs) ≡ true → p (fold (λ y z. cond (wins y z) z y) (cond b x a) xs) ≡ true
+    step true new old = new
+    step false new old = old
+
+-- a test that none of a list passes, one of the list doesn't pass
+pub none_passes : (p : Value → Bool) (xs : List Value) (v : Value) → list_any p xs ≡ false → list_any (equal_value v) xs ≡ true → p v ≡ false
+none_passes p [] v none here = absurd (true≢false (sym here))
+none_passes p (x ∷ xs) v none here = step (equal_value v x) refl here (none_passes p xs v (or_parts (p x) (list_any p xs) none).1)
+  where
+    step : (b : Bool) → equal_value v x ≡ b → (b || list_any (equal_value v) xs) ≡ true → (list_any (equal_value v) xs ≡ true → p v ≡ false) → p v ≡ false
+    step true e h later = ap p (equal_value_exact v x e) ∙ (or_parts (p x) (list_any p xs) none).0
     step false e h later = later h
 
 -- ---- the two orders
@@ -98,6 +110,7 @@ null_is : (v : Value) → is_null v ≡ true → v ≡ Null
 null_is Null h = refl
 null_is (Int n) h = absurd (true≢false (sym h))
 null_is (Text t) h = absurd (true≢false (sym h))
+null_is (NoCase t) h = absurd (true≢false (sym h))
 
 pub less_exact : (a b : Value) → is_less a b ≡ false → is_less b a ≡ false → a ≡ b
 less_exact a b h k = step (is_null a) (is_null b) refl refl h k

@@ -4,7 +4,7 @@ use Rattle.std.proofs.lemmas.Int.{ints}
 use Rattle.std.proofs.lemmas.List.Elements.{filter-append}
 use Rattle.std.proofs.lemmas.List.Sums.{fold-append}
 use Rattle.gq_row.specs.declared.value.Value.{Value}
-use Rattle.gq_row.specs.declared.value.Value.TheVariants.{Null, Int, Text}
+use Rattle.gq_row.specs.declared.value.Value.TheVariants.{Null, Int, Text, NoCase}
 use Rattle.gq_row.specs.Fitting.{is_null}
 use Rattle.std.proofs.lemmas.Bool.Decides.{nat_tests}
 use Rattle.gq_agg.specs.declared.kind.AggKind.{AggKind}
@@ -33,6 +33,7 @@ total-none [] none = refl
 total-none (Null ∷ values) none = omega (arith, ints, total-none values none)
 total-none (Int n ∷ values) none = absurd (omega arith)
 total-none (Text t ∷ values) none = absurd (omega arith)
+total-none (NoCase t ∷ values) none = absurd (omega arith)
 
 more_than_none : (n : ℕ) → (n + 1 == 0) ≡ false
 more_than_none n = grind (arith, nat_tests)
@@ -58,6 +59,9 @@ sum-push values v = cased v (count-push values v) (total-push values v)
         (λ i. cond (c i == 0) None (Some (t i))) ∙ ap (λ b. cond b None (Some (total values +ℤ n))) (more_than_none (length (present values)))
         ∙ ap (λ s. Some (s +ℤ n)) (sym (so_far values))
     cased (Text u) c t =
+        (λ i. cond (c i == 0) None (Some (t i))) ∙ ap (λ b. cond b None (Some (total values +ℤ pos 0))) (more_than_none (length (present values)))
+        ∙ ap (λ s. Some (s +ℤ pos 0)) (sym (so_far values))
+    cased (NoCase u) c t =
         (λ i. cond (c i == 0) None (Some (t i))) ∙ ap (λ b. cond b None (Some (total values +ℤ pos 0))) (more_than_none (length (present values)))
         ∙ ap (λ s. Some (s +ℤ pos 0)) (sym (so_far values))
 

@@ -1,7 +1,7 @@
 -- Aggregates of lists of values, as SQL has them.
 use Rattle.std.specs.Prelude.{ℤ, pos, negsuc, ◌-◌, ◌^◌, ◌==◌, ◌&&◌, Bool, true, false, not, List, length, if◌then◌else◌, Option, Some, None, int_le}
 use Rattle.gq_row.specs.declared.value.Value.{Value}
-use Rattle.gq_row.specs.declared.value.Value.TheVariants.{Null, Int, Text}
+use Rattle.gq_row.specs.declared.value.Value.TheVariants.{Null, Int, Text, NoCase}
 use Rattle.gq_agg.specs.declared.kind.AggKind.{AggKind}
 use Rattle.gq_agg.specs.declared.kind.AggKind.TheVariants.{CountAll, Count, Sum, Min, Max}
 use Rattle.gq_agg.specs.Values.{present, total, least, greatest}
@@ -25,10 +25,12 @@ aggregate Sum values = summed values
 aggregate Min values = Some (least values)
 aggregate Max values = Some (greatest values)
 
+-- whether a value is a text, with case or without
 abbrev pub is_text : Value → Bool
 is_text Null = false
 is_text (Int n) = false
 is_text (Text t) = true
+is_text (NoCase t) = true
 
 -- whether a value may be added: a sum takes no text
 abbrev pub takes : AggKind → Value → Bool

@@ -2,7 +2,7 @@
 use Rattle.std.specs.Prelude.{ℕ, ℤ, pos, ◌+ℤ◌, ◌&&◌, ◌||◌, Bool, not, List, [], ◌∷◌, length, filter, fold, if◌then◌else◌}
 use Rattle.std.specs.Ordering.{is_lt}
 use Rattle.gq_row.specs.declared.value.Value.{Value}
-use Rattle.gq_row.specs.declared.value.Value.TheVariants.{Null, Int, Text}
+use Rattle.gq_row.specs.declared.value.Value.TheVariants.{Null, Int, Text, NoCase}
 use Rattle.gq_row.specs.Fitting.{is_null}
 use Rattle.gq_row.specs.Order.{compare_values, same_value}
 use Rattle.gq_row.specs.Repeats.{without_repeats}
@@ -11,7 +11,7 @@ use Rattle.gq_row.specs.Repeats.{without_repeats}
 abbrev pub present : List Value → List Value
 present values = filter (λ v. not (is_null v)) values
 
--- how many different values there are, null left out
+-- how many different values there are, null left out; two spellings of one text without case are one
 abbrev pub different : List Value → ℕ
 different values = length (without_repeats same_value (present values))
 
@@ -20,6 +20,7 @@ abbrev pub number : Value → ℤ
 number Null = pos 0
 number (Int n) = n
 number (Text t) = pos 0
+number (NoCase t) = pos 0
 
 -- the sum, a whole number of any size
 abbrev pub total : List Value → ℤ

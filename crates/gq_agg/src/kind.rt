@@ -26,7 +26,7 @@ impl AggKind {
         ensures { result ≡ takes self value.now }
     {
         match (self, value) {
-            (AggKind::Sum, Value::Text(_)) => false,
+            (AggKind::Sum, Value::Text(_) | Value::NoCase(_)) => false,
             _ => true,
         }
     }

@@ -17,7 +17,8 @@ pub fn ends_are_reached()
     ensures { EndsAreReached }
 {}
 
-/// A value counts among the different ones unless it is null or the same as one before it.
+/// A value counts among the different ones unless it is null or the same as one before it: two
+/// spellings of one text without case count once.
 pub fn different_are_counted()
     ensures { DifferentAreCounted }
 {}

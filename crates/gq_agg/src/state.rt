@@ -85,7 +85,7 @@ pub(crate) fn sum_value(sum: &mut Option<Sum>, value: &Value)
 {
     match value {
         Value::Int(n) => *sum = Some(sum.take().unwrap_or(Sum::zero()).plus(*n)),
-        Value::Null | Value::Text(_) => {}
+        Value::Null | Value::Text(_) | Value::NoCase(_) => {}
     }
 }
 
@@ -130,6 +130,7 @@ fn keep(alloc: Global, place: &mut Value, value: &Value) -> Result<(), AllocErro
         Value::Null => Value::Null,
         Value::Int(n) => Value::Int(*n),
         Value::Text(text) => Value::Text(text.copy(alloc)?),
+        Value::NoCase(text) => Value::NoCase(text.copy(alloc)?),
     };
     Ok(())
 }

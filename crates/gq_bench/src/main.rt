@@ -9,7 +9,9 @@
 //! - for groups, a look-up and an insertion of each row's key in a flat map;
 //! - for conditions, the same count without one;
 //! - for groups within a budget, of which there are a fifth as many as rows, a budget that holds
-//!   them all. Their runs stand in memory, or in a folder.
+//!   them all. Their runs stand in memory, or in a folder;
+//! - for texts without case, the same texts with case;
+//! - for a rollup of two columns, its three groupings by commands of their own.
 //!
 //! The arguments are numbers of rows, and before them may stand what is measured alone. Without any
 //! the program says so, and measures nothing. What it prints rests on the machine: no contract
@@ -37,7 +39,7 @@ use std::{env, io};
 const MOST_ROWS: usize = 8_000_000;
 
 const USAGE: &str = "usage: gq_bench [WORKS] ROWS.. (as 10000 1000000): times of an engine
-  WORKS is tables, groups or budgets, or the name of one work, as 'count, where'; without it, all
+  WORKS is tables, groups, budgets, cases or totals, or the name of one work, as 'count, where'; without it, all
   budgets keeps runs in a folder of its own below TMPDIR, or else below /tmp, and removes it";
 
 fn main(rt: HostRuntime) -> io::Result<()> {

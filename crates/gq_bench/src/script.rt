@@ -1,15 +1,42 @@
 //! Rows and keys as CSV texts, and as scripts.
 use crate::shape::Shape;
+use gq_row::Kind;
 use std::alloc::AllocError;
 
 /// The line that makes the table `t` of the rows, with its key or without.
 pub(crate) fn create_rows(shape: Shape, keyed: bool) -> &'static [u8] {
-    match (shape.texts, keyed) {
-        (false, false) => b"create t (k int, v int)\n",
-        (false, true) => b"create t (k int, v int, key (k))\n",
-        (true, false) => b"create t (k text, v int)\n",
-        (true, true) => b"create t (k text, v int, key (k))\n",
+    match (shape.kind, keyed) {
+        (Kind::Int, false) => b"create t (k int, v int)\n",
+        (Kind::Int, true) => b"create t (k int, v int, key (k))\n",
+        (Kind::Text, false) => b"create t (k text, v int)\n",
+        (Kind::Text, true) => b"create t (k text, v int, key (k))\n",
+        (Kind::NoCase, false) => b"create t (k text nocase, v int)\n",
+        (Kind::NoCase, true) => b"create t (k text nocase, v int, key (k))\n",
     }
+}
+
+/// The line that makes the table `t` of rows that have a second column, of seven numbers, to be grouped by.
+fn create_wide(shape: Shape) -> &'static [u8] {
+    match shape.kind {
+        Kind::Int => b"create t (k int, b int, v int)\n",
+        Kind::Text => b"create t (k text, b int, v int)\n",
+        Kind::NoCase => b"create t (k text nocase, b int, v int)\n",
+    }
+}
+
+/// Appends what makes that table and loads the rows into it.
+pub(crate) fn push_wide(out: &mut Vec<u8>, shape: Shape, rows: usize) -> Result<(), AllocError> {
+    out.extend_from_slice(create_wide(shape))?;
+    out.extend_from_slice(b"load t\nk,b,v\n")?;
+    for row in 0..rows {
+        push_key(out, shape, shape.key_of(row, rows))?;
+        out.push(b',')?;
+        push_number(out, row as u64 % 7)?;
+        out.push(b',')?;
+        push_number(out, row as u64)?;
+        out.push(b'\n')?;
+    }
+    out.extend_from_slice(b"\\.\n")
 }
 
 /// Appends the rows as a CSV text, with its header.
@@ -33,7 +60,7 @@ pub(crate) fn push_load(out: &mut Vec<u8>, shape: Shape, rows: usize) -> Result<
 
 /// Appends the rows as lines `upsert`.
 pub(crate) fn push_upserts(out: &mut Vec<u8>, shape: Shape, rows: usize) -> Result<(), AllocError> {
-    let quote: &[u8] = if shape.texts { b"'" } else { b"" };
+    let quote: &[u8] = if is_number(shape) { b"" } else { b"'" };
     for row in 0..rows {
         out.extend_from_slice(b"upsert t (")?;
         out.extend_from_slice(quote)?;
@@ -58,17 +85,22 @@ pub(crate) fn push_keys(out: &mut Vec<u8>, shape: Shape, rows: usize) -> Result<
 }
 
 fn create_keys(shape: Shape) -> &'static [u8] {
-    match shape.texts {
-        false => b"create u (k int, key (k))\n",
-        true => b"create u (k text, key (k))\n",
+    match shape.kind {
+        Kind::Int => b"create u (k int, key (k))\n",
+        Kind::Text => b"create u (k text, key (k))\n",
+        Kind::NoCase => b"create u (k text nocase, key (k))\n",
     }
 }
 
 fn push_key(out: &mut Vec<u8>, shape: Shape, key: u64) -> Result<(), AllocError> {
-    if shape.texts {
+    if !is_number(shape) {
         out.extend_from_slice(b"station-")?;
     }
     push_number(out, key)
+}
+
+fn is_number(shape: Shape) -> bool {
+    matches!(shape.kind, Kind::Int)
 }
 
 fn push_number(out: &mut Vec<u8>, number: u64) -> Result<(), AllocError> {

@@ -1,5 +1,5 @@
 //! The rows that are measured.
-use gq_row::{Row, Text, Value};
+use gq_row::{Kind, Row, Text, Value};
 use std::alloc::{AllocError, Global};
 
 // A prime above every number of keys.
@@ -9,8 +9,7 @@ const STRIDE: u64 = 2_654_435_761;
 #[derive(Clone, Copy)]
 pub(crate) struct Shape {
     pub(crate) name: &'static str,
-    /// Whether the keys are texts, and else numbers.
-    pub(crate) texts: bool,
+    pub(crate) kind: Kind,
     /// How many rows share a key, or 0 where there are a hundred keys in all.
     pub(crate) shared_by: usize,
 }
@@ -19,32 +18,66 @@ pub(crate) struct Shape {
 pub(crate) const SHAPES: [Shape; 6] = [
     Shape {
         name: "few numbers",
-        texts: false,
+        kind: Kind::Int,
         shared_by: 0,
     },
     Shape {
         name: "many numbers",
-        texts: false,
+        kind: Kind::Int,
         shared_by: 10,
     },
     Shape {
         name: "all numbers",
-        texts: false,
+        kind: Kind::Int,
         shared_by: 1,
     },
     Shape {
         name: "few texts",
-        texts: true,
+        kind: Kind::Text,
         shared_by: 0,
     },
     Shape {
         name: "many texts",
-        texts: true,
+        kind: Kind::Text,
         shared_by: 10,
     },
     Shape {
         name: "all texts",
-        texts: true,
+        kind: Kind::Text,
+        shared_by: 1,
+    },
+];
+
+/// Texts and the same ones without case.
+pub(crate) const CASES: [Shape; 6] = [
+    Shape {
+        name: "few texts",
+        kind: Kind::Text,
+        shared_by: 0,
+    },
+    Shape {
+        name: "few nocase",
+        kind: Kind::NoCase,
+        shared_by: 0,
+    },
+    Shape {
+        name: "many texts",
+        kind: Kind::Text,
+        shared_by: 10,
+    },
+    Shape {
+        name: "many nocase",
+        kind: Kind::NoCase,
+        shared_by: 10,
+    },
+    Shape {
+        name: "all texts",
+        kind: Kind::Text,
+        shared_by: 1,
+    },
+    Shape {
+        name: "all nocase",
+        kind: Kind::NoCase,
         shared_by: 1,
     },
 ];
@@ -53,12 +86,12 @@ pub(crate) const SHAPES: [Shape; 6] = [
 pub(crate) const FIFTHS: [Shape; 2] = [
     Shape {
         name: "fifth numbers",
-        texts: false,
+        kind: Kind::Int,
         shared_by: 5,
     },
     Shape {
         name: "fifth texts",
-        texts: true,
+        kind: Kind::Text,
         shared_by: 5,
     },
 ];
@@ -91,12 +124,12 @@ impl Shape {
     }
 
     fn cell(&self, alloc: Global, key: u64) -> Result<Value, AllocError> {
-        if !self.texts {
+        if matches!(self.kind, Kind::Int) {
             return Ok(Value::Int(i64::try_from(key).unwrap_or(i64::MAX)));
         }
         let mut digits = itoa::Buffer::new();
         let mut text = String::from_str(alloc, "station-")?;
         text.push_str(digits.format(key))?;
-        Ok(Value::Text(Text::new(text)))
+        Ok(self.kind.stored(Value::Text(Text::new(text))))
     }
 }

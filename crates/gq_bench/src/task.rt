@@ -1,5 +1,5 @@
 //! What an engine is asked to do.
-use crate::script::{create_rows, push_keys, push_load, push_upserts};
+use crate::script::{create_rows, push_keys, push_load, push_upserts, push_wide};
 use crate::shape::Shape;
 use std::alloc::{AllocError, Global};
 
@@ -24,6 +24,12 @@ pub(crate) enum Task {
     Sum,
     /// The different keys of these rows.
     Distinct,
+    /// Four aggregates of rows with a second column, by their keys and that.
+    Wide,
+    /// The same of a rollup of both columns.
+    Rollup,
+    /// The same of the three groupings of that rollup, by a command each.
+    Levels,
 }
 
 /// The script that makes what a task is about, and the one that asks for it.
@@ -65,6 +71,7 @@ impl Task {
                 push_load(out, shape, rows)?;
                 push_keys(out, shape, rows)
             }
+            Task::Wide | Task::Rollup | Task::Levels => push_wide(out, shape, rows),
         }
     }
 
@@ -78,6 +85,12 @@ impl Task {
             Task::CountExists => b"group t by k show count(*) exists u (k) = (k)\n",
             Task::Sum => b"group t by k show sum(v)\n",
             Task::Distinct => b"distinct t on k\n",
+            Task::Wide => b"group t by k, b show count(*), sum(v), min(v), max(v)\n",
+            Task::Rollup => b"group t by rollup (k, b) show count(*), sum(v), min(v), max(v)\n",
+            Task::Levels => b"group t show count(*), sum(v), min(v), max(v)
+group t by k show count(*), sum(v), min(v), max(v)
+group t by k, b show count(*), sum(v), min(v), max(v)
+",
         };
         out.extend_from_slice(line)
     }

@@ -1,5 +1,5 @@
 //! Works that belong together, by their names.
-use crate::shape::{FIFTHS, SHAPES, Shape};
+use crate::shape::{CASES, FIFTHS, SHAPES, Shape};
 use crate::task::Task;
 use crate::work::{GREATEST, Place, Work};
 
@@ -12,10 +12,20 @@ pub(crate) enum Topic {
     Groups,
     /// Groups within budgets.
     Budgets,
+    /// Texts with case and without, side by side.
+    Cases,
+    /// Groups by two columns with four aggregates, and totals.
+    Totals,
 }
 
 /// All of them.
-pub(crate) const TOPICS: [Topic; 3] = [Topic::Tables, Topic::Groups, Topic::Budgets];
+pub(crate) const TOPICS: [Topic; 5] = [
+    Topic::Tables,
+    Topic::Groups,
+    Topic::Budgets,
+    Topic::Cases,
+    Topic::Totals,
+];
 
 const TABLES: [(Work, &str); 6] = [
     (Work::Csv, "csv"),
@@ -34,6 +44,20 @@ const GROUPS: [(Work, &str); 7] = [
     (Work::Run(Task::CountExists), "count, exists"),
     (Work::Run(Task::Sum), "group, sum"),
     (Work::Run(Task::Distinct), "distinct"),
+];
+
+const CASE_WORKS: [(Work, &str); 5] = [
+    (Work::Find, "map find, case"),
+    (Work::Run(Task::Load), "load, case"),
+    (Work::Run(Task::Count), "count, case"),
+    (Work::Run(Task::CountExists), "exists, case"),
+    (Work::Run(Task::Distinct), "distinct, case"),
+];
+
+const TOTALS: [(Work, &str); 3] = [
+    (Work::Run(Task::Wide), "two columns"),
+    (Work::Run(Task::Levels), "three groups"),
+    (Work::Run(Task::Rollup), "rollup"),
 ];
 
 const BUDGETS: [(Work, &str); 6] = [
@@ -69,6 +93,8 @@ impl Topic {
             Topic::Tables => "tables",
             Topic::Groups => "groups",
             Topic::Budgets => "budgets",
+            Topic::Cases => "cases",
+            Topic::Totals => "totals",
         }
     }
 
@@ -78,6 +104,8 @@ impl Topic {
             Topic::Tables => &TABLES,
             Topic::Groups => &GROUPS,
             Topic::Budgets => &BUDGETS,
+            Topic::Cases => &CASE_WORKS,
+            Topic::Totals => &TOTALS,
         }
     }
 
@@ -87,6 +115,8 @@ impl Topic {
             Topic::Tables => &SHAPES,
             Topic::Groups => &SHAPES,
             Topic::Budgets => &FIFTHS,
+            Topic::Cases => &CASES,
+            Topic::Totals => &SHAPES,
         }
     }
 }

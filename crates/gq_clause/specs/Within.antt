@@ -36,6 +36,7 @@ abbrev pub literal_texts : Value → List Bytes
 literal_texts value.Null = []
 literal_texts (value.Int z) = []
 literal_texts (value.Text t) = t ∷ []
+literal_texts (value.NoCase t) = t ∷ []
 
 abbrev pub operand_texts : Operand → List Bytes
 operand_texts (operand.Column n) = []

@@ -1,5 +1,6 @@
 -- The tokens that the grammar writes for clauses.
 use Rattle.std.specs.Prelude.{Bool, true, false, List, [], ◌∷◌, ◌++◌, ◌&&◌}
+use Rattle.std.specs.List.{list_all}
 use Rattle.gq_row.specs.declared.value.Value.{Value}
 use Rattle.gq_row.specs.declared.value.Value.TheVariants as value
 pub use Rattle.gq_token.specs.Texts.{Bytes, some}
@@ -40,6 +41,7 @@ abbrev pub literal_words : Value → List Token
 literal_words value.Null = Fixed terminal.Null ∷ []
 literal_words (value.Int z) = Number z ∷ []
 literal_words (value.Text t) = Text t ∷ []
+literal_words (value.NoCase t) = Text t ∷ []
 
 abbrev pub literals_words : List Value → List Token
 literals_words vs = separated terminal.Comma literal_words vs
@@ -79,6 +81,32 @@ tests_words tests = separated terminal.And test_words tests
 -- the tests behind a word, or nothing where there is none
 abbrev pub tests_clause : Terminal → List Test → List Token
 tests_clause starter tests = clause starter terminal.And test_words tests
+
+-- which literals, operands and tests there are: a string is a text, so a text without case is no literal
+
+abbrev pub is_literal : Value → Bool
+is_literal value.Null = true
+is_literal (value.Int z) = true
+is_literal (value.Text t) = true
+is_literal (value.NoCase t) = false
+
+abbrev pub is_operand : Operand → Bool
+is_operand (operand.Column n) = true
+is_operand (operand.Literal v) = is_literal v
+is_operand (operand.Aggregate a) = true
+
+abbrev pub is_test : Test → Bool
+is_test (Compare a o b) = is_operand a && is_operand b
+is_test (IsNull a) = is_operand a
+is_test (IsNotNull a) = is_operand a
+
+-- at least one, and each is a literal
+abbrev pub are_literals : List Value → Bool
+are_literals vs = some vs && list_all is_literal vs
+
+-- at least one, and each is a test
+abbrev pub are_tests : List Test → Bool
+are_tests tests = some tests && list_all is_test tests
 
 -- what a row of a table has, which is all but aggregates
 abbrev pub is_of_row : Operand → Bool

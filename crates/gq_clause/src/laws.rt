@@ -1,6 +1,7 @@
 //! Laws: reading and writing agree. What is read of a list was written as its items are, and items
 //! are read again as they are written, whatever follows them but what stands between two of them.
-//! Each is the contract of a function that does nothing.
+//! A text without case is no literal: what a string says is a text. Each law is the contract of a
+//! function that does nothing.
 ghost use Rattle.gq_clause.specs.Agreeing.{AggregatesAgree, LiteralsAgree, NamesAgree, TestsAgree};
 
 pub fn names_agree()

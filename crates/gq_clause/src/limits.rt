@@ -40,7 +40,7 @@ fn value_fits(value: &Value, most: usize) -> bool
     ensures { result ≡ list_all (is_at_most most) (literal_texts value.now) }
 {
     match value {
-        Value::Text(text) => text.len() <= most,
+        Value::Text(text) | Value::NoCase(text) => text.len() <= most,
         Value::Null | Value::Int(_) => true,
     }
 }

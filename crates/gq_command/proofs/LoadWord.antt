@@ -17,7 +17,8 @@ use Rattle.gq_command.specs.declared.command.Command.TheVariants.{Create, Drop, 
 use Rattle.gq_command.specs.declared.command.Payload.TheVariants as payload
 use Rattle.gq_command.specs.Commands.{Bytes, phrase, grammatical, keeps_rules}
 use Rattle.gq_command.specs.Lines.{Says}
-use Rattle.gq_command.proofs.Again.{both_true, opened}
+use Rattle.gq_clause.proofs.Sound.{both_true}
+use Rattle.gq_command.proofs.Again.{opened}
 
 load_word : (w : Bytes) → lower w ≡ codes "load" → word w ≡ Fixed terminal.Load
 unfolding word

@@ -1,6 +1,7 @@
 -- What is read is written so.
 use Rattle.std.proofs.Common.{◌≡◌, Bool, true, false, cond, List, [], ◌∷◌, ◌++◌, Option, Some, None, length, refl, sym, ap, ◌∙◌, append_assoc, ⊎_elim}
-use Rattle.std.specs.Prelude.{if◌then◌else◌, ◌&&◌}
+use Rattle.std.specs.Prelude.{if◌then◌else◌}
+use Rattle.std.specs.List.{list_all}
 use Rattle.std.proofs.lemmas.List.{append-nil}
 use Rattle.gq_token.specs.declared.token.Terminal.{Terminal}
 use Rattle.gq_token.specs.declared.token.Terminal.TheVariants as terminal
@@ -16,37 +17,42 @@ use Rattle.gq_row.specs.declared.schema.Column.{Column}
 use Rattle.gq_clause.specs.declared.aggregate.Aggregate.{Aggregate}
 use Rattle.gq_clause.specs.declared.condition.Test.{Test}
 use Rattle.gq_clause.specs.Reading.{name_at, names_at, literals_at, in_parentheses, clause_at, aggregates_at, tests_at}
-use Rattle.gq_clause.proofs.Sound.{same_is, some_is, bind_some, guard_some, pair_is, read_is, Sound, skip_sound, name_sound, chosen, items_sound, names_sound, literals_sound, enclosed, in_parentheses_sound, clause_sound, joined, aggregates_sound, tests_sound}
-use Rattle.gq_clause.specs.Words.{test_words}
-use Rattle.gq_command.specs.Commands.{Bytes, some, separated, parenthesized, name_words, names_words, kind_word, column_words, literals_words, aggregates_words, clause, tests_clause, key_words, not_words, exists_words, phrase, exists_filled, grammatical, keeps_rules, SaysTokens}
+use Rattle.gq_clause.proofs.Sound.{both, same_is, some_is, bind_some, guard_some, pair_is, read_is, Sound, skip_sound, name_sound, chosen, items_sound, names_sound, enclosed, in_parentheses_sound, joined, aggregates_sound}
+use Rattle.gq_clause.proofs.Valid.{literals_said, tests_clause_said}
+use Rattle.gq_command.specs.Commands.{Bytes, some, separated, parenthesized, name_words, names_words, kind_words, column_words, literals_words, aggregates_words, clause, tests_clause, is_test, are_literals, key_words, not_words, exists_words, by_words, phrase, exists_filled, columns_filled, grammatical, keeps_rules, SaysTokens}
+use Rattle.gq_command.specs.declared.command.By.{By}
 use Rattle.gq_command.specs.declared.command.Command.{Command}
 use Rattle.gq_command.specs.declared.command.Command.TheVariants.{Create, Drop, Load, Upsert, Delete, Show, Group, Distinct}
 use Rattle.gq_command.specs.declared.command.Exists.{Exists}
 use Rattle.gq_command.specs.declared.command.Payload.TheVariants as payload
-use Rattle.gq_command.specs.Reading.{kind_at, column_at, columns_at, key_at, row_at, create_at, exists_behind, with_exists, exists_at, conditions_behind, group_at, distinct_at, ended, form_behind, form_at, command_of}
+use Rattle.gq_command.specs.Reading.{text_behind, kind_at, column_at, columns_at, key_at, row_at, create_at, exists_behind, with_exists, exists_at, by_behind, by_at, conditions_behind, group_at, distinct_at, ended, form_behind, form_at, command_of}
 
-both : (a b : Bool) → a ≡ true → b ≡ true → a && b ≡ true
-both true true p q = refl
-both true false p q = absurd cc
-both false b p q = absurd cc
-
-kind_words : Kind → List Token
-kind_words k = Fixed (kind_word k) ∷ []
+-- the kind that begins with `text`
+text_sound : (ts : List Token) (x : Kind) (rest : List Token) → Some (text_behind ts) ≡ Some (x, rest) → Fixed terminal.Text ∷ ts ≡ kind_words x ++ rest
+unfolding text_behind
+text_sound ts x rest e =
+    let f : Option (List Token) → Kind × List Token = λ o. elim o [ None ↦ (kind.Text, ts) | Some after ↦ (kind.NoCase, after) ] in
+    let P : Option (List Token) → Type 0 = λ o. skip terminal.NoCase ts ≡ o → Some (f o) ≡ Some (x, rest) → Fixed terminal.Text ∷ ts ≡ kind_words x ++ rest in
+    let by_cases : (o : Option (List Token)) → P o = λ o. elim o as P [
+      | None ↦ λ is g. read_is kind_words kind.Text x ts rest g
+      | Some after ↦ λ is g. ap (λ (l : List Token). Fixed terminal.Text ∷ l) (skip_sound terminal.NoCase ts after is) ∙ read_is kind_words kind.NoCase x after rest g
+    ] in
+    by_cases (skip terminal.NoCase ts) refl e
 
 kind_sound : Sound kind_at kind_words
-unfolding kind_at kind_words
+unfolding kind_at
 kind_sound [] x rest e = absurd cc
 kind_sound (Fixed u ∷ ts) x rest e =
     ⊎_elim
     (λ g. ap (λ (v : Terminal). Fixed v ∷ ts) (same_is u terminal.Int g.0) ∙ read_is kind_words kind.Int x ts rest g.1)
-    (λ g. let h = guard_some (same u terminal.Text) (kind.Text, ts) (x, rest) g.1 in ap (λ (v : Terminal). Fixed v ∷ ts) (same_is u terminal.Text h.0) ∙ read_is kind_words kind.Text x ts rest (ap Some h.1))
-    (chosen (same u terminal.Int) (Some (kind.Int, ts)) (cond (same u terminal.Text) (Some (kind.Text, ts)) None) (Some (x, rest)) e)
+    (λ g. let h = guard_some (same u terminal.Text) (text_behind ts) (x, rest) g.1 in ap (λ (v : Terminal). Fixed v ∷ ts) (same_is u terminal.Text h.0) ∙ text_sound ts x rest (ap Some h.1))
+    (chosen (same u terminal.Int) (Some (kind.Int, ts)) (cond (same u terminal.Text) (Some (text_behind ts)) None) (Some (x, rest)) e)
 kind_sound (Name n ∷ ts) x rest e = absurd cc
 kind_sound (Number n ∷ ts) x rest e = absurd cc
 kind_sound (Text n ∷ ts) x rest e = absurd cc
 
 column_sound : Sound column_at column_words
-unfolding column_at kind_words
+unfolding column_at
 column_sound ts x rest e =
     let a = bind_some (name_at ts) (λ name. kind_at name.1 >>= λ kind. Some (record { name = name.0; kind = kind.0 }, kind.1)) (x, rest) e in
     let b = bind_some (kind_at a.0.1) (λ kind. Some (record { name = a.0.0; kind = kind.0 }, kind.1)) (x, rest) a.2 in
@@ -114,17 +120,17 @@ named_sound first form words always ts c rest e =
 row_words : Bytes × List Value → List Token
 row_words row = Name row.0 ∷ parenthesized (literals_words row.1)
 
-row_sound : (ts : List Token) (row : Bytes × List Value) (rest : List Token) → row_at ts ≡ Some (row, rest) → (ts ≡ row_words row ++ rest) × (some row.1 ≡ true)
+row_sound : (ts : List Token) (row : Bytes × List Value) (rest : List Token) → row_at ts ≡ Some (row, rest) → (ts ≡ row_words row ++ rest) × (are_literals row.1 ≡ true)
 unfolding row_at row_words
 row_sound ts row rest e =
     let a = bind_some (name_at ts) (λ table. in_parentheses literals_at table.1 >>= λ values. Some ((table.0, values.0), values.1)) (row, rest) e in
     let b = bind_some (in_parentheses literals_at a.0.1) (λ values. Some ((a.0.0, values.0), values.1)) (row, rest) a.2 in
     let p = pair_is (a.0.0, b.0.0) row b.0.1 rest b.2 in
-    let values = in_parentheses_sound literals_at literals_words (λ xs. some xs ≡ true) literals_sound a.0.1 b.0.0 b.0.1 b.1 in
-    (name_sound ts a.0.0 a.0.1 a.1 ∙ ap (λ (l : List Token). Name a.0.0 ∷ l) values.0 ∙ read_is row_words (a.0.0, b.0.0) row b.0.1 rest b.2, ap (λ (row : Bytes × List Value). some row.1) (sym p.0) ∙ values.1)
+    let values = in_parentheses_sound literals_at literals_words (λ xs. are_literals xs ≡ true) literals_said a.0.1 b.0.0 b.0.1 b.1 in
+    (name_sound ts a.0.0 a.0.1 a.1 ∙ ap (λ (l : List Token). Name a.0.0 ∷ l) values.0 ∙ read_is row_words (a.0.0, b.0.0) row b.0.1 rest b.2, ap (λ (row : Bytes × List Value). are_literals row.1) (sym p.0) ∙ values.1)
 
 -- a form with the literals of a row behind a table's name
-valued_sound : (first : Terminal) (form : Bytes → List Value → Command) → ((t : Bytes) (values : List Value) → phrase (form t values) ≡ Fixed first ∷ row_words (t, values)) → ((t : Bytes) (values : List Value) → grammatical (form t values) ≡ some values)
+valued_sound : (first : Terminal) (form : Bytes → List Value → Command) → ((t : Bytes) (values : List Value) → phrase (form t values) ≡ Fixed first ∷ row_words (t, values)) → ((t : Bytes) (values : List Value) → grammatical (form t values) ≡ are_literals values)
     → SoundForm first (λ ts. row_at ts >>= λ row. Some (form row.0.0 row.0.1, row.1))
 unfolding SoundForm
 valued_sound first form words filled ts c rest e =
@@ -192,20 +198,70 @@ exists_sound ts x rest e =
     ] in
     by_not (skip terminal.Not ts) refl e
 
+-- the columns of a `by` are written so
+clause_written : (columns : List Bytes) → some columns ≡ true → clause terminal.By terminal.Comma name_words columns ≡ Fixed terminal.By ∷ names_words columns
+clause_written [] h = absurd cc
+clause_written (n ∷ ns) h = refl
+
+-- a `by` that was read
+ByRead : List Token → By → List Token → Type 0
+ByRead before by rest = (before ≡ by_words by ++ rest) × (columns_filled by.rollup by.columns ≡ true)
+
+by_is : (before : List Token) (made by : By) (after rest : List Token) → ◌≡◌ {A = Option (By × List Token)} (Some (made, after)) (Some (by, rest)) → ByRead before made after → ByRead before by rest
+unfolding ByRead
+by_is before made by after rest e h = (h.0 ∙ read_is by_words made by after rest e, ap (λ (b : By). columns_filled b.rollup b.columns) (sym (pair_is made by after rest e).0) ∙ h.1)
+
+by_behind_sound : (ts : List Token) (by : By) (rest : List Token) → by_behind ts ≡ Some (by, rest) → ByRead (Fixed terminal.By ∷ ts) by rest
+unfolding by_behind ByRead
+by_behind_sound ts by rest e =
+    let f : Option (List Token) → Option (By × List Token) = λ o. elim o [
+      | None ↦ names_at ts >>= λ names. Some (record { columns = names.0; rollup = false }, names.1)
+      | Some after ↦ in_parentheses names_at after >>= λ names. Some (record { columns = names.0; rollup = true }, names.1)
+    ] in
+    let P : Option (List Token) → Type 0 = λ o. skip terminal.Rollup ts ≡ o → f o ≡ Some (by, rest) → ByRead (Fixed terminal.By ∷ ts) by rest in
+    let by_rollup : (o : Option (List Token)) → P o = λ o. elim o as P [
+      | None ↦ λ is g.
+          let a = bind_some (names_at ts) (λ names. Some (record { columns = names.0; rollup = false }, names.1)) (by, rest) g in
+          let b = names_sound ts a.0.0 a.0.1 a.1 in
+          let made : By = record { columns = a.0.0; rollup = false } in
+          let written : Fixed terminal.By ∷ ts ≡ by_words made ++ a.0.1 = ap (λ (l : List Token). Fixed terminal.By ∷ l) b.0 ∙ ap (λ (l : List Token). l ++ a.0.1) (sym (clause_written a.0.0 b.1)) in
+          by_is (Fixed terminal.By ∷ ts) made by a.0.1 rest a.2 (written, refl)
+      | Some after ↦ λ is g.
+          let a = bind_some (in_parentheses names_at after) (λ names. Some (record { columns = names.0; rollup = true }, names.1)) (by, rest) g in
+          let b = in_parentheses_sound names_at names_words (λ xs. some xs ≡ true) names_sound after a.0.0 a.0.1 a.1 in
+          let made : By = record { columns = a.0.0; rollup = true } in
+          let written : Fixed terminal.By ∷ ts ≡ by_words made ++ a.0.1 = ap (λ (l : List Token). Fixed terminal.By ∷ l) (skip_sound terminal.Rollup ts after is ∙ ap (λ (l : List Token). Fixed terminal.Rollup ∷ l) b.0) in
+          by_is (Fixed terminal.By ∷ ts) made by a.0.1 rest a.2 (written, b.1)
+    ] in
+    by_rollup (skip terminal.Rollup ts) refl e
+
+by_sound : (ts : List Token) (by : By) (rest : List Token) → by_at ts ≡ Some (by, rest) → (ts ≡ by_words by ++ rest) × (columns_filled by.rollup by.columns ≡ true)
+unfolding by_at ByRead
+by_sound ts by rest e =
+    let f : Option (List Token) → Option (By × List Token) = λ o. elim o [ None ↦ Some (record { columns = []; rollup = false }, ts) | Some after ↦ by_behind after ] in
+    let P : Option (List Token) → Type 0 = λ o. skip terminal.By ts ≡ o → f o ≡ Some (by, rest) → ByRead ts by rest in
+    let by_led : (o : Option (List Token)) → P o = λ o. elim o as P [
+      | None ↦ λ is g. by_is ts (record { columns = []; rollup = false }) by ts rest g (refl, refl)
+      | Some after ↦ λ is g. let b = by_behind_sound after by rest g in (skip_sound terminal.By ts after is ∙ b.0, b.1)
+    ] in
+    by_led (skip terminal.By ts) refl e
+
 -- several pieces, one behind the other
 pieces : (a b d f g rest : List Token) → a ++ (b ++ (d ++ (f ++ (g ++ rest)))) ≡ (a ++ (b ++ (d ++ (f ++ g)))) ++ rest
 pieces a b d f g rest = simp append_assoc
 
 -- the conditions that were read, and the grouping with them
-record Conditions (table : Bytes) (by : List Bytes) (shown : List Aggregate) (ts : List Token) (c : Command) (rest : List Token) : Type 0 where
+record Conditions (table : Bytes) (by : By) (shown : List Aggregate) (ts : List Token) (c : Command) (rest : List Token) : Type 0 where
   tests : List Test
   exists : Option Exists
   having : List Test
   is : c ≡ Group table by shown tests exists having
   written : ts ≡ tests_clause terminal.Where tests ++ (exists_words exists ++ (tests_clause terminal.Having having ++ rest))
   filled : exists_filled exists ≡ true
+  tested : list_all is_test tests ≡ true
+  tested_having : list_all is_test having ≡ true
 
-conditions_sound : (table : Bytes) (by : List Bytes) (shown : List Aggregate) (ts : List Token) (c : Command) (rest : List Token) → conditions_behind table by shown ts ≡ Some (c, rest) → Conditions table by shown ts c rest
+conditions_sound : (table : Bytes) (by : By) (shown : List Aggregate) (ts : List Token) (c : Command) (rest : List Token) → conditions_behind table by shown ts ≡ Some (c, rest) → Conditions table by shown ts c rest
 unfolding conditions_behind
 conditions_sound table by shown ts c rest e =
     let where_read = bind_some (clause_at terminal.Where tests_at ts) (λ w. exists_at w.1 >>= λ x. clause_at terminal.Having tests_at x.1 >>= λ h. Some (Group table by shown w.0 x.0 h.0, h.1)) (c, rest) e in
@@ -213,27 +269,29 @@ conditions_sound table by shown ts c rest e =
     let having_read = bind_some (clause_at terminal.Having tests_at exists_read.0.1) (λ h. Some (Group table by shown where_read.0.0 exists_read.0.0 h.0, h.1)) (c, rest) exists_read.2 in
     let p = pair_is (Group table by shown where_read.0.0 exists_read.0.0 having_read.0.0) c having_read.0.1 rest having_read.2 in
     let found = exists_sound where_read.0.1 exists_read.0.0 exists_read.0.1 exists_read.1 in
-    let first : ts ≡ tests_clause terminal.Where where_read.0.0 ++ where_read.0.1 = clause_sound terminal.Where terminal.And tests_at test_words tests_sound ts where_read.0.0 where_read.0.1 where_read.1 in
-    let last : exists_read.0.1 ≡ tests_clause terminal.Having having_read.0.0 ++ rest =
-    clause_sound terminal.Having terminal.And tests_at test_words tests_sound exists_read.0.1 having_read.0.0 having_read.0.1 having_read.1 ∙ ap (λ (l : List Token). tests_clause terminal.Having having_read.0.0 ++ l) p.1 in
+    let first = tests_clause_said terminal.Where ts where_read.0.0 where_read.0.1 where_read.1 in
+    let said = tests_clause_said terminal.Having exists_read.0.1 having_read.0.0 having_read.0.1 having_read.1 in
+    let last : exists_read.0.1 ≡ tests_clause terminal.Having having_read.0.0 ++ rest = said.0 ∙ ap (λ (l : List Token). tests_clause terminal.Having having_read.0.0 ++ l) p.1 in
     record {
       tests = where_read.0.0;
       exists = exists_read.0.0;
       having = having_read.0.0;
       is = sym p.0;
-      written = one_after (tests_clause terminal.Where where_read.0.0) (exists_words exists_read.0.0) ts where_read.0.1 exists_read.0.1 (tests_clause terminal.Having having_read.0.0 ++ rest) first found.0 last;
+      written = one_after (tests_clause terminal.Where where_read.0.0) (exists_words exists_read.0.0) ts where_read.0.1 exists_read.0.1 (tests_clause terminal.Having having_read.0.0 ++ rest) first.0 found.0 last;
       filled = found.1;
+      tested = first.1;
+      tested_having = said.1;
     }
   where
     one_after : (front back ts middle after rest : List Token) → ts ≡ front ++ middle → middle ≡ back ++ after → after ≡ rest → ts ≡ front ++ (back ++ rest)
     one_after front back ts middle after rest a b d = a ∙ ap (λ (l : List Token). front ++ l) (b ∙ ap (λ (l : List Token). back ++ l) d)
 
-group_written : (t : Bytes) (by : List Bytes) (shown : List Aggregate) (tests : List Test) (exists : Option Exists) (having : List Test) (ts named grouped showing told rest : List Token)
-    → ts ≡ Name t ∷ named → named ≡ clause terminal.By terminal.Comma name_words by ++ grouped → grouped ≡ Fixed terminal.Show ∷ showing → showing ≡ aggregates_words shown ++ told
+group_written : (t : Bytes) (by : By) (shown : List Aggregate) (tests : List Test) (exists : Option Exists) (having : List Test) (ts named grouped showing told rest : List Token)
+    → ts ≡ Name t ∷ named → named ≡ by_words by ++ grouped → grouped ≡ Fixed terminal.Show ∷ showing → showing ≡ aggregates_words shown ++ told
     → told ≡ tests_clause terminal.Where tests ++ (exists_words exists ++ (tests_clause terminal.Having having ++ rest)) → Fixed terminal.Group ∷ ts ≡ phrase (Group t by shown tests exists having) ++ rest
 unfolding phrase
 group_written t by shown tests exists having ts named grouped showing told rest a b d f g =
-    let front : List Token = clause terminal.By terminal.Comma name_words by in
+    let front : List Token = by_words by in
     let list : List Token = Fixed terminal.Show ∷ aggregates_words shown in
     let conditions : List Token = tests_clause terminal.Where tests ++ (exists_words exists ++ (tests_clause terminal.Having having ++ rest)) in
     let tail : grouped ≡ list ++ conditions = d ∙ ap (λ (l : List Token). Fixed terminal.Show ∷ l) (f ∙ ap (λ (l : List Token). aggregates_words shown ++ l) g) in
@@ -243,21 +301,21 @@ group_written t by shown tests exists having ts named grouped showing told rest 
 group_sound : SoundForm terminal.Group group_at
 unfolding group_at SoundForm
 group_sound ts c rest e =
-    let named = bind_some (name_at ts) (λ t. clause_at terminal.By names_at t.1 >>= λ b. skip terminal.Show b.1 >>= λ s. aggregates_at s >>= λ a. conditions_behind t.0 b.0 a.0 a.1) (c, rest) e in
-    let grouped = bind_some (clause_at terminal.By names_at named.0.1) (λ b. skip terminal.Show b.1 >>= λ s. aggregates_at s >>= λ a. conditions_behind named.0.0 b.0 a.0 a.1) (c, rest) named.2 in
+    let named = bind_some (name_at ts) (λ t. by_at t.1 >>= λ b. skip terminal.Show b.1 >>= λ s. aggregates_at s >>= λ a. conditions_behind t.0 b.0 a.0 a.1) (c, rest) e in
+    let grouped = bind_some (by_at named.0.1) (λ b. skip terminal.Show b.1 >>= λ s. aggregates_at s >>= λ a. conditions_behind named.0.0 b.0 a.0 a.1) (c, rest) named.2 in
     let showing = bind_some (skip terminal.Show grouped.0.1) (λ s. aggregates_at s >>= λ a. conditions_behind named.0.0 grouped.0.0 a.0 a.1) (c, rest) grouped.2 in
     let told = bind_some (aggregates_at showing.0) (λ a. conditions_behind named.0.0 grouped.0.0 a.0 a.1) (c, rest) showing.2 in
     let k = conditions_sound named.0.0 grouped.0.0 told.0.0 told.0.1 c rest told.2 in
     let shown = aggregates_sound showing.0 told.0.0 told.0.1 told.1 in
-    let by = clause_sound terminal.By terminal.Comma names_at name_words names_sound named.0.1 grouped.0.0 grouped.0.1 grouped.1 in
+    let by = by_sound named.0.1 grouped.0.0 grouped.0.1 grouped.1 in
     group_told named.0.0 grouped.0.0 told.0.0 k.tests k.exists k.having c ts rest
-    (group_written named.0.0 grouped.0.0 told.0.0 k.tests k.exists k.having ts named.0.1 grouped.0.1 showing.0 told.0.1 rest (name_sound ts named.0.0 named.0.1 named.1) by (skip_sound terminal.Show grouped.0.1 showing.0 showing.1) shown.0 k.written)
-    shown.1 k.filled k.is
+    (group_written named.0.0 grouped.0.0 told.0.0 k.tests k.exists k.having ts named.0.1 grouped.0.1 showing.0 told.0.1 rest (name_sound ts named.0.0 named.0.1 named.1) by.0 (skip_sound terminal.Show grouped.0.1 showing.0 showing.1) shown.0 k.written)
+    (both (columns_filled grouped.0.0.rollup grouped.0.0.columns) _ by.1 (both (some told.0.0) _ shown.1 (both (exists_filled k.exists) _ k.filled (both (list_all is_test k.tests) (list_all is_test k.having) k.tested k.tested_having)))) k.is
   where
-    group_told : (t : Bytes) (by : List Bytes) (shown : List Aggregate) (tests : List Test) (exists : Option Exists) (having : List Test) (c : Command) (ts rest : List Token)
-        → Fixed terminal.Group ∷ ts ≡ phrase (Group t by shown tests exists having) ++ rest → some shown ≡ true → exists_filled exists ≡ true → c ≡ Group t by shown tests exists having
+    group_told : (t : Bytes) (by : By) (shown : List Aggregate) (tests : List Test) (exists : Option Exists) (having : List Test) (c : Command) (ts rest : List Token)
+        → Fixed terminal.Group ∷ ts ≡ phrase (Group t by shown tests exists having) ++ rest → grammatical (Group t by shown tests exists having) ≡ true → c ≡ Group t by shown tests exists having
         → (Fixed terminal.Group ∷ ts ≡ phrase c ++ rest) × (grammatical c ≡ true)
-    group_told t by shown tests exists having c ts rest written filled paired is = (written ∙ ap (λ (v : Command). phrase v ++ rest) (sym is), ap grammatical is ∙ both (some shown) (exists_filled exists) filled paired)
+    group_told t by shown tests exists having c ts rest written valid is = (written ∙ ap (λ (v : Command). phrase v ++ rest) (sym is), ap grammatical is ∙ valid)
 
 distinct_sound : SoundForm terminal.Distinct distinct_at
 unfolding distinct_at SoundForm phrase
@@ -269,11 +327,11 @@ distinct_sound ts c rest e =
     let p = pair_is (Distinct named.0.0 listed.0.0 tested.0.0) c tested.0.1 rest tested.2 in
     let where_ : List Token = tests_clause terminal.Where tested.0.0 in
     let names = names_sound on_read.0 listed.0.0 listed.0.1 listed.1 in
-    let inner : on_read.0 ≡ (names_words listed.0.0 ++ where_) ++ tested.0.1 =
-    joined (names_words listed.0.0) where_ on_read.0 listed.0.1 tested.0.1 names.0 (clause_sound terminal.Where terminal.And tests_at test_words tests_sound listed.0.1 tested.0.0 tested.0.1 tested.1) in
+    let tests = tests_clause_said terminal.Where listed.0.1 tested.0.0 tested.0.1 tested.1 in
+    let inner : on_read.0 ≡ (names_words listed.0.0 ++ where_) ++ tested.0.1 = joined (names_words listed.0.0) where_ on_read.0 listed.0.1 tested.0.1 names.0 tests.0 in
     let worded : Fixed terminal.Distinct ∷ ts ≡ phrase (Distinct named.0.0 listed.0.0 tested.0.0) ++ tested.0.1 =
     ap (λ (l : List Token). Fixed terminal.Distinct ∷ l) (name_sound ts named.0.0 named.0.1 named.1 ∙ ap (λ (l : List Token). Name named.0.0 ∷ l) (skip_sound terminal.On named.0.1 on_read.0 on_read.1 ∙ ap (λ (l : List Token). Fixed terminal.On ∷ l) inner)) in
-    (worded ∙ ap (λ (v : Command). phrase v ++ tested.0.1) p.0 ∙ ap (λ (l : List Token). phrase c ++ l) p.1, ap grammatical (sym p.0) ∙ names.1)
+    (worded ∙ ap (λ (v : Command). phrase v ++ tested.0.1) p.0 ∙ ap (λ (l : List Token). phrase c ++ l) p.1, ap grammatical (sym p.0) ∙ both (some listed.0.0) (list_all is_test tested.0.0) names.1 tests.1)
 
 behind_sound : (first : Terminal) → SoundForm first (form_behind first)
 unfolding form_behind SoundForm phrase row_words

@@ -2,7 +2,7 @@
 use Rattle.std.proofs.Common.{◌≡◌, ℕ, zero, suc, ◌<◌, Bool, true, false, cond, List, [], ◌∷◌, ◌++◌, Option, Some, None, refl, ap, ◌∙◌, arith}
 use Rattle.std.proofs.lemmas.Bool.{ltb-true}
 use Rattle.std.proofs.lemmas.Str.{IsUtf8-from_ascii, is_utf8-from_IsUtf8}
-use Rattle.std.specs.Prelude.{codes, nat_lt, pos, neg_ℤ}
+use Rattle.std.specs.Prelude.{codes, nat_lt, pos, replicate, neg_ℤ}
 use Rattle.std.specs.List.{list_all, slice_index}
 use Rattle.gq_row.specs.Limits.{GREATEST}
 use Rattle.gq_row.specs.declared.schema.Kind.TheVariants as kind
@@ -21,12 +21,13 @@ use Rattle.gq_command.specs.declared.command.Payload.TheVariants as payload
 use Rattle.gq_command.specs.declared.reader.Item.TheVariants as item
 use Rattle.gq_command.specs.Commands.{Bytes, phrase, is_command, fits}
 use Rattle.gq_command.specs.Items.{ReadsAs}
-use Rattle.gq_command.specs.Reading.{command_of, form_at, form_behind, group_at, conditions_behind, distinct_at, exists_at, exists_behind, row_at, ended}
+use Rattle.gq_command.specs.Reading.{command_of, form_at, form_behind, create_at, column_at, kind_at, text_behind, key_at, by_behind, by_at, group_at, conditions_behind, distinct_at, exists_at, exists_behind, row_at, ended}
 use Rattle.gq_token.specs.Lexing.{tokens, lexed, tokens_within, token_at, word_at, word, sign_at, digits_at, name_in_quotes, text_in_quotes}
 use Rattle.gq_command.specs.Lines.{Says}
 use Rattle.gq_script.specs.Script.{Plain, Loading, items, entries_by}
+use Rattle.gq_token.specs.Queue.{column_comma}
 use Rattle.gq_token.specs.Results.{◌>>=◌}
-use Rattle.gq_command.proofs.Again.{both_true}
+use Rattle.gq_clause.proofs.Sound.{both_true}
 use Rattle.gq_command.proofs.Line.{none_said}
 
 -- a line of ASCII is text, so its tokens are computed
@@ -56,6 +57,10 @@ no_key : Says (codes "Create l(a INT)") (Create (codes "l") (record { name = cod
 unfolding phrase lexed tokens_within token_at word_at word sign_at digits_at name_in_quotes text_in_quotes
 no_key = said (codes "Create l(a INT)") _ refl refl refl
 
+without_case : Says (codes "create p (c Text NoCase, d text, key (c))") (Create (codes "p") (record { name = codes "c"; kind = kind.NoCase } ∷ record { name = codes "d"; kind = kind.Text } ∷ []) (codes "c" ∷ []))
+unfolding phrase lexed tokens_within token_at word_at word sign_at digits_at name_in_quotes text_in_quotes
+without_case = said (codes "create p (c Text NoCase, d text, key (c))") _ refl refl refl
+
 upsert_line : Says (codes "upsert s (1, 'Oslo')") (Upsert (codes "s") (value.Int (pos 1) ∷ value.Text (codes "Oslo") ∷ []))
 unfolding phrase lexed tokens_within token_at word_at word sign_at digits_at name_in_quotes text_in_quotes
 upsert_line = said (codes "upsert s (1, 'Oslo')") _ refl refl refl
@@ -68,27 +73,31 @@ empty_text : Says (codes "upsert t (4, '')") (Upsert (codes "t") (value.Int (pos
 unfolding phrase lexed tokens_within token_at word_at word sign_at digits_at name_in_quotes text_in_quotes
 empty_text = said (codes "upsert t (4, '')") _ refl refl refl
 
-group_line : Says (codes "group s by city show count(*)") (Group (codes "s") (codes "city" ∷ []) (CountAll ∷ []) [] None [])
+group_line : Says (codes "group s by city show count(*)") (Group (codes "s") (record { columns = codes "city" ∷ []; rollup = false }) (CountAll ∷ []) [] None [])
 unfolding phrase lexed tokens_within token_at word_at word sign_at digits_at name_in_quotes text_in_quotes
 group_line = said (codes "group s by city show count(*)") _ refl refl refl
 
-each_aggregate : Says (codes "group s by city show count(*), count(id), count(distinct id), sum(id), min(id), max(id)") (Group (codes "s") (codes "city" ∷ []) (CountAll ∷ Count (codes "id") ∷ CountDistinct (codes "id") ∷ Sum (codes "id") ∷ Min (codes "id") ∷ Max (codes "id") ∷ []) [] None [])
+each_aggregate : Says (codes "group s by city show count(*), count(id), count(distinct id), sum(id), min(id), max(id)") (Group (codes "s") (record { columns = codes "city" ∷ []; rollup = false }) (CountAll ∷ Count (codes "id") ∷ CountDistinct (codes "id") ∷ Sum (codes "id") ∷ Min (codes "id") ∷ Max (codes "id") ∷ []) [] None [])
 unfolding phrase lexed tokens_within token_at word_at word sign_at digits_at name_in_quotes text_in_quotes
 each_aggregate = said (codes "group s by city show count(*), count(id), count(distinct id), sum(id), min(id), max(id)") _ refl refl refl
 
-whole_table : Says (codes "group s show sum(id)") (Group (codes "s") [] (Sum (codes "id") ∷ []) [] None [])
+whole_table : Says (codes "group s show sum(id)") (Group (codes "s") (record { columns = []; rollup = false }) (Sum (codes "id") ∷ []) [] None [])
 unfolding phrase lexed tokens_within token_at word_at word sign_at digits_at name_in_quotes text_in_quotes
 whole_table = said (codes "group s show sum(id)") _ refl refl refl
 
-repeated_aggregate : Says (codes "GROUP s SHOW Max(id), MAX(id)") (Group (codes "s") [] (Max (codes "id") ∷ Max (codes "id") ∷ []) [] None [])
+repeated_aggregate : Says (codes "GROUP s SHOW Max(id), MAX(id)") (Group (codes "s") (record { columns = []; rollup = false }) (Max (codes "id") ∷ Max (codes "id") ∷ []) [] None [])
 unfolding phrase lexed tokens_within token_at word_at word sign_at digits_at name_in_quotes text_in_quotes
 repeated_aggregate = said (codes "GROUP s SHOW Max(id), MAX(id)") _ refl refl refl
 
-conditions : Says (codes "group a by n show count(*) where x > 3 and city is not null not exists u (k) = (k) having sum(x) <= 0") (Group (codes "a") (codes "n" ∷ []) (CountAll ∷ []) (Compare (operand.Column (codes "x")) comparison.Greater (operand.Literal (value.Int (pos 3))) ∷ IsNotNull (operand.Column (codes "city")) ∷ []) (Some (record { negated = true; table = codes "u"; theirs = codes "k" ∷ []; ours = codes "k" ∷ [] })) (Compare (operand.Aggregate (Sum (codes "x"))) comparison.LessEqual (operand.Literal (value.Int (pos 0))) ∷ []))
+rolled_up : Says (codes "group t by rollup (a, b) show count(*)") (Group (codes "t") (record { columns = codes "a" ∷ codes "b" ∷ []; rollup = true }) (CountAll ∷ []) [] None [])
+unfolding phrase lexed tokens_within token_at word_at word sign_at digits_at name_in_quotes text_in_quotes
+rolled_up = said (codes "group t by rollup (a, b) show count(*)") _ refl refl refl
+
+conditions : Says (codes "group a by n show count(*) where x > 3 and city is not null not exists u (k) = (k) having sum(x) <= 0") (Group (codes "a") (record { columns = codes "n" ∷ []; rollup = false }) (CountAll ∷ []) (Compare (operand.Column (codes "x")) comparison.Greater (operand.Literal (value.Int (pos 3))) ∷ IsNotNull (operand.Column (codes "city")) ∷ []) (Some (record { negated = true; table = codes "u"; theirs = codes "k" ∷ []; ours = codes "k" ∷ [] })) (Compare (operand.Aggregate (Sum (codes "x"))) comparison.LessEqual (operand.Literal (value.Int (pos 0))) ∷ []))
 unfolding phrase lexed tokens_within token_at word_at word sign_at digits_at name_in_quotes text_in_quotes
 conditions = said (codes "group a by n show count(*) where x > 3 and city is not null not exists u (k) = (k) having sum(x) <= 0") _ refl refl refl
 
-exists_alone : Says (codes "group a show count(*) exists u (c2, d2) = (c1, d1)") (Group (codes "a") [] (CountAll ∷ []) [] (Some (record { negated = false; table = codes "u"; theirs = codes "c2" ∷ codes "d2" ∷ []; ours = codes "c1" ∷ codes "d1" ∷ [] })) [])
+exists_alone : Says (codes "group a show count(*) exists u (c2, d2) = (c1, d1)") (Group (codes "a") (record { columns = []; rollup = false }) (CountAll ∷ []) [] (Some (record { negated = false; table = codes "u"; theirs = codes "c2" ∷ codes "d2" ∷ []; ours = codes "c1" ∷ codes "d1" ∷ [] })) [])
 unfolding phrase lexed tokens_within token_at word_at word sign_at digits_at name_in_quotes text_in_quotes
 exists_alone = said (codes "group a show count(*) exists u (c2, d2) = (c1, d1)") _ refl refl refl
 
@@ -121,6 +130,19 @@ show_line = said (codes "show s") _ refl refl refl
 unsaid : (line : Bytes) (ts : List Token) → is_ascii line ≡ true → lexed line ≡ Some ts → command_of ts ≡ None → (c : Command) → Says line c → ⊥
 unsaid line ts plain e none = none_said line (ap (λ (o : Option (List Token)). o >>= command_of) (cut line (Some ts) plain e) ∙ none)
 
+number_without_case : (c : Command) → Says (codes "create p (c int nocase)") c → ⊥
+unfolding lexed tokens_within token_at word_at word sign_at digits_at name_in_quotes text_in_quotes command_of form_at form_behind create_at column_at kind_at key_at name_at items_within column_comma ended
+number_without_case = unsaid (codes "create p (c int nocase)") _ refl refl refl
+
+kind_without_case_alone : (c : Command) → Says (codes "create p (c nocase)") c → ⊥
+unfolding lexed tokens_within token_at word_at word sign_at digits_at name_in_quotes text_in_quotes command_of form_at form_behind create_at column_at kind_at key_at name_at items_within column_comma ended
+kind_without_case_alone = unsaid (codes "create p (c nocase)") _ refl refl refl
+
+-- a column's kind is one of these words, and a name is none
+text_of_a_name : (c : Command) → Says (codes "create p (c text folded)") c → ⊥
+unfolding lexed tokens_within token_at word_at word sign_at digits_at name_in_quotes text_in_quotes command_of form_at form_behind create_at column_at kind_at text_behind key_at name_at items_within column_comma ended
+text_of_a_name = unsaid (codes "create p (c text folded)") _ refl refl refl
+
 no_name_shown : (c : Command) → Says (codes "show") c → ⊥
 unfolding lexed tokens_within token_at word_at word sign_at digits_at name_in_quotes text_in_quotes command_of form_at form_behind name_at row_at in_parentheses items_within literal_at ended
 no_name_shown = unsaid (codes "show") _ refl refl refl
@@ -150,83 +172,95 @@ unfolding lexed tokens_within token_at word_at word sign_at digits_at name_in_qu
 values_shown = unsaid (codes "show s (1)") _ refl refl refl
 
 nothing_shown : (c : Command) → Says (codes "group s by a show") c → ⊥
-unfolding lexed tokens_within token_at word_at word sign_at digits_at name_in_quotes text_in_quotes command_of form_at form_behind group_at conditions_behind exists_at clause_at aggregate_at aggregate_behind aggregate_within counted_at name_at in_parentheses items_within ended
+unfolding lexed tokens_within token_at word_at word sign_at digits_at name_in_quotes text_in_quotes command_of form_at form_behind group_at by_at by_behind conditions_behind exists_at clause_at aggregate_at aggregate_behind aggregate_within counted_at name_at in_parentheses items_within ended
 nothing_shown = unsaid (codes "group s by a show") _ refl refl refl
 
 nothing_counted : (c : Command) → Says (codes "group s show count()") c → ⊥
-unfolding lexed tokens_within token_at word_at word sign_at digits_at name_in_quotes text_in_quotes command_of form_at form_behind group_at conditions_behind exists_at clause_at aggregate_at aggregate_behind aggregate_within counted_at name_at in_parentheses items_within ended
+unfolding lexed tokens_within token_at word_at word sign_at digits_at name_in_quotes text_in_quotes command_of form_at form_behind group_at by_at by_behind conditions_behind exists_at clause_at aggregate_at aggregate_behind aggregate_within counted_at name_at in_parentheses items_within ended
 nothing_counted = unsaid (codes "group s show count()") _ refl refl refl
 
 rows_summed : (c : Command) → Says (codes "group s show sum(*)") c → ⊥
-unfolding lexed tokens_within token_at word_at word sign_at digits_at name_in_quotes text_in_quotes command_of form_at form_behind group_at conditions_behind exists_at clause_at aggregate_at aggregate_behind aggregate_within counted_at name_at in_parentheses items_within ended
+unfolding lexed tokens_within token_at word_at word sign_at digits_at name_in_quotes text_in_quotes command_of form_at form_behind group_at by_at by_behind conditions_behind exists_at clause_at aggregate_at aggregate_behind aggregate_within counted_at name_at in_parentheses items_within ended
 rows_summed = unsaid (codes "group s show sum(*)") _ refl refl refl
 
 different_summed : (c : Command) → Says (codes "group s show sum(distinct a)") c → ⊥
-unfolding lexed tokens_within token_at word_at word sign_at digits_at name_in_quotes text_in_quotes command_of form_at form_behind group_at conditions_behind exists_at clause_at aggregate_at aggregate_behind aggregate_within counted_at name_at in_parentheses items_within ended
+unfolding lexed tokens_within token_at word_at word sign_at digits_at name_in_quotes text_in_quotes command_of form_at form_behind group_at by_at by_behind conditions_behind exists_at clause_at aggregate_at aggregate_behind aggregate_within counted_at name_at in_parentheses items_within ended
 different_summed = unsaid (codes "group s show sum(distinct a)") _ refl refl refl
 
 comma_at_the_end : (c : Command) → Says (codes "group s show count(*),") c → ⊥
-unfolding lexed tokens_within token_at word_at word sign_at digits_at name_in_quotes text_in_quotes command_of form_at form_behind group_at conditions_behind exists_at clause_at aggregate_at aggregate_behind aggregate_within counted_at name_at in_parentheses items_within ended
+unfolding lexed tokens_within token_at word_at word sign_at digits_at name_in_quotes text_in_quotes command_of form_at form_behind group_at by_at by_behind conditions_behind exists_at clause_at aggregate_at aggregate_behind aggregate_within counted_at name_at in_parentheses items_within ended
 comma_at_the_end = unsaid (codes "group s show count(*),") _ refl refl refl
 
 no_columns_behind_by : (c : Command) → Says (codes "group s by show count(*)") c → ⊥
-unfolding lexed tokens_within token_at word_at word sign_at digits_at name_in_quotes text_in_quotes command_of form_at form_behind group_at conditions_behind exists_at clause_at aggregate_at aggregate_behind aggregate_within counted_at name_at in_parentheses items_within ended
+unfolding lexed tokens_within token_at word_at word sign_at digits_at name_in_quotes text_in_quotes command_of form_at form_behind group_at by_at by_behind conditions_behind exists_at clause_at aggregate_at aggregate_behind aggregate_within counted_at name_at in_parentheses items_within ended
 no_columns_behind_by = unsaid (codes "group s by show count(*)") _ refl refl refl
 
 column_twice_behind_by : (c : Command) → Says (codes "group s by a, a show count(*)") c → ⊥
-unfolding lexed tokens_within token_at word_at word sign_at digits_at name_in_quotes text_in_quotes command_of form_at form_behind group_at conditions_behind exists_at clause_at aggregate_at aggregate_behind aggregate_within counted_at name_at in_parentheses items_within ended
+unfolding lexed tokens_within token_at word_at word sign_at digits_at name_in_quotes text_in_quotes command_of form_at form_behind group_at by_at by_behind conditions_behind exists_at clause_at aggregate_at aggregate_behind aggregate_within counted_at name_at in_parentheses items_within ended
 column_twice_behind_by = unsaid (codes "group s by a, a show count(*)") _ refl refl refl
 
+nothing_rolled_up : (c : Command) → Says (codes "group t by rollup () show count(*)") c → ⊥
+unfolding lexed tokens_within token_at word_at word sign_at digits_at name_in_quotes text_in_quotes command_of form_at form_behind group_at by_at by_behind conditions_behind exists_at clause_at aggregate_at aggregate_behind aggregate_within counted_at name_at in_parentheses items_within ended
+nothing_rolled_up = unsaid (codes "group t by rollup () show count(*)") _ refl refl refl
+
+rollup_without_parentheses : (c : Command) → Says (codes "group t by rollup a show count(*)") c → ⊥
+unfolding lexed tokens_within token_at word_at word sign_at digits_at name_in_quotes text_in_quotes command_of form_at form_behind group_at by_at by_behind conditions_behind exists_at clause_at aggregate_at aggregate_behind aggregate_within counted_at name_at in_parentheses items_within ended
+rollup_without_parentheses = unsaid (codes "group t by rollup a show count(*)") _ refl refl refl
+
+column_twice_in_a_rollup : (c : Command) → Says (codes "group t by rollup (a, a) show count(*)") c → ⊥
+unfolding lexed tokens_within token_at word_at word sign_at digits_at name_in_quotes text_in_quotes command_of form_at form_behind group_at by_at by_behind conditions_behind exists_at clause_at aggregate_at aggregate_behind aggregate_within counted_at name_at in_parentheses items_within ended
+column_twice_in_a_rollup = unsaid (codes "group t by rollup (a, a) show count(*)") _ refl refl refl
+
 aggregate_where : (c : Command) → Says (codes "group s show count(*) where sum(a) > 0") c → ⊥
-unfolding lexed tokens_within token_at word_at word sign_at digits_at name_in_quotes text_in_quotes command_of form_at form_behind group_at conditions_behind distinct_at exists_at exists_behind clause_at aggregate_at aggregate_behind aggregate_within counted_at operand_at comparison_at null_test_behind test_at name_at in_parentheses items_within ended
+unfolding lexed tokens_within token_at word_at word sign_at digits_at name_in_quotes text_in_quotes command_of form_at form_behind group_at by_at by_behind conditions_behind distinct_at exists_at exists_behind clause_at aggregate_at aggregate_behind aggregate_within counted_at operand_at comparison_at null_test_behind test_at name_at in_parentheses items_within ended
 aggregate_where = unsaid (codes "group s show count(*) where sum(a) > 0") _ refl refl refl
 
 aggregate_in_distinct : (c : Command) → Says (codes "distinct s on a where count(*) = 1") c → ⊥
-unfolding lexed tokens_within token_at word_at word sign_at digits_at name_in_quotes text_in_quotes command_of form_at form_behind group_at conditions_behind distinct_at exists_at exists_behind clause_at aggregate_at aggregate_behind aggregate_within counted_at operand_at comparison_at null_test_behind test_at name_at in_parentheses items_within ended
+unfolding lexed tokens_within token_at word_at word sign_at digits_at name_in_quotes text_in_quotes command_of form_at form_behind group_at by_at by_behind conditions_behind distinct_at exists_at exists_behind clause_at aggregate_at aggregate_behind aggregate_within counted_at operand_at comparison_at null_test_behind test_at name_at in_parentheses items_within ended
 aggregate_in_distinct = unsaid (codes "distinct s on a where count(*) = 1") _ refl refl refl
 
 lists_of_two_lengths : (c : Command) → Says (codes "group s show count(*) exists u (a, b) = (c)") c → ⊥
-unfolding lexed tokens_within token_at word_at word sign_at digits_at name_in_quotes text_in_quotes command_of form_at form_behind group_at conditions_behind distinct_at exists_at exists_behind clause_at aggregate_at aggregate_behind aggregate_within counted_at operand_at comparison_at null_test_behind test_at name_at in_parentheses items_within ended
+unfolding lexed tokens_within token_at word_at word sign_at digits_at name_in_quotes text_in_quotes command_of form_at form_behind group_at by_at by_behind conditions_behind distinct_at exists_at exists_behind clause_at aggregate_at aggregate_behind aggregate_within counted_at operand_at comparison_at null_test_behind test_at name_at in_parentheses items_within ended
 lists_of_two_lengths = unsaid (codes "group s show count(*) exists u (a, b) = (c)") _ refl refl refl
 
 nothing_in_exists : (c : Command) → Says (codes "group s show count(*) exists u () = ()") c → ⊥
-unfolding lexed tokens_within token_at word_at word sign_at digits_at name_in_quotes text_in_quotes command_of form_at form_behind group_at conditions_behind distinct_at exists_at exists_behind clause_at aggregate_at aggregate_behind aggregate_within counted_at operand_at comparison_at null_test_behind test_at name_at in_parentheses items_within ended
+unfolding lexed tokens_within token_at word_at word sign_at digits_at name_in_quotes text_in_quotes command_of form_at form_behind group_at by_at by_behind conditions_behind distinct_at exists_at exists_behind clause_at aggregate_at aggregate_behind aggregate_within counted_at operand_at comparison_at null_test_behind test_at name_at in_parentheses items_within ended
 nothing_in_exists = unsaid (codes "group s show count(*) exists u () = ()") _ refl refl refl
 
 column_twice_behind_on : (c : Command) → Says (codes "distinct s on a, a") c → ⊥
-unfolding lexed tokens_within token_at word_at word sign_at digits_at name_in_quotes text_in_quotes command_of form_at form_behind group_at conditions_behind distinct_at exists_at exists_behind clause_at aggregate_at aggregate_behind aggregate_within counted_at operand_at comparison_at null_test_behind test_at name_at in_parentheses items_within ended
+unfolding lexed tokens_within token_at word_at word sign_at digits_at name_in_quotes text_in_quotes command_of form_at form_behind group_at by_at by_behind conditions_behind distinct_at exists_at exists_behind clause_at aggregate_at aggregate_behind aggregate_within counted_at operand_at comparison_at null_test_behind test_at name_at in_parentheses items_within ended
 column_twice_behind_on = unsaid (codes "distinct s on a, a") _ refl refl refl
 
 no_columns_behind_on : (c : Command) → Says (codes "distinct s") c → ⊥
-unfolding lexed tokens_within token_at word_at word sign_at digits_at name_in_quotes text_in_quotes command_of form_at form_behind group_at conditions_behind distinct_at exists_at exists_behind clause_at aggregate_at aggregate_behind aggregate_within counted_at operand_at comparison_at null_test_behind test_at name_at in_parentheses items_within ended
+unfolding lexed tokens_within token_at word_at word sign_at digits_at name_in_quotes text_in_quotes command_of form_at form_behind group_at by_at by_behind conditions_behind distinct_at exists_at exists_behind clause_at aggregate_at aggregate_behind aggregate_within counted_at operand_at comparison_at null_test_behind test_at name_at in_parentheses items_within ended
 no_columns_behind_on = unsaid (codes "distinct s") _ refl refl refl
 
 nothing_tested : (c : Command) → Says (codes "group s show count(*) where") c → ⊥
-unfolding lexed tokens_within token_at word_at word sign_at digits_at name_in_quotes text_in_quotes command_of form_at form_behind group_at conditions_behind distinct_at exists_at exists_behind clause_at aggregate_at aggregate_behind aggregate_within counted_at operand_at comparison_at null_test_behind test_at name_at in_parentheses items_within ended
+unfolding lexed tokens_within token_at word_at word sign_at digits_at name_in_quotes text_in_quotes command_of form_at form_behind group_at by_at by_behind conditions_behind distinct_at exists_at exists_behind clause_at aggregate_at aggregate_behind aggregate_within counted_at operand_at comparison_at null_test_behind test_at name_at in_parentheses items_within ended
 nothing_tested = unsaid (codes "group s show count(*) where") _ refl refl refl
 
 one_side : (c : Command) → Says (codes "distinct s on a where a =") c → ⊥
-unfolding lexed tokens_within token_at word_at word sign_at digits_at name_in_quotes text_in_quotes command_of form_at form_behind group_at conditions_behind distinct_at exists_at exists_behind clause_at aggregate_at aggregate_behind aggregate_within counted_at operand_at comparison_at null_test_behind test_at name_at in_parentheses items_within ended
+unfolding lexed tokens_within token_at word_at word sign_at digits_at name_in_quotes text_in_quotes command_of form_at form_behind group_at by_at by_behind conditions_behind distinct_at exists_at exists_behind clause_at aggregate_at aggregate_behind aggregate_within counted_at operand_at comparison_at null_test_behind test_at name_at in_parentheses items_within ended
 one_side = unsaid (codes "distinct s on a where a =") _ refl refl refl
 
 nothing_behind_and : (c : Command) → Says (codes "distinct s on a where a = 1 and") c → ⊥
-unfolding lexed tokens_within token_at word_at word sign_at digits_at name_in_quotes text_in_quotes command_of form_at form_behind group_at conditions_behind distinct_at exists_at exists_behind clause_at aggregate_at aggregate_behind aggregate_within counted_at operand_at comparison_at null_test_behind test_at name_at in_parentheses items_within ended
+unfolding lexed tokens_within token_at word_at word sign_at digits_at name_in_quotes text_in_quotes command_of form_at form_behind group_at by_at by_behind conditions_behind distinct_at exists_at exists_behind clause_at aggregate_at aggregate_behind aggregate_within counted_at operand_at comparison_at null_test_behind test_at name_at in_parentheses items_within ended
 nothing_behind_and = unsaid (codes "distinct s on a where a = 1 and") _ refl refl refl
 
 is_a_value : (c : Command) → Says (codes "distinct s on a where a is 1") c → ⊥
-unfolding lexed tokens_within token_at word_at word sign_at digits_at name_in_quotes text_in_quotes command_of form_at form_behind group_at conditions_behind distinct_at exists_at exists_behind clause_at aggregate_at aggregate_behind aggregate_within counted_at operand_at comparison_at null_test_behind test_at name_at in_parentheses items_within ended
+unfolding lexed tokens_within token_at word_at word sign_at digits_at name_in_quotes text_in_quotes command_of form_at form_behind group_at by_at by_behind conditions_behind distinct_at exists_at exists_behind clause_at aggregate_at aggregate_behind aggregate_within counted_at operand_at comparison_at null_test_behind test_at name_at in_parentheses items_within ended
 is_a_value = unsaid (codes "distinct s on a where a is 1") _ refl refl refl
 
 having_before_where : (c : Command) → Says (codes "group s show count(*) having a = 1 where a = 1") c → ⊥
-unfolding lexed tokens_within token_at word_at word sign_at digits_at name_in_quotes text_in_quotes command_of form_at form_behind group_at conditions_behind distinct_at exists_at exists_behind clause_at aggregate_at aggregate_behind aggregate_within counted_at operand_at comparison_at null_test_behind test_at name_at in_parentheses items_within ended
+unfolding lexed tokens_within token_at word_at word sign_at digits_at name_in_quotes text_in_quotes command_of form_at form_behind group_at by_at by_behind conditions_behind distinct_at exists_at exists_behind clause_at aggregate_at aggregate_behind aggregate_within counted_at operand_at comparison_at null_test_behind test_at name_at in_parentheses items_within ended
 having_before_where = unsaid (codes "group s show count(*) having a = 1 where a = 1") _ refl refl refl
 
 not_alone : (c : Command) → Says (codes "group s show count(*) not") c → ⊥
-unfolding lexed tokens_within token_at word_at word sign_at digits_at name_in_quotes text_in_quotes command_of form_at form_behind group_at conditions_behind distinct_at exists_at exists_behind clause_at aggregate_at aggregate_behind aggregate_within counted_at operand_at comparison_at null_test_behind test_at name_at in_parentheses items_within ended
+unfolding lexed tokens_within token_at word_at word sign_at digits_at name_in_quotes text_in_quotes command_of form_at form_behind group_at by_at by_behind conditions_behind distinct_at exists_at exists_behind clause_at aggregate_at aggregate_behind aggregate_within counted_at operand_at comparison_at null_test_behind test_at name_at in_parentheses items_within ended
 not_alone = unsaid (codes "group s show count(*) not") _ refl refl refl
 
 distinct_having : (c : Command) → Says (codes "distinct s on a having a = 1") c → ⊥
-unfolding lexed tokens_within token_at word_at word sign_at digits_at name_in_quotes text_in_quotes command_of form_at form_behind group_at conditions_behind distinct_at exists_at exists_behind clause_at aggregate_at aggregate_behind aggregate_within counted_at operand_at comparison_at null_test_behind test_at name_at in_parentheses items_within ended
+unfolding lexed tokens_within token_at word_at word sign_at digits_at name_in_quotes text_in_quotes command_of form_at form_behind group_at by_at by_behind conditions_behind distinct_at exists_at exists_behind clause_at aggregate_at aggregate_behind aggregate_within counted_at operand_at comparison_at null_test_behind test_at name_at in_parentheses items_within ended
 distinct_having = unsaid (codes "distinct s on a having a = 1") _ refl refl refl
 
 -- tokens
@@ -279,21 +313,33 @@ long_name = refl
 name_at_limit : fits GREATEST (Create (codes "aaaaaaaaaaaaaaaaaaaaaaaaaaaaaaaaaaaaaaaaaaaaaaaaaaaaaaaaaaaaaaa") (record { name = codes "a"; kind = kind.Int } ∷ []) []) ≡ true
 name_at_limit = refl
 
--- eight aggregates are within the limits, nine are not, and the name of a column counts as each name does
-eight_shown : fits GREATEST (Group (codes "s") [] (CountAll ∷ CountAll ∷ CountAll ∷ CountAll ∷ CountAll ∷ CountAll ∷ CountAll ∷ CountAll ∷ []) [] None []) ≡ true
-eight_shown = refl
+-- 16 aggregates are within the limits and 17 are not, as 128 columns and 129, and the name of a column counts as each name does
+abbrev counts_shown : ℕ → Command
+counts_shown n = Group (codes "s") (record { columns = []; rollup = false }) (replicate n CountAll) [] None []
 
-nine_shown : fits GREATEST (Group (codes "s") [] (CountAll ∷ CountAll ∷ CountAll ∷ CountAll ∷ CountAll ∷ CountAll ∷ CountAll ∷ CountAll ∷ CountAll ∷ []) [] None []) ≡ false
-nine_shown = refl
+sixteen_shown : fits GREATEST (counts_shown 16) ≡ true
+sixteen_shown = refl
 
-long_column : fits GREATEST (Group (codes "s") [] (Min (codes "aaaaaaaaaaaaaaaaaaaaaaaaaaaaaaaaaaaaaaaaaaaaaaaaaaaaaaaaaaaaaaaa") ∷ []) [] None []) ≡ false
+seventeen_shown : fits GREATEST (counts_shown 17) ≡ false
+seventeen_shown = refl
+
+abbrev columns_of : ℕ → Command
+columns_of n = Create (codes "s") (replicate n (record { name = codes "a"; kind = kind.Int })) []
+
+as_many_columns : fits GREATEST (columns_of 128) ≡ true
+as_many_columns = refl
+
+one_column_more : fits GREATEST (columns_of 129) ≡ false
+one_column_more = refl
+
+long_column : fits GREATEST (Group (codes "s") (record { columns = []; rollup = false }) (Min (codes "aaaaaaaaaaaaaaaaaaaaaaaaaaaaaaaaaaaaaaaaaaaaaaaaaaaaaaaaaaaaaaaa") ∷ []) [] None []) ≡ false
 long_column = refl
 
 -- names and texts count wherever they stand
-long_in_having : fits GREATEST (Group (codes "s") [] (CountAll ∷ []) [] None (IsNull (operand.Aggregate (Min (codes "aaaaaaaaaaaaaaaaaaaaaaaaaaaaaaaaaaaaaaaaaaaaaaaaaaaaaaaaaaaaaaaa"))) ∷ [])) ≡ false
+long_in_having : fits GREATEST (Group (codes "s") (record { columns = []; rollup = false }) (CountAll ∷ []) [] None (IsNull (operand.Aggregate (Min (codes "aaaaaaaaaaaaaaaaaaaaaaaaaaaaaaaaaaaaaaaaaaaaaaaaaaaaaaaaaaaaaaaa"))) ∷ [])) ≡ false
 long_in_having = refl
 
-long_in_exists : fits GREATEST (Group (codes "s") [] (CountAll ∷ []) [] (Some (record { negated = true; table = codes "u"; theirs = codes "aaaaaaaaaaaaaaaaaaaaaaaaaaaaaaaaaaaaaaaaaaaaaaaaaaaaaaaaaaaaaaaa" ∷ []; ours = codes "a" ∷ [] })) []) ≡ false
+long_in_exists : fits GREATEST (Group (codes "s") (record { columns = []; rollup = false }) (CountAll ∷ []) [] (Some (record { negated = true; table = codes "u"; theirs = codes "aaaaaaaaaaaaaaaaaaaaaaaaaaaaaaaaaaaaaaaaaaaaaaaaaaaaaaaaaaaaaaaa" ∷ []; ours = codes "a" ∷ [] })) []) ≡ false
 long_in_exists = refl
 
 text_past_the_limit : fits (record GREATEST { text = 2 }) (Distinct (codes "s") (codes "a" ∷ []) (Compare (operand.Column (codes "a")) comparison.Less (operand.Literal (value.Text (codes "abc"))) ∷ [])) ≡ false

@@ -10,6 +10,7 @@ use Rattle.gq_row.specs.declared.value.Value.{Value}
 use Rattle.gq_clause.specs.declared.aggregate.Aggregate.{Aggregate}
 use Rattle.gq_clause.specs.declared.condition.Test.{Test}
 use Rattle.gq_clause.proofs.Within.{all_of, all_both}
+use Rattle.gq_command.specs.declared.command.By.{By}
 use Rattle.gq_command.specs.declared.command.Exists.{Exists}
 use Rattle.gq_command.specs.declared.command.Command.TheVariants.{Create, Upsert, Delete, Group, Distinct}
 use Rattle.gq_command.specs.Commands.{Bytes, aggregate_names, column_names, exists_fits, exists_names, fits, is_at_most, literal_texts, test_fits, test_names, test_texts}
@@ -81,15 +82,15 @@ sorted true false a c t u e h w = refl
 sorted true true false c t u e h w = refl
 sorted true true true c t u e h w = arranged c t u e h w
 
-pub group_fits : (b : Bounds) (t : Bytes) (by : List Bytes) (shown : List Aggregate) (tests : List Test) (exists : Option Exists) (having : List Test)
+pub group_fits : (b : Bounds) (t : Bytes) (by : By) (shown : List Aggregate) (tests : List Test) (exists : Option Exists) (having : List Test)
     → fits b (Group t by shown tests exists having)
-    ≡ (is_at_most b.name t && (list_all (is_at_most b.name) by && (list_all (λ a. list_all (is_at_most b.name) (aggregate_names a)) shown && nat_le (length shown) b.aggregates)))
+    ≡ (is_at_most b.name t && (list_all (is_at_most b.name) by.columns && (list_all (λ a. list_all (is_at_most b.name) (aggregate_names a)) shown && nat_le (length shown) b.aggregates)))
     && (list_all (test_fits b) tests && (exists_fits b.name exists && list_all (test_fits b) having))
 group_fits b t by shown tests exists having =
     let p : Bytes → Bool = is_at_most b.name in
     let q : Bytes → Bool = is_at_most b.text in
     let pt : Bool = p t in
-    let bs : Bool = list_all p by in
+    let bs : Bool = list_all p by.columns in
     let cs : Bool = list_all (λ a. list_all p (aggregate_names a)) shown in
     let n : Bool = nat_le (length shown) b.aggregates in
     let ts : Bool = list_all p (flat_map test_names tests) in
@@ -104,8 +105,8 @@ group_fits b t by shown tests exists having =
     let behind_shown : list_all p (flat_map aggregate_names shown ++ (flat_map test_names tests ++ (exists_names exists ++ flat_map test_names having))) ≡ cs && (ts && (es && hs)) =
     list_all-append p (flat_map aggregate_names shown) (flat_map test_names tests ++ (exists_names exists ++ flat_map test_names having))
     ∙ ap (λ (v : Bool). v && list_all p (flat_map test_names tests ++ (exists_names exists ++ flat_map test_names having))) (all_of p aggregate_names shown) ∙ ap (λ (v : Bool). cs && v) behind_tests in
-    let named : list_all p (by ++ (flat_map aggregate_names shown ++ (flat_map test_names tests ++ (exists_names exists ++ flat_map test_names having)))) ≡ bs && (cs && (ts && (es && hs))) =
-    list_all-append p by (flat_map aggregate_names shown ++ (flat_map test_names tests ++ (exists_names exists ++ flat_map test_names having))) ∙ ap (λ (v : Bool). bs && v) behind_shown in
+    let named : list_all p (by.columns ++ (flat_map aggregate_names shown ++ (flat_map test_names tests ++ (exists_names exists ++ flat_map test_names having)))) ≡ bs && (cs && (ts && (es && hs))) =
+    list_all-append p by.columns (flat_map aggregate_names shown ++ (flat_map test_names tests ++ (exists_names exists ++ flat_map test_names having))) ∙ ap (λ (v : Bool). bs && v) behind_shown in
     ap (λ (v : Bool). (pt && v) && (list_all q (flat_map test_texts tests ++ flat_map test_texts having) && (nat_le 0 b.columns && n))) named
     ∙ ap (λ (v : Bool). (pt && (bs && (cs && (ts && (es && hs))))) && (v && (nat_le 0 b.columns && n))) (list_all-append q (flat_map test_texts tests) (flat_map test_texts having))
     ∙ ap (λ (v : Bool). (pt && (bs && (cs && (ts && (es && hs))))) && ((us && ws) && (v && n))) (from_zero b.columns)

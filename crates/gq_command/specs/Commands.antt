@@ -6,12 +6,12 @@ use Rattle.gq_row.specs.declared.limits.Bounds.{Bounds}
 use Rattle.gq_row.specs.declared.schema.Column.{Column}
 use Rattle.gq_row.specs.declared.schema.Kind.{Kind}
 use Rattle.gq_row.specs.declared.schema.Kind.TheVariants as kind
-use Rattle.gq_token.specs.declared.token.Terminal.{Terminal}
 use Rattle.gq_token.specs.declared.token.Terminal.TheVariants as terminal
 use Rattle.gq_token.specs.declared.token.Token.{Token}
 use Rattle.gq_token.specs.declared.token.Token.TheVariants.{Fixed, Name}
-pub use Rattle.gq_clause.specs.Words.{Bytes, some, separated, clause, parenthesized, name_words, names_words, literals_words, aggregates_words, tests_clause, is_row_test}
+pub use Rattle.gq_clause.specs.Words.{Bytes, some, separated, clause, parenthesized, name_words, names_words, literals_words, aggregates_words, tests_clause, is_test, are_literals, is_row_test}
 pub use Rattle.gq_clause.specs.Within.{aggregate_names, literal_texts, test_names, test_texts, is_at_most, test_fits}
+use Rattle.gq_command.specs.declared.command.By.{By}
 use Rattle.gq_command.specs.declared.command.Exists.{Exists}
 use Rattle.gq_command.specs.declared.command.Payload.{Payload}
 use Rattle.gq_command.specs.declared.command.Payload.TheVariants as payload
@@ -20,12 +20,13 @@ use Rattle.gq_command.specs.declared.command.Command.TheVariants.{Create, Drop, 
 
 -- the tokens that the grammar writes
 
-abbrev pub kind_word : Kind → Terminal
-kind_word kind.Int = terminal.Int
-kind_word kind.Text = terminal.Text
+abbrev pub kind_words : Kind → List Token
+kind_words kind.Int = Fixed terminal.Int ∷ []
+kind_words kind.Text = Fixed terminal.Text ∷ []
+kind_words kind.NoCase = Fixed terminal.Text ∷ Fixed terminal.NoCase ∷ []
 
 abbrev pub column_words : Column → List Token
-column_words c = Name c.name ∷ Fixed (kind_word c.kind) ∷ []
+column_words c = Name c.name ∷ kind_words c.kind
 
 abbrev pub not_words : Bool → List Token
 not_words true = Fixed terminal.Not ∷ []
@@ -34,6 +35,14 @@ not_words false = []
 abbrev pub exists_words : Option Exists → List Token
 exists_words None = []
 exists_words (Some e) = not_words e.negated ++ (Fixed terminal.Exists ∷ Name e.table ∷ parenthesized (names_words e.theirs) ++ (Fixed terminal.Equal ∷ parenthesized (names_words e.ours)))
+
+-- the columns of a `by`, as they are or rolled up
+abbrev pub columns_words : Bool → List Bytes → List Token
+columns_words false columns = clause terminal.By terminal.Comma name_words columns
+columns_words true columns = Fixed terminal.By ∷ Fixed terminal.Rollup ∷ parenthesized (names_words columns)
+
+abbrev pub by_words : By → List Token
+by_words by = columns_words by.rollup by.columns
 
 abbrev pub key_words : List Bytes → List Token
 key_words [] = []
@@ -48,7 +57,7 @@ phrase (Upsert t values) = Fixed terminal.Upsert ∷ Name t ∷ parenthesized (l
 phrase (Delete t values) = Fixed terminal.Delete ∷ Name t ∷ parenthesized (literals_words values)
 phrase (Show t) = Fixed terminal.Show ∷ Name t ∷ []
 phrase (Group t by shown tests exists having) =
-    Fixed terminal.Group ∷ Name t ∷ clause terminal.By terminal.Comma name_words by
+    Fixed terminal.Group ∷ Name t ∷ by_words by
     ++ (Fixed terminal.Show ∷ aggregates_words shown
     ++ (tests_clause terminal.Where tests
     ++ (exists_words exists
@@ -64,16 +73,21 @@ abbrev pub exists_filled : Option Exists → Bool
 exists_filled None = true
 exists_filled (Some e) = some e.theirs && some e.ours
 
--- the grammar writes the command: each list that must have an item has one
+-- a rollup has a column
+abbrev pub columns_filled : Bool → List Bytes → Bool
+columns_filled false columns = true
+columns_filled true columns = some columns
+
+-- the grammar writes the command: each list that must have an item has one, and no literal is a text without case
 abbrev pub grammatical : Command → Bool
 grammatical (Create t columns key) = some columns
 grammatical (Drop t) = true
 grammatical (Load t carried) = true
-grammatical (Upsert t values) = some values
-grammatical (Delete t values) = some values
+grammatical (Upsert t values) = are_literals values
+grammatical (Delete t values) = are_literals values
 grammatical (Show t) = true
-grammatical (Group t by shown tests exists having) = some shown && exists_filled exists
-grammatical (Distinct t on tests) = some on
+grammatical (Group t by shown tests exists having) = columns_filled by.rollup by.columns && (some shown && (exists_filled exists && (list_all is_test tests && list_all is_test having)))
+grammatical (Distinct t on tests) = some on && list_all is_test tests
 
 abbrev pub column_names : List Column → List Bytes
 column_names columns = map (λ (c : Column). c.name) columns
@@ -96,7 +110,7 @@ keeps_rules (Load t carried) = is_open carried
 keeps_rules (Upsert t values) = true
 keeps_rules (Delete t values) = true
 keeps_rules (Show t) = true
-keeps_rules (Group t by shown tests exists having) = no_repeats bytes_eq by && (list_all is_row_test tests && same_length exists)
+keeps_rules (Group t by shown tests exists having) = no_repeats bytes_eq by.columns && (list_all is_row_test tests && same_length exists)
 keeps_rules (Distinct t on tests) = no_repeats bytes_eq on && list_all is_row_test tests
 
 -- what a line can say
@@ -127,7 +141,7 @@ names (Load t carried) = t ∷ []
 names (Upsert t values) = t ∷ []
 names (Delete t values) = t ∷ []
 names (Show t) = t ∷ []
-names (Group t by shown tests exists having) = t ∷ (by ++ (flat_map aggregate_names shown ++ (flat_map test_names tests ++ (exists_names exists ++ flat_map test_names having))))
+names (Group t by shown tests exists having) = t ∷ (by.columns ++ (flat_map aggregate_names shown ++ (flat_map test_names tests ++ (exists_names exists ++ flat_map test_names having))))
 names (Distinct t on tests) = t ∷ (on ++ flat_map test_names tests)
 
 -- each text among the literals of a command

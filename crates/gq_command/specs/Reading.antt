@@ -12,6 +12,7 @@ use Rattle.gq_token.specs.declared.token.Token.TheVariants.{Fixed, Name, Number,
 use Rattle.gq_clause.specs.Reading.{name_at, items_at, names_at, literals_at, in_parentheses, clause_at, aggregates_at, tests_at}
 use Rattle.gq_clause.specs.declared.aggregate.Aggregate.{Aggregate}
 use Rattle.gq_command.specs.Commands.{Bytes, keeps_rules}
+use Rattle.gq_command.specs.declared.command.By.{By}
 use Rattle.gq_command.specs.declared.command.Command.{Command}
 use Rattle.gq_command.specs.declared.command.Command.TheVariants.{Create, Drop, Load, Upsert, Delete, Show, Group, Distinct}
 use Rattle.gq_command.specs.declared.command.Exists.{Exists}
@@ -19,9 +20,13 @@ use Rattle.gq_command.specs.declared.command.Payload.TheVariants as payload
 use Rattle.gq_row.specs.declared.value.Value.{Value}
 use Rattle.gq_row.specs.declared.schema.Column.{Column}
 
+-- the kind that begins with `text`, behind it
+unfoldable pub text_behind : List Token → Kind × List Token
+text_behind ts = elim (skip terminal.NoCase ts) [ None ↦ (kind.Text, ts) | Some after ↦ (kind.NoCase, after) ]
+
 unfoldable pub kind_at : List Token → Option (Kind × List Token)
 kind_at [] = None
-kind_at (Fixed u ∷ rest) = if same u terminal.Int then Some (kind.Int, rest) else (if same u terminal.Text then Some (kind.Text, rest) else None)
+kind_at (Fixed u ∷ rest) = if same u terminal.Int then Some (kind.Int, rest) else (if same u terminal.Text then Some (text_behind rest) else None)
 kind_at (Name n ∷ rest) = None
 kind_at (Number z ∷ rest) = None
 kind_at (Text s ∷ rest) = None
@@ -75,8 +80,19 @@ exists_at ts = elim (skip terminal.Not ts) [
   | Some after ↦ skip terminal.Exists after >>= λ rest. with_exists (exists_behind true rest)
 ]
 
+-- the columns behind `by`, rolled up or not
+unfoldable pub by_behind : List Token → Option (By × List Token)
+by_behind ts = elim (skip terminal.Rollup ts) [
+  | None ↦ names_at ts >>= λ names. Some (record { columns = names.0; rollup = false }, names.1)
+  | Some after ↦ in_parentheses names_at after >>= λ names. Some (record { columns = names.0; rollup = true }, names.1)
+]
+
+-- `by` and its columns, or none where it doesn't lead
+unfoldable pub by_at : List Token → Option (By × List Token)
+by_at ts = elim (skip terminal.By ts) [ None ↦ Some (record { columns = []; rollup = false }, ts) | Some after ↦ by_behind after ]
+
 -- the conditions behind what is shown, and with them the whole grouping
-unfoldable pub conditions_behind : Bytes → List Bytes → List Aggregate → List Token → Option (Command × List Token)
+unfoldable pub conditions_behind : Bytes → By → List Aggregate → List Token → Option (Command × List Token)
 conditions_behind table by shown ts = do
   tests ← clause_at terminal.Where tests_at ts
   exists ← exists_at tests.1
@@ -86,7 +102,7 @@ conditions_behind table by shown ts = do
 unfoldable pub group_at : List Token → Option (Command × List Token)
 group_at ts = do
   table ← name_at ts
-  by ← clause_at terminal.By names_at table.1
+  by ← by_at table.1
   show ← skip terminal.Show by.1
   shown ← aggregates_at show
   conditions_behind table.0 by.0 shown.0 shown.1

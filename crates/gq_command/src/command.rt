@@ -2,6 +2,16 @@
 use gq_clause::{Aggregate, Test};
 use gq_row::{Column, Row, Sequence, Text};
 
+/// `by columns`, or `by rollup (columns)`.
+#[derive(Drop)]
+pub struct By {
+    /// Names of columns, none where there is no `by`.
+    pub columns: Sequence<Text>,
+    /// Whether rows are grouped by each front of the columns, the empty one first, and not by all of
+    /// them alone.
+    pub rollup: bool,
+}
+
 /// `exists table (theirs) = (ours)`: whether a row of the other table has the values of this
 /// table's row, column by column.
 #[derive(Drop)]
@@ -61,10 +71,10 @@ pub enum Command {
     Show {
         table: Text,
     },
-    /// `group table by columns show aggregates where tests exists .. having tests`
+    /// `group table by .. show aggregates where tests exists .. having tests`
     Group {
         table: Text,
-        by: Sequence<Text>,
+        by: By,
         shown: Sequence<Aggregate>,
         tests: Sequence<Test>,
         exists: Option<Exists>,

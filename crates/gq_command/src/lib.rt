@@ -18,12 +18,13 @@
 //!           | "upsert" name "(" literal { "," literal } ")"
 //!           | "delete" name "(" literal { "," literal } ")"
 //!           | "show" name
-//!           | "group" name [ "by" names ] "show" aggregate { "," aggregate }
+//!           | "group" name [ "by" by ] "show" aggregate { "," aggregate }
 //!             [ "where" tests ]
 //!             [ [ "not" ] "exists" name "(" names ")" "=" "(" names ")" ]
 //!             [ "having" tests ]
 //!           | "distinct" name "on" names [ "where" tests ]
-//! column    = name ( "int" | "text" )
+//! column    = name ( "int" | "text" [ "nocase" ] )
+//! by        = names | "rollup" "(" names ")"
 //! names     = name { "," name }
 //! literal   = int | string | "null"
 //! aggregate = "count" "(" ( "*" | [ "distinct" ] name ) ")"
@@ -59,7 +60,7 @@ mod lines;
 mod parsing;
 mod reader;
 
-pub use command::{Command, Exists, Payload};
+pub use command::{By, Command, Exists, Payload};
 pub use gq_clause::{Aggregate, Comparison, Operand, Test};
 pub use gq_script::ReadFault;
 pub use lines::{LineRefusal, parse_line};

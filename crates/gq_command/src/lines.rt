@@ -152,7 +152,7 @@ fn fits(command: &Command, bounds: &Bounds) -> bool
             tests,
             exists,
             having,
-        } => group_fits(table, by, shown, tests, exists, having, bounds),
+        } => group_fits(table, &by.columns, shown, tests, exists, having, bounds),
         Command::Distinct { table, on, tests } => distinct_fits(table, on, tests, bounds),
     }
 }

@@ -1,22 +1,33 @@
 //! Tokens as commands: one function for each rule of the grammar, which takes the tokens that it
 //! reads from the front of those that are left.
-ghost use Rattle.std.specs.Prelude.{◌≡◌, IfOk, IfErr, bytes_eq};
+ghost use Rattle.std.specs.Prelude.{◌≡◌, if◌then◌else◌, None, IfOk, IfErr, bytes_eq};
 ghost use Rattle.std.specs.List.{list_all};
 ghost use Rattle.gq_row.specs.Repeats.{no_repeats};
 ghost use Rattle.gq_command.specs.Commands.{column_names, is_row_test, keeps_rules, same_length};
 ghost use Rattle.gq_token.specs.Results.{Gives};
-ghost use Rattle.gq_command.specs.Reading.{kind_at, column_at, columns_at, key_at, row_at, create_at, exists_behind, exists_at, group_at, distinct_at, form_behind, form_at, command_of};
+ghost use Rattle.gq_command.specs.Reading.{text_behind, kind_at, column_at, columns_at, key_at, row_at, create_at, exists_behind, exists_at, by_behind, by_at, group_at, distinct_at, form_behind, form_at, ended, command_of};
 ghost use Rattle.gq_token.specs.declared.parse_error.ParseError.TheVariants.{Memory};
 
-use crate::command::{Command, Exists, Payload};
+use crate::command::{By, Command, Exists, Payload};
 use gq_clause::{
-    Test, aggregates_of, enclosed_literals, enclosed_names, expect, name_of, names_behind,
-    names_of, tests_behind,
+    Test, aggregates_of, enclosed_literals, enclosed_names, expect, name_of, names_of, tests_behind,
 };
 use gq_row::{Column, Kind, Row, Sequence, Text};
 use gq_token::{ParseError, Terminal, Token, Tokens};
 use std::alloc::Global;
 use std::collections::BTreeSet;
+
+/// The kind that begins with `text`, by the tokens behind it.
+#[tactic(auto, unfolding(crate::specs::Reading::text_behind))]
+fn text_behind(tokens: &mut Tokens) -> Kind
+    ensures { (result, tokens.new) ≡ text_behind tokens.old }
+{
+    if tokens.skip(Terminal::NoCase) {
+        Kind::NoCase
+    } else {
+        Kind::Text
+    }
+}
 
 #[tactic(auto, unfolding(crate::specs::Reading::kind_at))]
 fn kind_of(tokens: &mut Tokens) -> Result<Kind, ParseError>
@@ -25,7 +36,7 @@ fn kind_of(tokens: &mut Tokens) -> Result<Kind, ParseError>
     if tokens.skip(Terminal::Int) {
         Ok(Kind::Int)
     } else if tokens.skip(Terminal::Text) {
-        Ok(Kind::Text)
+        Ok(text_behind(tokens))
     } else {
         Err(ParseError::Syntax)
     }
@@ -123,12 +134,43 @@ fn exists_of(alloc: Global, tokens: &mut Tokens) -> Result<Option<Exists>, Parse
     Ok(None)
 }
 
+/// The columns behind `by`, rolled up or not.
+#[tactic(auto, unfolding(crate::specs::Reading::by_behind))]
+fn by_behind(alloc: Global, tokens: &mut Tokens) -> Result<By, ParseError>
+    ensures { Gives (λ by. (by, tokens.new)) result (by_behind tokens.old) }
+{
+    let rollup = tokens.skip(Terminal::Rollup);
+    let columns = if rollup {
+        enclosed_names(alloc, tokens)?
+    } else {
+        names_of(alloc, tokens)?
+    };
+    Ok(By {
+        columns: Sequence::new(columns),
+        rollup,
+    })
+}
+
+/// `by` and its columns, or none where it doesn't lead.
+#[tactic(auto, unfolding(crate::specs::Reading::by_at))]
+fn by_of(alloc: Global, tokens: &mut Tokens) -> Result<By, ParseError>
+    ensures { Gives (λ by. (by, tokens.new)) result (by_at tokens.old) }
+{
+    if tokens.skip(Terminal::By) {
+        return by_behind(alloc, tokens);
+    }
+    Ok(By {
+        columns: Sequence::new(Vec::new(alloc)),
+        rollup: false,
+    })
+}
+
 #[tactic(auto, unfolding(crate::specs::Reading::group_at, crate::specs::Reading::conditions_behind))]
 fn group_of(alloc: Global, tokens: &mut Tokens) -> Result<Command, ParseError>
     ensures { Gives (λ command. (command, tokens.new)) result (group_at tokens.old) }
 {
     let table = name_of(tokens)?;
-    let by = names_behind(alloc, Terminal::By, tokens)?;
+    let by = by_of(alloc, tokens)?;
     expect(tokens, Terminal::Show)?;
     let shown = aggregates_of(alloc, tokens)?;
     let tests = tests_behind(alloc, Terminal::Where, tokens)?;
@@ -136,7 +178,7 @@ fn group_of(alloc: Global, tokens: &mut Tokens) -> Result<Command, ParseError>
     let having = tests_behind(alloc, Terminal::Having, tokens)?;
     Ok(Command::Group {
         table,
-        by: Sequence::new(by),
+        by,
         shown: Sequence::new(shown),
         tests: Sequence::new(tests),
         exists,
@@ -261,7 +303,7 @@ fn keeps_rules(alloc: Global, command: &Command) -> Result<bool, ParseError>
             exists,
             ..
         } => Ok(
-            names_differ(alloc, by.as_slice())?
+            names_differ(alloc, by.columns.as_slice())?
                 && are_row_tests(tests.as_slice())
                 && same_length(exists),
         ),
@@ -275,18 +317,28 @@ fn keeps_rules(alloc: Global, command: &Command) -> Result<bool, ParseError>
     }
 }
 
+/// Refuses a command that tokens follow, and one that breaks a rule beside the grammar.
+#[tactic(auto, unfolding(crate::specs::Reading::ended))]
+fn check_whole(alloc: Global, command: &Command, left: &Tokens) -> Result<(), ParseError>
+    ensures { Gives (λ _. command.now) result (if keeps_rules command.now then ended (command.now, left.now) else None) }
+{
+    if !left.is_empty() {
+        return Err(ParseError::Syntax);
+    }
+    if keeps_rules(alloc, command)? {
+        Ok(())
+    } else {
+        Err(ParseError::Syntax)
+    }
+}
+
 /// The command that all of these tokens say.
 #[tactic(auto, unfolding(crate::specs::Reading::command_of, crate::specs::Reading::ended))]
 pub fn command_in(alloc: Global, mut tokens: Tokens) -> Result<Command, ParseError>
     ensures { Gives (λ c. c) result (command_of tokens) }
 {
     let command = form_of(alloc, &mut tokens)?;
-    if !tokens.is_empty() {
-        return Err(ParseError::Syntax);
-    }
-    if keeps_rules(alloc, &command)? {
-        Ok(command)
-    } else {
-        Err(ParseError::Syntax)
-    }
+    // One way out for all refusals: each writes out the drop of a command.
+    check_whole(alloc, &command, &tokens)?;
+    Ok(command)
 }

@@ -22,6 +22,7 @@ use Rattle.gq_plan.specs.Plans.{distinct_plan, group_plan}
 use Rattle.gq_engine.specs.Databases.{Database, table_at}
 use Rattle.gq_engine.specs.Runs.{IsGrouped}
 use Rattle.gq_engine.specs.Serving.{Comes, ComesOver, Plainly, StoreFails, StoreLies, GroupsOver}
+use Rattle.gq_query.specs.Rollups.{grouping_sets}
 use Rattle.gq_engine.specs.Spending.{rows_asked}
 use Rattle.gq_engine.specs.Steps.{Outcome, distinct, group, keys_planned, other_in, rows_about, rows_planned, settle}
 use Rattle.gq_engine.proofs.OrderLemmas.{same_tables}
@@ -80,7 +81,7 @@ module _ (db : Database) (name : Bytes) (clauses : GroupClauses) where
       group_planned plan told =
           finds NoTable (table_at db name) table _ found ∙ gives (other_in db clauses.exists) other _ there ∙ gives (group_plan table.heading.columns (other_columns other) clauses) plan _ told
 
-      pub asked_planned : (plan : GroupPlan) → group_plan table.heading.columns (other_columns other) clauses ≡ Ok plan → rows_asked db name clauses ≡ Ok (plan.by, rows_about plan table other)
+      pub asked_planned : (plan : GroupPlan) → group_plan table.heading.columns (other_columns other) clauses ≡ Ok plan → rows_asked db name clauses ≡ Ok (grouping_sets plan.rollup plan.by, rows_about plan table other)
       asked_planned plan told =
           finds NoTable (table_at db name) table _ found ∙ gives (other_in db clauses.exists) other _ there ∙ gives (group_plan table.heading.columns (other_columns other) clauses) plan _ told
 

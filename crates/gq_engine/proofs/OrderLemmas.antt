@@ -37,14 +37,14 @@ use Rattle.gq_plan.specs.declared.plan.DistinctPlan.{DistinctPlan}
 use Rattle.gq_plan.specs.Headers.{group_header}
 use Rattle.gq_plan.specs.Plans.{distinct_plan, group_plan}
 use Rattle.gq_engine.specs.Databases.{Database, table_at, with_table, without_table, IsKeyed}
-use Rattle.gq_row.specs.Fitting.{fits_columns, is_null}
+use Rattle.gq_row.specs.Fitting.{fits_columns, is_null, stored_in}
 use Rattle.gq_reply.specs.Outcomes.{◌>>=◌, some_or, true_or}
 use Rattle.gq_reply.specs.Refusals.{unnumbered, told, refused}
 use Rattle.gq_engine.specs.Loading.{is_lost, bytes_told, rows_told}
-use Rattle.gq_engine.specs.Refusing.{has_null_key, rows_with, put_within, put_all_within, fits_key}
+use Rattle.gq_engine.specs.Refusing.{has_null_key, rows_with, put_within, put_all_within, fits_key, stored_key}
 use Rattle.gq_engine.specs.Runs.{Setting, LegalAnswer, AsListsAnswer, WantsMemory, StoreFailed, StoreLied, SameTables, ReachesGrouping, IsGrouped, AnsweredAlike, AnsweredAsLists}
 use Rattle.gq_engine.specs.Serving.{CarriedOut, Comes, ComesSurely}
-use Rattle.gq_engine.specs.Steps.{Outcome, table_in, settle, outcome, step, create, drop_table, with_row, upsert, with_rows, load_table, delete_row, show_table, group, distinct, other_in, rows_planned, keys_planned}
+use Rattle.gq_engine.specs.Steps.{Outcome, table_in, settle, outcome, step, create, drop_table, with_row, upsert, with_rows, load_table, key_named, delete_row, show_table, group, distinct, other_in, rows_planned, keys_planned}
 use Rattle.gq_engine.specs.Orders.{StepsAlike, RunsAlike}
 
 -- ---- tables
@@ -224,6 +224,13 @@ put_alike limits s t row h =
     moved : IsPermutation (rows_with s row) (rows_with t row)
     moved = subst (λ (g : Heading). IsPermutation (put s.heading.key s.rows row) (put g.key t.rows row)) h.heading (put-same_rows s.heading.key s.rows t.rows row h.keyed h.rows)
 
+-- and so is what the columns store of one
+store_alike : (limits : Bounds) (s t : PlainTable) (row : List Value) → AlikeTables s t
+    → AlikeBy (λ xs ys. AlikeTables (record s { rows = xs }) (record t { rows = ys })) (put_within limits s (stored_in s.heading.columns row)) (put_within limits t (stored_in t.heading.columns row))
+store_alike limits s t row h =
+    let P : Heading → Type 0 = λ g. AlikeBy (λ xs ys. AlikeTables (record s { rows = xs }) (record t { rows = ys })) (put_within limits s (stored_in s.heading.columns row)) (put_within limits t (stored_in g.columns row)) in
+    subst P h.heading (put_alike limits s t (stored_in s.heading.columns row) h)
+
 -- rows are put alike
 put_all_alike : (limits : Bounds) (s t : PlainTable) (new : Rows) → AlikeTables s t → AlikeBy (λ xs ys. AlikeTables (record s { rows = xs }) (record t { rows = ys })) (put_all_within limits s new) (put_all_within limits t new)
 put_all_alike limits s t new h =
@@ -234,13 +241,16 @@ put_all_alike limits s t new h =
     moved : IsPermutation (put_all s.heading.key s.rows new) (put_all t.heading.key t.rows new)
     moved = subst (λ (g : Heading). IsPermutation (put_all s.heading.key s.rows new) (put_all g.key t.rows new)) h.heading (put_all-same_rows s.heading.key s.rows t.rows new h.keyed h.rows)
 
--- the row of a key is taken away alike
-delete_alike : (s t : PlainTable) (key : List Value) → AlikeTables s t → AlikeTables (record s { rows = delete s.heading.key s.rows key }) (record t { rows = delete t.heading.key t.rows key })
-delete_alike s t key h = record {
-  heading = h.heading;
-  rows = subst (λ (g : Heading). IsPermutation (delete s.heading.key s.rows key) (delete g.key t.rows key)) h.heading (delete-same_rows s.heading.key s.rows t.rows key h.rows);
-  keyed = keys_differ-delete s.heading.key s.rows key h.keyed;
-}
+-- the row of the key that values name is taken away alike
+delete_alike : (s t : PlainTable) (values : List Value) → AlikeTables s t
+    → AlikeTables (record s { rows = delete s.heading.key s.rows (key_named s.heading values) }) (record t { rows = delete t.heading.key t.rows (key_named t.heading values) })
+delete_alike s t values h =
+    let key = key_named s.heading values in
+    record {
+      heading = h.heading;
+      rows = subst (λ (g : Heading). IsPermutation (delete s.heading.key s.rows key) (delete g.key t.rows (key_named g values))) h.heading (delete-same_rows s.heading.key s.rows t.rows key h.rows);
+      keyed = keys_differ-delete s.heading.key s.rows key h.keyed;
+    }
 
 -- the columns and the rows of a table, if there is one
 others_columns : (o p : Option PlainTable) → Alike o p → other_columns o ≡ other_columns p
@@ -296,7 +306,7 @@ module _ (limits : Bounds) (a b : Database) (k : IsKeyed a) (same : SameTables a
   upsert_alike name row =
       then_alike AlikeTablesOf Alikes (with_row limits a name row) (with_row limits b name row) _ _
       (then_alike AlikeTables AlikeTablesOf (table_in a name) (table_in b name) _ _ (table_alike name)
-      (λ s t h. then_alike (λ xs ys. AlikeTables (record s { rows = xs }) (record t { rows = ys })) AlikeTablesOf (put_within limits s row) (put_within limits t row) _ _ (put_alike limits s t row h)
+      (λ s t h. then_alike (λ xs ys. AlikeTables (record s { rows = xs }) (record t { rows = ys })) AlikeTablesOf (put_within limits s (stored_in s.heading.columns row)) (put_within limits t (stored_in t.heading.columns row)) _ _ (store_alike limits s t row h)
       (λ xs ys m. record { same = changed_alike a b name (record s { rows = xs }) (record t { rows = ys }) same m; keyed = changed_keyed a name (record s { rows = xs }) k m.keyed })))
       (λ x y m. record { reply = refl; same = m.same; keyed = m.keyed })
 
@@ -321,28 +331,35 @@ module _ (limits : Bounds) (a b : Database) (k : IsKeyed a) (same : SameTables a
           (subst (λ (l : Rows). AlikeBy AlikeTablesOf (with_rows limits a name xs) (with_rows limits b name l)) e (rows_alike name xs))
           (λ x y m. record { reply = ap (λ (l : Rows). reply.Done (length l)) e; same = m.same; keyed = m.keyed })
 
-  deleted_alike : (name : List ℕ) (key : List Value) → AlikeBy Alikes (delete_row a name key) (delete_row b name key)
-  deleted_alike name key =
+  deleted_alike : (name : List ℕ) (values : List Value) → AlikeBy Alikes (delete_row a name values) (delete_row b name values)
+  deleted_alike name values =
       then_alike AlikeTables Alikes (table_in a name) (table_in b name) _ _ (table_alike name)
       (λ s t h. then_alike Always Alikes (true_or NoKey (some s.heading.key)) (true_or NoKey (some t.heading.key)) _ _
       (test_alike NoKey _ _ (ap (λ (g : Heading). some g.key) h.heading))
-      (λ _ _ _. then_alike Always Alikes (true_or TypeMismatch (fits_key s.heading.columns s.heading.key key)) (true_or TypeMismatch (fits_key t.heading.columns t.heading.key key)) _ _
-      (test_alike TypeMismatch _ _ (ap (λ (g : Heading). fits_key g.columns g.key key) h.heading))
-      (λ _ _ _. then_alike Always Alikes (true_or NullKey (not (list_any is_null key))) (true_or NullKey (not (list_any is_null key))) _ _ (test_alike NullKey _ _ refl)
+      (λ _ _ _. then_alike Always Alikes (true_or TypeMismatch (fits s.heading)) (true_or TypeMismatch (fits t.heading)) _ _ (test_alike TypeMismatch _ _ (ap fits h.heading))
+      (λ _ _ _. then_alike Always Alikes (true_or NullKey (whole s.heading)) (true_or NullKey (whole t.heading)) _ _ (test_alike NullKey _ _ (ap whole h.heading))
       (λ _ _ _. deleted s t h))))
     where
-      count : PlainTable → Reply
-      count s = reply.Done (if has_row s.heading.key s.rows key then 1 else 0)
+      fits : Heading → Bool
+      fits g = fits_key g.columns g.key (stored_key g.columns g.key values)
 
-      deleted : (s t : PlainTable) → AlikeTables s t
-          → Alikes (with_table a name (record s { rows = delete s.heading.key s.rows key }), count s) (with_table b name (record t { rows = delete t.heading.key t.rows key }), count t)
+      whole : Heading → Bool
+      whole g = not (list_any is_null (stored_key g.columns g.key values))
+
+      left : PlainTable → PlainTable
+      left s = record s { rows = delete s.heading.key s.rows (key_named s.heading values) }
+
+      count : PlainTable → Reply
+      count s = reply.Done (if has_row s.heading.key s.rows (key_named s.heading values) then 1 else 0)
+
+      deleted : (s t : PlainTable) → AlikeTables s t → Alikes (with_table a name (left s), count s) (with_table b name (left t), count t)
       deleted s t h =
-          let m = delete_alike s t key h in
+          let m = delete_alike s t values h in
           record {
             reply = ap (λ (b : Bool). reply.Done (if b then 1 else 0))
-                (has_row-same_rows s.heading.key s.rows t.rows key h.rows ∙ ap (λ (g : Heading). has_row g.key t.rows key) h.heading);
-            same = changed_alike a b name (record s { rows = delete s.heading.key s.rows key }) (record t { rows = delete t.heading.key t.rows key }) same m;
-            keyed = changed_keyed a name (record s { rows = delete s.heading.key s.rows key }) k m.keyed;
+                (has_row-same_rows s.heading.key s.rows t.rows (key_named s.heading values) h.rows ∙ ap (λ (g : Heading). has_row g.key t.rows (key_named g values)) h.heading);
+            same = changed_alike a b name (left s) (left t) same m;
+            keyed = changed_keyed a name (left s) k m.keyed;
           }
 
   show_alike : (name : List ℕ) → AlikeBy Alikes (show_table a name) (show_table b name)
@@ -366,7 +383,7 @@ module _ (limits : Bounds) (a b : Database) (k : IsKeyed a) (same : SameTables a
       (λ u v o. then_alike (λ (c d : GroupPlan). c ≡ d) Alikes (group_plan s.heading.columns (other_columns u) clauses) (group_plan t.heading.columns (other_columns v) clauses) _ _
       (same_alike _ _ (ap (λ (g : Heading). group_plan g.columns (other_columns u) clauses) h.heading ∙ ap (λ (l : List Column). group_plan t.heading.columns l clauses) (others_columns u v o)))
       (λ c d e. then_alike (λ (xs ys : Rows). xs ≡ ys) Alikes (some_or SumRange (rows_planned c s u)) (some_or SumRange (rows_planned d t v)) _ _
-      (some_alike SumRange _ _ (order_is_unseen.grouped c.by c.shown c.having.tests c.condition.tests c.matching (other_rows u) (other_rows v) s.rows t.rows (others_rows u v o) h.rows
+      (some_alike SumRange _ _ (order_is_unseen.grouped c.rollup c.by c.shown c.having.tests c.condition.tests c.matching (other_rows u) (other_rows v) s.rows t.rows (others_rows u v o) h.rows
       ∙ ap (λ (k : GroupPlan). rows_planned k t v) e))
       (λ xs ys f. record { reply = ap (reply.Rows (group_header clauses.by clauses.shown)) f; same = same; keyed = k }))))
 

@@ -27,10 +27,10 @@ use Rattle.gq_plan.specs.Places.{all_placed, all_shown, in_result, in_row}
 use Rattle.gq_plan.specs.Plans.{distinct_named, distinct_plan, group_fits, group_named, group_plan, matching_named}
 use Rattle.gq_engine.specs.Databases.{Database, table_at}
 use Rattle.std.specs.List.{list_any}
-use Rattle.gq_row.specs.Fitting.{fits_columns, is_null}
+use Rattle.gq_row.specs.Fitting.{fits_columns, is_null, stored_in}
 use Rattle.gq_reply.specs.Outcomes.{◌>>=◌, some_or, true_or}
 use Rattle.gq_reply.specs.Refusals.{told, unnumbered}
-use Rattle.gq_engine.specs.Refusing.{has_null_key, rows_with, put_within, put_all_within, fits_key}
+use Rattle.gq_engine.specs.Refusing.{has_null_key, rows_with, put_within, put_all_within, fits_key, stored_key}
 use Rattle.gq_engine.specs.Loading.{is_lost, bytes_told, fault_refusal, refused_by, rows_told}
 use Rattle.gq_engine.specs.Runs.{is_store_fault}
 use Rattle.gq_engine.specs.Steps.{table_in, outcome, create, drop_table, with_row, upsert, with_rows, load_table, delete_row, show_table, group, distinct, other_in, rows_planned}
@@ -94,7 +94,7 @@ module _ (limits : Bounds) (db : Database) where
   upsert_refuses name row =
       then_refuses never faulty (with_row limits db name row) _
       (then_refuses never never (table_in db name) _ (some_refuses NoTable _ refl)
-      (λ table. then_refuses never never (put_within limits table row) _ (put_refuses limits table row) (λ _. refl)))
+      (λ table. then_refuses never never (put_within limits table (stored_in table.heading.columns row)) _ (put_refuses limits table (stored_in table.heading.columns row)) (λ _. refl)))
       (λ _. refl)
 
   drop_refuses : (name : List ℕ) → Refuses faulty (drop_table db name)
@@ -112,12 +112,12 @@ module _ (limits : Bounds) (db : Database) where
       (then_refuses never never (true_or Limit (nat_le (length (put_all there.heading.key there.rows rows)) limits.rows)) _ (test_refuses Limit _ refl) (λ _. refl)) (λ _. refl)))
       (λ _. refl)))))
 
-  delete_refuses : (name : List ℕ) (key : List Value) → Refuses faulty (delete_row db name key)
-  delete_refuses name key =
+  delete_refuses : (name : List ℕ) (values : List Value) → Refuses faulty (delete_row db name values)
+  delete_refuses name values =
       then_refuses never faulty (table_in db name) _ (some_refuses NoTable _ refl)
       (λ table. then_refuses never faulty (true_or NoKey (some table.heading.key)) _ (test_refuses NoKey _ refl)
-      (λ _. then_refuses never faulty (true_or TypeMismatch (fits_key table.heading.columns table.heading.key key)) _ (test_refuses TypeMismatch _ refl)
-      (λ _. then_refuses never faulty (true_or NullKey (not (list_any is_null key))) _ (test_refuses NullKey _ refl) (λ _. refl))))
+      (λ _. then_refuses never faulty (true_or TypeMismatch (fits_key table.heading.columns table.heading.key (stored_key table.heading.columns table.heading.key values))) _ (test_refuses TypeMismatch _ refl)
+      (λ _. then_refuses never faulty (true_or NullKey (not (list_any is_null (stored_key table.heading.columns table.heading.key values)))) _ (test_refuses NullKey _ refl) (λ _. refl))))
 
   show_refuses : (name : List ℕ) → Refuses faulty (show_table db name)
   show_refuses name = then_refuses never faulty (table_in db name) _ (some_refuses NoTable _ refl) (λ _. refl)
@@ -134,11 +134,11 @@ module _ (limits : Bounds) (db : Database) where
   group_plan_refuses : (columns others : List Column) (clauses : GroupClauses) → Refuses never (group_plan columns others clauses)
   group_plan_refuses columns others clauses =
       then_refuses never never (group_named columns others clauses) _
-      (then_refuses never never (some_or NoColumn (positions_of columns clauses.by)) _ (named_refuses _)
+      (then_refuses never never (some_or NoColumn (positions_of columns clauses.by.columns)) _ (named_refuses _)
       (λ by. then_refuses never never (some_or NoColumn (all_shown columns clauses.shown)) _ (named_refuses _)
       (λ shown. then_refuses never never (some_or NoColumn (all_placed (in_row columns) clauses.tests)) _ (named_refuses _)
       (λ tests. then_refuses never never (matching_named columns others clauses.exists) _ (matching_refuses columns others clauses.exists)
-      (λ matching. then_refuses never never (some_or NoColumn (all_placed (in_result clauses.by clauses.shown) clauses.having)) _ (named_refuses _) (λ _. refl))))))
+      (λ matching. then_refuses never never (some_or NoColumn (all_placed (in_result clauses.by.columns clauses.shown) clauses.having)) _ (named_refuses _) (λ _. refl))))))
       (λ plan. then_refuses never never (true_or TypeMismatch (group_fits columns others plan)) _ (test_refuses TypeMismatch _ refl) (λ _. refl))
 
   other_refuses : (exists : Option Exists) → Refuses never (other_in db exists)

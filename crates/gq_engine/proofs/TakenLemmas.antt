@@ -21,10 +21,10 @@ use Rattle.gq_table.specs.Refusing.{row_refusal, load_refusal, WhyNotPut, WhyNot
 use Rattle.gq_reply.proofs.StepLemmas.{finds}
 use Rattle.gq_engine.specs.Databases.{Database, IsKeyed, names_differ, table_at, with_table, without_table, StandsAt}
 use Rattle.gq_reply.specs.Outcomes.{◌>>=◌, true_or}
-use Rattle.gq_engine.specs.Refusing.{rows_with, put_within, put_all_within, fits_key, key_within, table_refusal}
+use Rattle.gq_engine.specs.Refusing.{rows_with, put_within, put_all_within, fits_key, stored_key, key_within, table_refusal}
 use Rattle.gq_engine.specs.Runs.{SameTables}
 use Rattle.gq_engine.specs.Serving.{Changes, Settles, Takes, HasRows, Deletes, deleted}
-use Rattle.gq_engine.specs.Steps.{Outcome, table_in, delete_row, drop_table}
+use Rattle.gq_engine.specs.Steps.{Outcome, table_in, key_named, delete_row, drop_table}
 use Rattle.gq_engine.proofs.FormLemmas.{dropped_at, drop_takes}
 use Rattle.gq_engine.proofs.MapLemmas.{differ_without}
 use Rattle.gq_engine.proofs.OrderLemmas.{same_tables, without_keyed}
@@ -138,28 +138,31 @@ abbrev delete_from : Database → List ℕ → List Value → PlainTable → Out
 delete_from db name key table =
     Ok (with_table db name (record table { rows = delete table.heading.key table.rows key }), reply.Done (cond (has_row table.heading.key table.rows key) 1 0))
 
-delete-tests : (db : Database) (name : List ℕ) (key : List Value) (table : PlainTable) → table_at db name ≡ Some table → delete_row db name key ≡ (key_within table.heading key >>= λ _. delete_from db name key table)
-delete-tests db name key table found =
+delete-tests : (db : Database) (name : List ℕ) (values : List Value) (table : PlainTable) → table_at db name ≡ Some table
+    → delete_row db name values ≡ (key_within table.heading (stored_key table.heading.columns table.heading.key values) >>= λ _. delete_from db name (key_named table.heading values) table)
+delete-tests db name values table found =
+    let stored = stored_key table.heading.columns table.heading.key values in
     finds NoTable (table_at db name) table _ found
-    ∙ tested (some table.heading.key) (fits_key table.heading.columns table.heading.key key) (not (list_any is_null key)) (delete_from db name key table)
+    ∙ tested (some table.heading.key) (fits_key table.heading.columns table.heading.key stored) (not (list_any is_null stored)) (delete_from db name (key_named table.heading values) table)
 
--- the table of a name without the row of a key, or as it was
-pub took_out : (db : Database) (name : List ℕ) (i : ℕ) (at : List ℕ × PlainTable) (key : List Value) (result : Result Bool Refused) (new : PlainTable)
-    → StandsAt db name i → at ≡ get_or db i at → Deletes key result at.1 new → Settles deleted (delete_row db name key) result db (set db i (at.0, new))
-took_out db name i at key (Ok found) new s is h =
+-- the table of a name without the row of the key that values name, or as it was
+pub took_out : (db : Database) (name : List ℕ) (i : ℕ) (at : List ℕ × PlainTable) (values : List Value) (result : Result Bool Refused) (new : PlainTable)
+    → StandsAt db name i → at ≡ get_or db i at → Deletes values result at.1 new → Settles deleted (delete_row db name values) result db (set db i (at.0, new))
+took_out db name i at values (Ok found) new s is h =
     let same : at ≡ s.entry = is ∙ get_or_default db i at s.entry s.within ∙ sym s.here in
     let there : table_at db name ≡ Some at.1 = s.table ∙ ap (λ (e : List ℕ × PlainTable). Some e.1) (sym same) in
+    let key = key_named at.1.heading values in
     let table : PlainTable = record at.1 { rows = delete at.1.heading.key at.1.rows key } in (
       with_table db name table,
-      delete-tests db name key at.1 there ∙ ap (λ r. r >>= λ _. delete_from db name key at.1) h.0 ∙ ap (λ b. Ok (with_table db name table, deleted b)) (sym h.2),
+      delete-tests db name values at.1 there ∙ ap (λ r. r >>= λ _. delete_from db name key at.1) h.0 ∙ ap (λ b. Ok (with_table db name table, deleted b)) (sym h.2),
       subst (λ (d : Database). SameTables d (set db i (at.0, new))) (sym (s.changed table ∙ ap (λ (e : List ℕ × PlainTable). set db i (e.0, table)) (sym same)))
           (same_at db i at.0 table new (sym h.1.heading) h.1.rows),
     )
-took_out db name i at key (Err why) new s is h =
+took_out db name i at values (Err why) new s is h =
     let same : at ≡ s.entry = is ∙ get_or_default db i at s.entry s.within ∙ sym s.here in
     let there : table_at db name ≡ Some at.1 = s.table ∙ ap (λ (e : List ℕ × PlainTable). Some e.1) (sym same) in
     let kept : set db i (at.0, new) ≡ db = ap (λ (t : PlainTable). set db i (at.0, t)) h.0 ∙ (ap (set db i) is ∙ set-get_or db i at) in
-    (subst (SameTables db) (sym kept) (same_tables db), delete-tests db name key at.1 there ∙ ap (λ r. r >>= λ _. delete_from db name key at.1) h.1)
+    (subst (SameTables db) (sym kept) (same_tables db), delete-tests db name values at.1 there ∙ ap (λ r. r >>= λ _. delete_from db name (key_named at.1.heading values) at.1) h.1)
 
 -- without the table at a place the names still differ, and so do keys
 pub removed_stands : (db : Database) (name : List ℕ) (i : ℕ) (new : Database) → StandsAt db name i → IsTrue (names_differ db) × IsKeyed db → new ≡ remove db i → IsTrue (names_differ new) × IsKeyed new

@@ -22,6 +22,7 @@ use Rattle.gq_reply.specs.declared.refusal.Refusal.TheVariants.{NoTable, TypeMis
 use Rattle.gq_reply.specs.declared.refusal.Refused.{Refused}
 use Rattle.gq_reply.specs.declared.reply.Reply.{Reply}
 use Rattle.gq_reply.specs.declared.reply.Reply.TheVariants as reply
+use Rattle.gq_reply.specs.Outcomes.{◌>>=◌}
 use Rattle.gq_reply.specs.Refusals.{unnumbered}
 use Rattle.gq_reply.proofs.StepLemmas.{gives, passes, fails, finds}
 use Rattle.gq_engine.specs.Databases.{Database, table_at, with_table}
@@ -29,7 +30,8 @@ use Rattle.gq_engine.specs.Loading.{fault_refusal, refused_by}
 use Rattle.gq_engine.specs.Orders.{after_all, replies_to}
 use Rattle.gq_engine.specs.Refusing.{has_null_key, rows_with, put_within}
 use Rattle.gq_engine.specs.Steps.{Outcome, settle, step, load_table, with_row}
-use Rattle.gq_engine.specs.Upserting.{upserts, UpsertsOf, LoadIsUpserts}
+use Rattle.gq_engine.specs.Upserting.{literal_of, upserts, UpsertsOf, LoadIsUpserts}
+use Rattle.gq_engine.proofs.CaseLemmas.{literals_stored}
 use Rattle.gq_engine.proofs.FormLemmas.{load_none, load_faulty, load_refused, load_puts, rows_refused, rows_put}
 use Rattle.gq_engine.proofs.MapLemmas.{itself, changed}
 
@@ -87,13 +89,14 @@ with_twice (entry ∷ db) name s t = here (bytes_eq entry.0 name) refl (with_twi
 
 -- ---- upserts one after the other
 
--- a row that a table takes is put
+-- a row that a table takes is put by its literals
 upserted : (limits : Bounds) (db : Database) (name : Bytes) (table : PlainTable) (row : List Value) → table_at db name ≡ Some table → fits_columns table.heading.columns row ≡ true → not (has_null table.heading.key row) ≡ true
-    → length (rows_with table row) ≤ limits.rows → step limits db (item.Command (Upsert name row)) ≡ (with_table db name (record table { rows = rows_with table row }), reply.Done 1)
-upserted limits db name table row found fits keyed few = ap (settle db) (gives (with_row limits db name row) (with_table db name (record table { rows = rows_with table row })) _ put_it)
+    → length (rows_with table row) ≤ limits.rows → step limits db (item.Command (Upsert name (map literal_of row))) ≡ (with_table db name (record table { rows = rows_with table row }), reply.Done 1)
+upserted limits db name table row found fits keyed few = ap (settle db) (gives (with_row limits db name (map literal_of row)) (with_table db name (record table { rows = rows_with table row })) _ put_it)
   where
-    put_it : with_row limits db name row ≡ Ok (with_table db name (record table { rows = rows_with table row }))
+    put_it : with_row limits db name (map literal_of row) ≡ Ok (with_table db name (record table { rows = rows_with table row }))
     put_it = finds NoTable (table_at db name) table _ found
+        ∙ ap (λ (r : List Value). put_within limits table r >>= λ rows. Ok (with_table db name (record table { rows = rows }))) (literals_stored table.heading.columns row fits)
         ∙ gives (put_within limits table row) (rows_with table row) _
         (passes TypeMismatch (fits_columns table.heading.columns row) _ fits ∙ passes NullKey (not (has_null_key table row)) _ keyed ∙ passes Limit (nat_le (length (rows_with table row)) limits.rows) _ (le-leb (length (rows_with table row)) limits.rows few))
 
@@ -111,7 +114,7 @@ all_upserted limits db name table (row ∷ rows) found fits keyed few =
     let fit = and_parts (fits_columns table.heading.columns row) (list_all (fits_columns table.heading.columns) rows) fits in
     let key = and_parts (not (has_null table.heading.key row)) (list_all (λ row. not (has_null table.heading.key row)) rows) keyed in
     let less = grows_all table.heading.key (rows_with table row) rows in
-    let first : step limits db (item.Command (Upsert name row)) ≡ (between, reply.Done 1) = upserted limits db name table row found fit.0 key.0 (omega arith) in
+    let first : step limits db (item.Command (Upsert name (map literal_of row))) ≡ (between, reply.Done 1) = upserted limits db name table row found fit.0 key.0 (omega arith) in
     let rest = all_upserted limits between name after rows (changed db name after) fit.1 key.1 few in
     record {
       same = ap (λ (p : Database × Reply). after_all limits p.0 (upserts name rows)) first ∙ rest.same

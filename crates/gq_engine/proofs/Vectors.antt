@@ -1,8 +1,8 @@
 -- Worked examples, computed by the definitions.
-use Rattle.std.proofs.Common.{◌≡◌, ◌∙◌, ◌≤◌, ◌+◌, ◌-◌, ◌*◌, ℕ, true, List, [], ◌∷◌, length, pos, negsuc, Some, None, Ok, Err, refl, sym, ap, subst, arith, codes}
+use Rattle.std.proofs.Common.{◌≡◌, ◌∙◌, ◌≤◌, ◌+◌, ◌-◌, ◌*◌, ℕ, true, false, List, [], ◌∷◌, length, pos, negsuc, Some, None, Ok, Err, refl, sym, ap, subst, arith, codes}
 use Rattle.std.specs.Prelude.{Result}
 use Rattle.gq_row.specs.declared.value.Value.{Value}
-use Rattle.gq_row.specs.declared.value.Value.TheVariants.{Null, Int, Text}
+use Rattle.gq_row.specs.declared.value.Value.TheVariants.{Null, Int, Text, NoCase}
 use Rattle.gq_row.specs.declared.schema.Column.{Column}
 use Rattle.gq_row.specs.declared.schema.Kind.TheVariants as kind
 use Rattle.gq_row.specs.declared.limits.Bounds.{Bounds}
@@ -13,12 +13,16 @@ use Rattle.gq_group.specs.Groups.{keys_of}
 use Rattle.gq_load.specs.declared.load_refusal.LoadRefusal.TheVariants as fault
 use Rattle.gq_load.specs.Payloads.{load}
 use Rattle.gq_command.specs.Commands.{Bytes}
+use Rattle.gq_command.specs.declared.command.By.{By}
 use Rattle.gq_command.specs.declared.command.Command.{Command}
 use Rattle.gq_command.specs.declared.command.Command.TheVariants.{Create, Drop, Load, Upsert, Delete, Show, Group, Distinct}
 use Rattle.gq_command.specs.declared.command.Payload.{Payload}
 use Rattle.gq_command.specs.declared.command.Payload.TheVariants as payload
 use Rattle.gq_clause.specs.declared.aggregate.Aggregate.{Aggregate}
 use Rattle.gq_clause.specs.declared.aggregate.Aggregate.TheVariants.{CountAll, Count, CountDistinct, Sum, Min, Max}
+use Rattle.gq_clause.specs.declared.condition.Operand.TheVariants as operand
+use Rattle.gq_clause.specs.declared.condition.Test.{Test}
+use Rattle.gq_clause.specs.declared.condition.Test.TheVariants.{IsNull}
 use Rattle.gq_command.specs.declared.reader.Item.TheVariants as item
 use Rattle.gq_command.specs.declared.lines.LineRefusal.TheVariants as line
 use Rattle.gq_reply.specs.declared.refusal.Refusal.TheVariants.{LineTooLong, NoTable, TableExists, NoColumn, TypeMismatch, NoKey, NullKey, Header, FieldCount, BadInt, BadText, SumRange, Limit, Memory, LoadOpen}
@@ -28,7 +32,8 @@ use Rattle.gq_reply.specs.declared.reply.Reply.TheVariants as reply
 use Rattle.gq_engine.specs.Databases.{Database}
 use Rattle.gq_reply.specs.Refusals.{refused}
 use Rattle.gq_engine.specs.Engines.{NOTHING_SPENT}
-use Rattle.gq_engine.specs.Spending.{Spends, both_spent, sum_within}
+use Rattle.gq_query.specs.Work.{IsSpentOn, RisesBy, both_spent, sum_within}
+use Rattle.gq_engine.specs.Spending.{Spends}
 use Rattle.gq_engine.specs.Steps.{step}
 
 abbrev after : Bounds → Database → Command → Database
@@ -37,8 +42,8 @@ after limits db command = (step limits db (item.Command command)).0
 abbrev answer : Bounds → Database → Command → Reply
 answer limits db command = (step limits db (item.Command command)).1
 
--- which columns and rows a `group` asks for
-abbrev asked_of : Result (List ℕ × List (List Value)) Refused → List ℕ × List (List Value) → List ℕ × List (List Value)
+-- which grouping sets and rows a `group` asks for
+abbrev asked_of : Result (List (List ℕ) × List (List Value)) Refused → List (List ℕ) × List (List Value) → List (List ℕ) × List (List Value)
 asked_of (Ok asked) other = asked
 asked_of (Err why) other = other
 
@@ -55,9 +60,16 @@ create_s = Create (codes "s") (number (codes "id") ∷ column (codes "city") ∷
 abbrev upsert_s : Value → Value → Command
 upsert_s id city = Upsert (codes "s") (id ∷ city ∷ [])
 
+-- by these columns, and by a rollup of them
+abbrev plainly : List (List ℕ) → By
+plainly columns = record { columns = columns; rollup = false }
+
+abbrev rolled_up : List (List ℕ) → By
+rolled_up columns = record { columns = columns; rollup = true }
+
 -- group s by .. show count(*)
 abbrev group_s : List (List ℕ) → Command
-group_s by = Group (codes "s") by (CountAll ∷ []) [] None []
+group_s by = Group (codes "s") (plainly by) (CountAll ∷ []) [] None []
 
 abbrev empty_s : Database
 empty_s = after GREATEST [] create_s
@@ -96,7 +108,7 @@ nulls_are_one_group = refl
 
 -- aggregates of groups, and of all rows
 abbrev aggregates_s : List (List ℕ) → List Aggregate → Command
-aggregates_s by shown = Group (codes "s") by shown [] None []
+aggregates_s by shown = Group (codes "s") (plainly by) shown [] None []
 
 no_rows_are_one_group : answer GREATEST empty_s (aggregates_s [] (CountAll ∷ Sum (codes "id") ∷ [])) ≡ reply.Rows (codes "count(*)" ∷ codes "sum(id)" ∷ []) ((Int (pos 0) ∷ Null ∷ []) ∷ [])
 no_rows_are_one_group = refl
@@ -151,7 +163,7 @@ kinds_before_null_key = refl
 
 -- small limits
 abbrev one_each : Bounds
-one_each = record { tables = 1; columns = 32; aggregates = 8; name = 63; text = 65535; line = 65536; payload = 1; rows = 1; script = 1 }
+one_each = record { tables = 1; columns = 128; aggregates = 16; name = 63; text = 65535; line = 65536; payload = 1; rows = 1; script = 1 }
 
 one_table : answer one_each (after one_each [] create_s) (Create (codes "t") (number (codes "a") ∷ []) []) ≡ refused Limit
 one_table = refl
@@ -258,6 +270,60 @@ in_the_columns_order = refl
 kinds_before_null_of_a_delete : answer GREATEST two_keys (Delete (codes "p") (Null ∷ Text (codes "x") ∷ [])) ≡ refused TypeMismatch
 kinds_before_null_of_a_delete = refl
 
+-- texts without case
+
+abbrev caseless : List ℕ → Column
+caseless name = record { name = name; kind = kind.NoCase }
+
+-- create p (c text nocase, key (c))
+abbrev upsert_p : Value → Command
+upsert_p c = Upsert (codes "p") (c ∷ [])
+
+abbrev delete_p : Value → Command
+delete_p c = Delete (codes "p") (c ∷ [])
+
+abbrev empty_p : Database
+empty_p = after GREATEST [] (Create (codes "p") (caseless (codes "c") ∷ []) (codes "c" ∷ []))
+
+-- an upsert in another spelling replaces the row, its spelling too
+abbrev respelled : Database
+respelled = after GREATEST (after GREATEST empty_p (upsert_p (Text (codes "Oslo")))) (upsert_p (Text (codes "OSLO")))
+
+last_spelling : answer GREATEST respelled (Show (codes "p")) ≡ reply.Rows (codes "c" ∷ []) ((NoCase (codes "OSLO") ∷ []) ∷ [])
+last_spelling = refl
+
+-- and a delete finds it in each
+deleted_in_another_spelling : step GREATEST respelled (item.Command (delete_p (Text (codes "oslo")))) ≡ (empty_p, reply.Done 1)
+deleted_in_another_spelling = refl
+
+another_text_stays : step GREATEST respelled (item.Command (delete_p (Text (codes "osla")))) ≡ (respelled, reply.Done 0)
+another_text_stays = refl
+
+no_number_without_case : answer GREATEST empty_p (upsert_p (Int (pos 1))) ≡ refused TypeMismatch
+no_number_without_case = refl
+
+null_key_without_case : answer GREATEST empty_p (upsert_p Null) ≡ refused NullKey
+null_key_without_case = refl
+
+delete_of_a_number_without_case : answer GREATEST respelled (delete_p (Int (pos 1))) ≡ refused TypeMismatch
+delete_of_a_number_without_case = refl
+
+delete_of_null_without_case : answer GREATEST respelled (delete_p Null) ≡ refused NullKey
+delete_of_null_without_case = refl
+
+-- create q (c text nocase, d int): each group shows the least spelling of its own rows, and groups come in the order of the folds
+abbrev two_spellings : Database
+two_spellings =
+    after GREATEST (after GREATEST (after GREATEST [] (Create (codes "q") (caseless (codes "c") ∷ number (codes "d") ∷ []) []))
+    (Upsert (codes "q") (Text (codes "Oslo") ∷ Int (pos 2) ∷ []))) (Upsert (codes "q") (Text (codes "oslo") ∷ Int (pos 1) ∷ []))
+
+spelled_by_group : answer GREATEST two_spellings (Group (codes "q") (plainly (codes "c" ∷ codes "d" ∷ [])) (CountAll ∷ []) [] None [])
+    ≡ reply.Rows (codes "c" ∷ codes "d" ∷ codes "count(*)" ∷ []) ((NoCase (codes "oslo") ∷ Int (pos 1) ∷ Int (pos 1) ∷ []) ∷ (NoCase (codes "Oslo") ∷ Int (pos 2) ∷ Int (pos 1) ∷ []) ∷ [])
+spelled_by_group = refl
+
+least_spelling : answer GREATEST two_spellings (Distinct (codes "q") (codes "c" ∷ []) []) ≡ reply.Rows (codes "c" ∷ []) ((NoCase (codes "Oslo") ∷ []) ∷ [])
+least_spelling = refl
+
 -- load, of what its payload gives
 
 abbrev load_s : Payload → Command
@@ -334,32 +400,106 @@ as_many_as_may_be bytes given = rw given refl
 one_row_too_many : (bytes : Bytes) → load s three_each bytes ≡ Ok (city 3 (codes "z") ∷ city 4 (codes "q") ∷ []) → step three_each two_of_three (item.Command (load_s (payload.Bytes bytes))) ≡ (two_of_three, refused Limit)
 one_row_too_many bytes given = rw given refl
 
+-- the levels of a rollup
+
+-- create r (n int, a int, b int, key (n))
+abbrev create_r : Command
+create_r = Create (codes "r") (number (codes "n") ∷ number (codes "a") ∷ number (codes "b") ∷ []) (codes "n" ∷ [])
+
+abbrev upsert_r : Value → Value → Value → Command
+upsert_r n a b = Upsert (codes "r") (n ∷ a ∷ b ∷ [])
+
+-- group r by rollup (a, b) show .. having ..
+abbrev rollup_r : List Aggregate → List Test → Command
+rollup_r shown having = Group (codes "r") (rolled_up (codes "a" ∷ codes "b" ∷ [])) shown [] None having
+
+abbrev empty_r : Database
+empty_r = after GREATEST [] create_r
+
+abbrev two_r : Database
+two_r = after GREATEST (after GREATEST empty_r (upsert_r (Int (pos 1)) (Int (pos 1)) Null)) (upsert_r (Int (pos 2)) (Int (pos 1)) (Int (pos 5)))
+
+abbrev header_r : List Bytes
+header_r = codes "level" ∷ codes "a" ∷ codes "b" ∷ codes "count(*)" ∷ []
+
+-- over no rows there is the total alone
+total_of_nothing : answer GREATEST empty_r (rollup_r (CountAll ∷ []) []) ≡ reply.Rows header_r ((Int (pos 0) ∷ Null ∷ Null ∷ Int (pos 0) ∷ []) ∷ [])
+total_of_nothing = refl
+
+-- the total, one row for each a, and one for each a and b: a null of a row stands for a value there, and for no value at a level
+three_levels : answer GREATEST two_r (rollup_r (CountAll ∷ []) []) ≡ reply.Rows header_r (
+    (Int (pos 0) ∷ Null ∷ Null ∷ Int (pos 2) ∷ [])
+    ∷ (Int (pos 1) ∷ Int (pos 1) ∷ Null ∷ Int (pos 2) ∷ [])
+    ∷ (Int (pos 2) ∷ Int (pos 1) ∷ Null ∷ Int (pos 1) ∷ [])
+    ∷ (Int (pos 2) ∷ Int (pos 1) ∷ Int (pos 5) ∷ Int (pos 1) ∷ [])
+    ∷ [])
+three_levels = refl
+
+-- `having` sees the nulls of the columns that a level leaves out
+nulls_are_had : answer GREATEST (after GREATEST two_r (upsert_r (Int (pos 3)) Null (Int (pos 5)))) (rollup_r (CountAll ∷ Sum (codes "b") ∷ []) (IsNull (operand.Column (codes "a")) ∷ []))
+    ≡ reply.Rows (codes "level" ∷ codes "a" ∷ codes "b" ∷ codes "count(*)" ∷ codes "sum(b)" ∷ []) (
+    (Int (pos 0) ∷ Null ∷ Null ∷ Int (pos 3) ∷ Int (pos 10) ∷ [])
+    ∷ (Int (pos 1) ∷ Null ∷ Null ∷ Int (pos 1) ∷ Int (pos 5) ∷ [])
+    ∷ (Int (pos 2) ∷ Null ∷ Int (pos 5) ∷ Int (pos 1) ∷ Int (pos 5) ∷ [])
+    ∷ [])
+nulls_are_had = refl
+
+-- a sum of the total that is out of range refuses all, where each part of it is in range
+total_out_of_range : answer GREATEST (after GREATEST (after GREATEST empty_r (upsert_r (Int (pos 1)) (Int (pos 1)) (Int (pos 9223372036854775807)))) (upsert_r (Int (pos 2)) (Int (pos 2)) (Int (pos 1)))) (rollup_r (Sum (codes "b") ∷ []) []) ≡ refused SumRange
+total_out_of_range = refl
+
 -- what groupings take
+
+-- one grouping, by one of the two keys' columns
+abbrev OneRise : ℕ → List (List Value) → List ℕ → Spent → Type 0
+OneRise budget rows by new = (work : Spent) × IsSpentOn budget by rows work × (new ≡ both_spent NOTHING_SPENT work)
+
+one_rise : (budget : ℕ) (rows : List (List Value)) (by : List ℕ) (sets : List (List ℕ)) (new : Spent) → by ∷ [] ≡ sets → RisesBy true budget rows sets NOTHING_SPENT new → OneRise budget rows by new
+one_rise budget rows by sets new is h = by-risen (subst (λ s. RisesBy true budget rows s NOTHING_SPENT new) (sym is) h)
+  where
+    by-last : (old : Spent) → RisesBy true budget rows [] old new → new ≡ old
+    by-last old RisesBy.IsDone = refl
+
+    by-risen : RisesBy true budget rows (by ∷ []) NOTHING_SPENT new → OneRise budget rows by new
+    by-risen (RisesBy.Rises work is rest) = (work, is refl, by-last (both_spent NOTHING_SPENT work) rest)
 
 -- over two rows of two keys: within a budget of two or more nothing is written
 cities_are_read : (new : Spent) → Spends true 2 two_cities (group_s (codes "city" ∷ [])) (answer GREATEST two_cities (group_s (codes "city" ∷ []))) NOTHING_SPENT new
     → new ≡ record { rows_read = 2; rows_written = 0; groups = 2; runs = 0 }
 cities_are_read new h =
-    let asked = ap (λ r. asked_of r (h.by, h.rows)) h.asked in
-    let keys : 2 ≡ length (keys_of h.by h.rows) = ap (λ (a : List ℕ × List (List Value)). length (keys_of a.0 a.1)) asked in
-    let rows : 2 ≡ length h.rows = ap (λ (a : List ℕ × List (List Value)). length a.1) asked in
-    let work = h.work refl in
-    let read : h.more.rows_read ≡ 2 = work.read ∙ sym rows in
-    let groups : h.more.groups ≡ 2 = work.groups ∙ sym keys in
-    let runs : h.more.runs ≡ 0 = work.written.no_runs.1 (omega (arith, groups)) in
-    let written : h.more.rows_written ≡ 0 = work.written.no_rows.1 (omega (arith, groups)) in
-    h.sum ∙ (λ i. both_spent NOTHING_SPENT (record { rows_read = read i; rows_written = written i; groups = groups i; runs = runs i }))
+    let asked = ap (λ r. asked_of r (h.sets, h.rows)) h.asked in
+    let sets : (1 ∷ []) ∷ [] ≡ h.sets = ap (λ (a : List (List ℕ) × List (List Value)). a.0) asked in
+    let found = one_rise 2 h.rows (1 ∷ []) h.sets new sets h.work in
+    let keys : 2 ≡ length (keys_of (1 ∷ []) h.rows) = ap (λ (a : List (List ℕ) × List (List Value)). length (keys_of (1 ∷ []) a.1)) asked in
+    let rows : 2 ≡ length h.rows = ap (λ (a : List (List ℕ) × List (List Value)). length a.1) asked in
+    let work = found.1 in
+    let read : found.0.rows_read ≡ 2 = work.read ∙ sym rows in
+    let groups : found.0.groups ≡ 2 = work.groups ∙ sym keys in
+    let runs : found.0.runs ≡ 0 = work.written.no_runs.1 (omega (arith, groups)) in
+    let written : found.0.rows_written ≡ 0 = work.written.no_rows.1 (omega (arith, groups)) in
+    found.2 ∙ (λ i. both_spent NOTHING_SPENT (record { rows_read = read i; rows_written = written i; groups = groups i; runs = runs i }))
 
 -- within a budget of one group the rows of the other key are written, to one run
 one_run_is_made : (new : Spent) → Spends true 1 two_cities (group_s (codes "city" ∷ [])) (answer GREATEST two_cities (group_s (codes "city" ∷ []))) NOTHING_SPENT new → new.runs ≡ 1
 one_run_is_made new h =
-    let keys : 2 ≡ length (keys_of h.by h.rows) = ap (λ r. length (keys_of (asked_of r (h.by, h.rows)).0 (asked_of r (h.by, h.rows)).1)) h.asked in
-    let work = h.work refl in
-    let groups : h.more.groups ≡ 2 = work.groups ∙ sym keys in
-    let some : 2 ≤ 1 * (h.more.runs + 1) = subst (λ n. n ≤ 1 * (h.more.runs + 1)) groups work.written.by_runs in
-    let few : h.more.runs ≤ 2 - 1 = subst (λ n. h.more.runs ≤ n - 1) groups work.written.few_runs in
-    let runs : h.more.runs ≡ 1 = omega arith in
-    ap (λ (s : Spent). s.runs) h.sum ∙ ap (λ n. sum_within 0 n) runs
+    let asked = ap (λ r. asked_of r (h.sets, h.rows)) h.asked in
+    let sets : (1 ∷ []) ∷ [] ≡ h.sets = ap (λ (a : List (List ℕ) × List (List Value)). a.0) asked in
+    let found = one_rise 1 h.rows (1 ∷ []) h.sets new sets h.work in
+    let keys : 2 ≡ length (keys_of (1 ∷ []) h.rows) = ap (λ (a : List (List ℕ) × List (List Value)). length (keys_of (1 ∷ []) a.1)) asked in
+    let work = found.1 in
+    let more : Spent = found.0 in
+    let groups : more.groups ≡ 2 = work.groups ∙ sym keys in
+    let some : 2 ≤ 1 * (more.runs + 1) = subst (λ n. n ≤ 1 * (more.runs + 1)) groups work.written.by_runs in
+    let few : more.runs ≤ 2 - 1 = subst (λ n. more.runs ≤ n - 1) groups work.written.few_runs in
+    let runs : more.runs ≡ 1 = omega arith in
+    ap (λ (s : Spent). s.runs) found.2 ∙ ap (λ n. sum_within 0 n) runs
+
+-- a rollup of two columns groups by none, by the first and by both, and what was spent rises by each
+three_groupings : (budget : ℕ) (new : Spent) → Spends true budget two_cities (Group (codes "s") (rolled_up (codes "id" ∷ codes "city" ∷ [])) (CountAll ∷ []) [] None []) (answer GREATEST two_cities (Group (codes "s") (rolled_up (codes "id" ∷ codes "city" ∷ [])) (CountAll ∷ []) [] None [])) NOTHING_SPENT new
+    → (rows : List (List Value)) × RisesBy true budget rows ([] ∷ (0 ∷ []) ∷ (0 ∷ 1 ∷ []) ∷ []) NOTHING_SPENT new
+three_groupings budget new h =
+    let sets : [] ∷ (0 ∷ []) ∷ (0 ∷ 1 ∷ []) ∷ [] ≡ h.sets = ap (λ r. (asked_of r (h.sets, h.rows)).0) h.asked in
+    (h.rows, subst (λ s. RisesBy true budget h.rows s NOTHING_SPENT new) (sym sets) h.work)
 
 -- each number stops at the greatest
 stops_at_the_greatest : both_spent (record { rows_read = 18446744073709551614; rows_written = 18446744073709551615; groups = 5; runs = 0 }) (record { rows_read = 3; rows_written = 0; groups = 7; runs = 18446744073709551615 })

@@ -6,6 +6,7 @@ pub mod Runs
 pub mod Headline
 pub mod Orders
 pub mod Repeating
+pub mod Casing
 pub mod Spending
 pub mod Upserting
 -- and what they stand on

@@ -4,7 +4,7 @@ use Rattle.std.specs.List.{list_any}
 use Rattle.gq_row.specs.declared.value.Value.{Value}
 use Rattle.gq_row.specs.declared.schema.Column.{Column}
 use Rattle.gq_row.specs.declared.limits.Bounds.{Bounds}
-use Rattle.gq_row.specs.Fitting.{fits_columns, goes_in, has_null, is_null}
+use Rattle.gq_row.specs.Fitting.{fits_columns, goes_in, has_null, is_null, stored}
 use Rattle.gq_row.specs.Headings.{Heading}
 use Rattle.gq_row.specs.Tables.{PlainTable, put, put_all}
 use Rattle.gq_load.specs.Payloads.{kind_at}
@@ -39,6 +39,12 @@ abbrev pub put_all_within : Bounds → PlainTable → List (List Value) → Resu
 put_all_within limits table new = do
   few ← true_or Limit (nat_le (length (put_all table.heading.key table.rows new)) limits.rows)
   Ok (put_all table.heading.key table.rows new)
+
+-- values in the order of a key, each as its column stores it
+abbrev pub stored_key : List Column → List ℕ → List Value → List Value
+stored_key columns [] values = values
+stored_key columns (position ∷ positions) [] = []
+stored_key columns (position ∷ positions) (value ∷ values) = stored (kind_at columns position) value ∷ stored_key columns positions values
 
 -- as many values as key columns, and each may stand in its column
 abbrev pub fits_key : List Column → List ℕ → List Value → Bool

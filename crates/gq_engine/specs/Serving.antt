@@ -17,9 +17,9 @@ use Rattle.gq_engine.specs.Headline.{State}
 use Rattle.gq_reply.specs.Refusals.{unnumbered, told}
 use Rattle.gq_reply.specs.Replies.{text}
 use Rattle.gq_engine.specs.Runs.{Setting, AnsweredAlike, IsGrouped, is_store_fault, SameTables, KeptUnlessDone, FaultsHappened}
-use Rattle.gq_engine.specs.Refusing.{key_within}
+use Rattle.gq_engine.specs.Refusing.{key_within, stored_key}
 use Rattle.gq_engine.specs.Sending.{AppendsFront}
-use Rattle.gq_engine.specs.Steps.{Outcome, settle}
+use Rattle.gq_engine.specs.Steps.{Outcome, settle, key_named}
 
 -- the steps of a command came to this reply, and to tables that are these but for the order of rows
 pub record CarriedOut (steps : Outcome) (answer : Reply) (old new : Database) : Type 0 where
@@ -85,10 +85,11 @@ abbrev pub Takes : {X : Type 0} → Result (List (List Value)) Refused → Resul
 Takes steps (Ok x) old new = HasRows steps old new
 Takes steps (Err why) old new = (new ≡ old) × ((why ≡ unnumbered Memory) ⊎ (steps ≡ Err why))
 
--- what a delete from one table did: the row of the key is away, and whether there was one is told; or it is refused and the table left
+-- what a delete from one table did: the row of the key that values name is away, and whether there was one is told; or it is refused and the table left
 abbrev pub Deletes : List Value → Result Bool Refused → PlainTable → PlainTable → Type 0
-Deletes key (Ok found) old new = (key_within old.heading key ≡ Ok tt) × IsDeleted old key new × (found ≡ has_row old.heading.key old.rows key)
-Deletes key (Err why) old new = (new ≡ old) × (key_within old.heading key ≡ Err why)
+Deletes values (Ok found) old new =
+    (key_within old.heading (stored_key old.heading.columns old.heading.key values) ≡ Ok tt) × IsDeleted old (key_named old.heading values) new × (found ≡ has_row old.heading.key old.rows (key_named old.heading values))
+Deletes values (Err why) old new = (new ≡ old) × (key_within old.heading (stored_key old.heading.columns old.heading.key values) ≡ Err why)
 
 -- the reply to a delete
 abbrev pub deleted : Bool → Reply

@@ -1,11 +1,12 @@
 -- What one item of a script does to a database. A command is its steps in the order of refusals: the first that fails is its refusal.
-use Rattle.std.specs.Prelude.{◌≡◌, ℕ, List, [], ◌∷◌, ◌++◌, length, not, nat_lt, is_some, Option, Some, None, Result, Ok, Err, if◌then◌else◌}
+use Rattle.std.specs.Prelude.{◌≡◌, ℕ, List, [], ◌∷◌, ◌++◌, length, map, not, nat_lt, is_some, Option, Some, None, Result, Ok, Err, if◌then◌else◌}
 use Rattle.std.specs.List.{list_any}
 use Rattle.gq_row.specs.declared.value.Value.{Value}
 use Rattle.gq_row.specs.declared.schema.Column.{Column}
 use Rattle.gq_row.specs.declared.limits.Bounds.{Bounds}
-use Rattle.gq_row.specs.Fitting.{is_null}
-use Rattle.gq_row.specs.Headings.{positions_of}
+use Rattle.gq_row.specs.Fitting.{is_null, stored_in}
+use Rattle.gq_row.specs.Folding.{folded}
+use Rattle.gq_row.specs.Headings.{Heading, positions_of}
 use Rattle.gq_row.specs.Tables.{PlainTable, delete, has_row}
 use Rattle.gq_command.specs.Commands.{Bytes, column_names, some}
 use Rattle.gq_clause.specs.declared.condition.Test.{Test}
@@ -22,7 +23,8 @@ use Rattle.gq_reply.specs.declared.refusal.Refusal.TheVariants.{Syntax, LineTooL
 use Rattle.gq_reply.specs.declared.refusal.Refused.{Refused}
 use Rattle.gq_reply.specs.declared.reply.Reply.{Reply}
 use Rattle.gq_reply.specs.declared.reply.Reply.TheVariants as reply
-use Rattle.gq_query.specs.Answers.{answer_having, distinct_keys, rows_kept, rows_shown}
+use Rattle.gq_query.specs.Answers.{distinct_keys, rows_kept, rows_shown}
+use Rattle.gq_query.specs.Rollups.{group_answer}
 use Rattle.gq_query.specs.Selecting.{other_columns, other_rows}
 use Rattle.gq_plan.specs.declared.clauses.GroupClauses.{GroupClauses}
 use Rattle.gq_plan.specs.declared.plan.GroupPlan.{GroupPlan}
@@ -33,7 +35,7 @@ use Rattle.gq_engine.specs.Databases.{Database, table_at, with_table, without_ta
 use Rattle.gq_engine.specs.Loading.{is_lost, bytes_told, rows_told}
 use Rattle.gq_reply.specs.Outcomes.{◌>>=◌, some_or, true_or}
 use Rattle.gq_reply.specs.Refusals.{told, refused}
-use Rattle.gq_engine.specs.Refusing.{put_within, put_all_within, fits_key}
+use Rattle.gq_engine.specs.Refusing.{put_within, put_all_within, fits_key, stored_key}
 
 -- what a command comes to: the database and the reply where it is carried out, or why it is refused
 abbrev pub Outcome : Type 0
@@ -57,11 +59,11 @@ drop_table db name = do
   table ← table_in db name
   Ok (without_table db name, reply.Done 0)
 
--- a row is put
+-- a row is put, its values as the columns store them
 abbrev pub with_row : Bounds → Database → List ℕ → List Value → Result Database Refused
 with_row limits db name row = do
   table ← table_in db name
-  rows ← put_within limits table row
+  rows ← put_within limits table (stored_in table.heading.columns row)
   Ok (with_table db name (record table { rows = rows }))
 
 abbrev pub upsert : Bounds → Database → List ℕ → List Value → Outcome
@@ -86,13 +88,19 @@ load_table limits db name payload = do
   new ← with_rows limits db name rows
   Ok (new, reply.Done (length rows))
 
--- the row of a key is taken away, if there is one
+-- the key that values name: the folds of what its columns store of them
+abbrev pub key_named : Heading → List Value → List Value
+key_named heading values = map folded (stored_key heading.columns heading.key values)
+
+-- the row of the key that values name is taken away, if there is one
 abbrev pub delete_row : Database → List ℕ → List Value → Outcome
-delete_row db name key = do
+delete_row db name values = do
   table ← table_in db name
+  let stored = stored_key table.heading.columns table.heading.key values
   keyed ← true_or NoKey (some table.heading.key)
-  fitting ← true_or TypeMismatch (fits_key table.heading.columns table.heading.key key)
-  whole ← true_or NullKey (not (list_any is_null key))
+  fitting ← true_or TypeMismatch (fits_key table.heading.columns table.heading.key stored)
+  whole ← true_or NullKey (not (list_any is_null stored))
+  let key = key_named table.heading values
   Ok (with_table db name (record table { rows = delete table.heading.key table.rows key }), reply.Done (if has_row table.heading.key table.rows key then 1 else 0))
 
 -- all rows are shown
@@ -120,7 +128,7 @@ rows_about plan table other = rows_kept plan.condition.tests plan.matching (othe
 
 -- the result rows of a `group` by its plan
 abbrev pub rows_planned : GroupPlan → PlainTable → Option PlainTable → Option (List (List Value))
-rows_planned plan table other = answer_having plan.by plan.shown plan.having.tests (rows_about plan table other)
+rows_planned plan table other = group_answer plan.rollup plan.by plan.shown plan.having.tests (rows_about plan table other)
 
 -- rows are grouped, and aggregates of each group shown
 abbrev pub group : Database → List ℕ → GroupClauses → Outcome

@@ -1,6 +1,7 @@
 -- A load does what the upserts of its rows do.
 use Rattle.std.specs.Prelude.{◌≡◌, ℕ, List, length, map, Some, Ok}
 use Rattle.gq_row.specs.declared.value.Value.{Value}
+use Rattle.gq_row.specs.declared.value.Value.TheVariants.{Null, Int, Text, NoCase}
 use Rattle.gq_row.specs.declared.limits.Bounds.{Bounds}
 use Rattle.gq_row.specs.Tables.{PlainTable}
 use Rattle.gq_load.specs.Payloads.{load}
@@ -14,9 +15,16 @@ use Rattle.gq_engine.specs.Databases.{Database, table_at}
 use Rattle.gq_engine.specs.Orders.{after_all, replies_to}
 use Rattle.gq_engine.specs.Steps.{step}
 
--- the upserts of rows into a table
+-- the literal of a value: of a text without case it is a text
+abbrev pub literal_of : Value → Value
+literal_of Null = Null
+literal_of (Int n) = Int n
+literal_of (Text t) = Text t
+literal_of (NoCase t) = Text t
+
+-- the upserts of rows into a table, by their literals
 abbrev pub upserts : Bytes → List (List Value) → List Item
-upserts name rows = map (λ row. item.Command (Upsert name row)) rows
+upserts name rows = map (λ row. item.Command (Upsert name (map literal_of row))) rows
 
 -- the rows of a payload, as many as were told, and what their upserts leave and answer
 pub record UpsertsOf (limits : Bounds) (db : Database) (name bytes : Bytes) (count : ℕ) (new : Database) : Type 0 where

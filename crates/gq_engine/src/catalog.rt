@@ -1,5 +1,6 @@
 //! The tables of a database, by their names.
 ghost use Rattle.std.specs.Prelude.{◌≡◌, ◌++◌, ◌∷◌, [], IfSome, OnOk, OnErr, length, option_copied, MatchOption, None};
+ghost use Rattle.gq_row.specs.Fitting.{stored_in};
 ghost use Rattle.gq_reply.specs.declared.reply.Reply.TheVariants.{Done};
 ghost use Rattle.gq_reply.specs.Refusals.{unnumbered};
 ghost use Rattle.gq_table.specs.Standing.{IsStanding};
@@ -8,7 +9,7 @@ ghost use Rattle.gq_engine.specs.Refusing.{put_within, put_all_within, table_ref
 ghost use Rattle.gq_engine.specs.Serving.{Changes, Settles, Takes, Deletes, deleted};
 ghost use Rattle.gq_engine.specs.Steps.{with_row, with_rows, delete_row, drop_table};
 
-use crate::keys::check_key;
+use crate::keys::{check_key, store_key};
 use gq_reply::{Refusal, Refused};
 use gq_row::{Key, Limits, Row, Schema, Text, Value};
 use gq_table::{Table, TableRefusal};
@@ -66,7 +67,7 @@ impl<H: KeyHash<Key> + Copy> Catalog<H> {
         Some(&self.tables[i].1)
     }
 
-    /// Puts a row into the table of a name.
+    /// Puts a row into the table of a name, its values as the columns store them.
     pub fn upsert(&mut self, name: &str, row: Row, limits: &Limits) -> Result<(), Refused>
         ensures { Changes (with_row limits.now.bounds self.old name.now row)
             result self.old self.new }
@@ -91,13 +92,14 @@ impl<H: KeyHash<Key> + Copy> Catalog<H> {
         }
     }
 
-    /// Takes the row of a key out of the table of a name, and tells whether there was one. It takes
-    /// no memory.
-    pub fn delete(&mut self, name: &str, key: &[Value]) -> Result<bool, Refused>
-        ensures { Settles deleted (delete_row self.old name.now key.now) result self.old self.new }
+    /// Takes the row of the key that values name out of the table of a name, and tells whether there
+    /// was one. The values become what the key's columns store of them, so it takes no memory.
+    pub fn delete(&mut self, name: &str, values: &mut [Value]) -> Result<bool, Refused>
+        ensures { Settles deleted (delete_row self.old name.now values.old)
+            result self.old self.new }
     {
         match find_table(self.tables.as_slice(), name) {
-            Some(i) => delete_row(&mut self.tables[i].1, key),
+            Some(i) => delete_row(&mut self.tables[i].1, values),
             None => Err(Refused::from(Refusal::NoTable)),
         }
     }
@@ -140,15 +142,17 @@ fn find_table<H: KeyHash<Key>>(tables: &[(Text, Table<H>)], name: &str) -> Optio
     None
 }
 
-// Puts a row into a table, or says why the table refuses it.
+// Puts a row into a table, its values as the columns store them, or says why the table refuses it.
 fn put_row<H: KeyHash<Key> + Copy>(
     table: &mut Table<H>,
     row: Row,
     limits: &Limits,
 ) -> Result<(), Refused>
-    ensures takes { Takes (put_within limits.now.bounds table.old row) result table.old table.new }
+    ensures takes { Takes (put_within limits.now.bounds table.old
+        (stored_in table.old.heading.columns row)) result table.old table.new }
     ensures standing { IsStanding table.new }
 {
+    let row = table.schema().store(row);
     let taken = table.upsert(row, limits);
     let _standing = table.rows();
     match taken {
@@ -177,16 +181,20 @@ fn put_rows<H: KeyHash<Key> + Copy>(
     }
 }
 
-// Takes the row of a key out of a table, or says why the key is none.
-fn delete_row<H: KeyHash<Key> + Copy>(table: &mut Table<H>, key: &[Value]) -> Result<bool, Refused>
-    ensures deletes { Deletes key.now result table.old table.new }
+// Takes the row of the key that values name out of a table, or says why they name none.
+fn delete_row<H: KeyHash<Key> + Copy>(
+    table: &mut Table<H>,
+    values: &mut [Value],
+) -> Result<bool, Refused>
+    ensures deletes { Deletes values.old result table.old table.new }
     ensures standing { IsStanding table.new }
 {
-    if let Err(why) = check_key(table.schema(), key) {
+    store_key(table.schema(), values);
+    if let Err(why) = check_key(table.schema(), values) {
         let _standing = table.rows();
         return Err(why);
     }
-    let found = table.delete(key);
+    let found = table.delete(values);
     let _standing = table.rows();
     Ok(found)
 }

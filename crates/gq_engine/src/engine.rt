@@ -4,7 +4,6 @@ ghost use Rattle.std.specs.Prelude.{◌≡◌, ◌∷◌, []};
 use crate::catalog::Catalog;
 use crate::grouping::{asked_of, rows_different, rows_grouped};
 use crate::payloads::{bytes_of, is_lost, stage};
-use crate::spending::both_spent;
 use gq_command::{Command, Item, Payload, Test};
 use gq_group::{Budget, Spent};
 use gq_plan::{GroupClauses, header_of, names_of, plan_distinct};
@@ -236,15 +235,16 @@ impl<H: KeyHash<Key> + Copy, S: RunStore> Engine<H, S> {
         Ok(Reply::Done(count))
     }
 
-    fn delete(&mut self, name: Text, key: Row) -> Result<Reply, Refused>
-        ensures surely { ComesSurely (removed (database self.old) name key)
+    fn delete(&mut self, name: Text, values: Row) -> Result<Reply, Refused>
+        ensures surely { ComesSurely (removed (database self.old) name values)
             result (database self.old) (database self.new) }
         ensures setting { setting_of S.runs self.new ≡ setting_of S.runs self.old }
         ensures spent { spent_of self.new ≡ spent_of self.old }
         ensures budget { budget_of self.new ≡ budget_of self.old }
         ensures failures { failures_of S.runs self.new ≡ failures_of S.runs self.old }
     {
-        let found = self.catalog.delete(name.as_str(), key.cells())?;
+        let mut values = values.into_cells();
+        let found = self.catalog.delete(name.as_str(), values.as_mut_slice())?;
         Ok(Reply::Done(u64::from(found)))
     }
 
@@ -272,8 +272,9 @@ impl<H: KeyHash<Key> + Copy, S: RunStore> Engine<H, S> {
         let asked = asked_of(self.alloc, &self.catalog, name.as_str(), &clauses)?;
         let header = header_of(self.alloc, clauses.by, clauses.shown.as_slice())?;
         let (hasher, store) = (self.hasher, &mut self.store);
-        let (rows, spent) = rows_grouped(self.alloc, hasher, &asked, store, self.budget)?;
-        self.spent = both_spent(self.spent, spent);
+        let (budget, spent) = (self.budget, self.spent);
+        let (rows, spent) = rows_grouped(self.alloc, hasher, &asked, store, budget, spent)?;
+        self.spent = spent;
         Ok(Reply::Rows { header, rows })
     }
 

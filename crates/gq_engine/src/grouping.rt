@@ -1,7 +1,8 @@
 //! Groupings over the run store, by their plans, and the refusals that come of them.
 ghost use Rattle.std.specs.Prelude.{◌≡◌, ◌⊎◌, ◌+◌, ◌≤◌, ◌<◌, All, IsTrue, Ok, Err, IfOk, IfErr, length, option_copied};
 ghost use Rattle.gq_query.specs.Selecting.{other_columns};
-ghost use Rattle.gq_query.specs.Work.{IsSpentOn};
+ghost use Rattle.gq_query.specs.Rollups.{grouping_sets};
+ghost use Rattle.gq_query.specs.Work.{RisesBy};
 ghost use Rattle.gq_reply.specs.declared.refusal.Refusal.TheVariants.{Memory, SumRange};
 ghost use Rattle.gq_reply.specs.Refusals.{unnumbered};
 ghost use Rattle.gq_reply.specs.Outcomes.{some_or};
@@ -83,22 +84,24 @@ fn columns_of<'a, H: KeyHash<Key> + Copy>(table: Option<&'a Table<H>>) -> &'a [C
     }
 }
 
-/// The result rows of a `group` and what grouping them took, or the refusal that this comes to.
+/// The result rows of a `group` and what was spent, raised by what grouping them took, or the refusal
+/// that this comes to.
 pub fn rows_grouped<H: KeyHash<Key> + Copy, S: RunStore>(
     alloc: Global,
     hasher: H,
     asked: &Asked<'_, H>,
     store: &mut S,
     budget: Budget,
+    spent: Spent,
 ) -> Result<(Sequence<Row>, Spent), Refused>
     requires { IsWithin asked.now.table.now.heading.columns
         (other_columns (option_copied asked.now.others)) asked.now.plan }
     ensures rows { GroupsOver (S.runs store.old).honest
         (some_or SumRange (rows_planned asked.now.plan asked.now.table.now
         (option_copied asked.now.others))) (rows_in result) }
-    ensures spent { IsTrue (S.runs store.old).honest → IfOk result
-        (λ found. IsSpentOn budget.entries asked.now.plan.by
-        (rows_about asked.now.plan asked.now.table.now (option_copied asked.now.others)) found.1) }
+    ensures spent { IfOk result (λ found. RisesBy (S.runs store.old).honest budget.entries
+        (rows_about asked.now.plan asked.now.table.now (option_copied asked.now.others))
+        (grouping_sets asked.now.plan.rollup asked.now.plan.by) spent found.1) }
     ensures faults { (S.runs store.old).failures + faults_in result ≤ (S.runs store.new).failures }
     ensures honest { (S.runs store.new).honest ≡ (S.runs store.old).honest }
 {
@@ -111,10 +114,11 @@ pub fn rows_grouped<H: KeyHash<Key> + Copy, S: RunStore>(
     };
     let grouping = Grouping {
         by: plan.by.as_slice(),
+        rollup: plan.rollup,
         shown: plan.shown.as_slice(),
         having: &plan.having,
     };
-    match group_rows(alloc, hasher, &selection, &grouping, store, budget) {
+    match group_rows(alloc, hasher, &selection, &grouping, store, budget, spent) {
         Ok(found) => Ok(found),
         Err(why) => Err(refused_by_grouping(why)),
     }

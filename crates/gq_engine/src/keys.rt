@@ -2,10 +2,19 @@
 ghost use Rattle.std.specs.Prelude.{◌≡◌, ◌<◌, All, length};
 ghost use Rattle.std.specs.List.{list_any};
 ghost use Rattle.gq_row.specs.Fitting.{is_null};
-ghost use Rattle.gq_engine.specs.Refusing.{fits_key, key_within};
+ghost use Rattle.gq_engine.specs.Refusing.{fits_key, key_within, stored_key};
 
 use gq_reply::{Refusal, Refused};
 use gq_row::{Column, Schema, Value};
+use std::mem::replace;
+
+/// Makes each of the values that are given as a key what its column stores of it. They move, so it
+/// takes no memory.
+pub fn store_key(schema: &Schema, values: &mut [Value])
+    ensures { values.new ≡ stored_key schema.now.columns schema.now.key values.old }
+{
+    store_values(schema.columns(), schema.key(), values);
+}
 
 /// Why values are no key of a row in a table: it has no key, they don't fit its key columns, or one
 /// of them is null.
@@ -38,6 +47,16 @@ fn fit_key(columns: &[Column], key: &[usize], values: &[Value]) -> bool
         }
     }
     true
+}
+
+fn store_values(columns: &[Column], key: &[usize], values: &mut [Value])
+    requires { All (λ position. position < length columns.now) key.now }
+    ensures { values.new ≡ stored_key columns.now key.now values.old }
+{
+    for i in 0..values.len().min(key.len()) {
+        let value = replace(&mut values[i], Value::Null);
+        values[i] = columns[key[i]].kind.stored(value);
+    }
 }
 
 fn has_null(values: &[Value]) -> bool

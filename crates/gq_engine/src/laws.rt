@@ -1,5 +1,6 @@
 //! Laws: what the definitions come to, in the subject's own words. Each is the contract of a
 //! function that does nothing.
+ghost use Rattle.gq_engine.specs.Casing.{StoresAsGiven};
 ghost use Rattle.gq_engine.specs.Databases.{IsFiniteMap};
 ghost use Rattle.gq_engine.specs.Orders.{OrderIsUnseen};
 ghost use Rattle.gq_engine.specs.Repeating.{AnswersOnce};
@@ -33,4 +34,10 @@ pub fn load_is_upserts()
 /// of rows, where they began so and no reply tells want of memory.
 pub fn answers_once()
     ensures { AnswersOnce }
+{}
+
+/// Where no column is of texts without case, an upsert puts the values that it is given, and a
+/// delete takes away the row whose key they are.
+pub fn stores_as_given()
+    ensures { StoresAsGiven }
 {}

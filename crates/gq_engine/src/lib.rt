@@ -13,7 +13,8 @@
 //!   the text of a reply.
 //! - A table has a schema and rows, which stand in a flat map under their keys, or in a list where
 //!   the table has no key (`gq_table`); a row that is put replaces the row of the same key, or is
-//!   added. Tables are found by linear search.
+//!   added. A literal is stored as its column stores it: a text without case where the column is of
+//!   such. Tables are found by linear search.
 //! - What a query asks by names is planned first (`gq_plan`), each name looked up once; then it is
 //!   answered by `gq_query`. The groups come of a run store that the engine holds, within its
 //!   budget.
@@ -27,8 +28,9 @@
 //! replacement, each group being the filter of the rows for one distinct key. A read fault leaves
 //! the texts of some first replies, a write fault a front of such texts. The definitions speak of
 //! lists alone (`specs/Steps.antt`, `specs/Runs.antt`); the laws in [`laws`] say that a database is
-//! a finite map, and that only memory refuses what the lists accept. [`Engine::spent`] adds up what the
-//! groupings of `group` commands took (`specs/Spending.antt`).
+//! a finite map, that only memory refuses what the lists accept, and that tables without texts
+//! without case store what they are given. [`Engine::spent`] adds up what the groupings of `group`
+//! commands took (`specs/Spending.antt`).
 #![tactic(auto)]
 
 mod catalog;
@@ -39,7 +41,6 @@ pub mod laws;
 mod payloads;
 mod run;
 mod sending;
-mod spending;
 
 pub use engine::Engine;
 pub use gq_group::{Budget, Spent};

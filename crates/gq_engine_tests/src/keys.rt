@@ -1,7 +1,7 @@
 //! Keys hashed and compared, owned and borrowed, with ample memory. The hashes were computed by
 //! another program from the bytes that stand here.
 use crate::expected::{expect, expect_at};
-use crate::plain::{Plain, row_of, values_of};
+use crate::plain::{Plain, are, row_of, values_of};
 use gq_row::{Key, KeyCells, KeyRef, Row, Value};
 use std::alloc::{AllocError, Global};
 use std::mem::size_of;
@@ -61,6 +61,42 @@ fn worked_hashes(rt: HostRuntime) -> Result<(), Fail> {
     Ok(())
 }
 
+/// FNV-1a over 03 00000004 6f736c6f, 02 00000004 4f736c6f: a text without case, and one with it.
+const FOLDED: u64 = 0x4745_8fb2_1ffb_f272;
+
+/// A row of both, in each form.
+fn expect_folded(rt: &impl Abort, alloc: Global, row: &Row) -> Result<(), AllocError> {
+    assert!(rt; row.len() == 2);
+    expect_hash(rt, 0, &Key::of(alloc, row, &[0, 1])?, FOLDED);
+    expect_hash(rt, 0, &KeyRef::new(row, &[0, 1]), FOLDED);
+    expect_hash(rt, 0, &KeyCells(row.cells()), FOLDED);
+    Ok(())
+}
+
+/// Each spelling, and then over 03 00000000, 03 00000002 c389 and 03 00000002 c3a9.
+#[test]
+fn hashes_without_case(rt: HostRuntime) -> Result<(), Fail> {
+    let alloc = rt.alloc();
+    for chars in ["Oslo", "OSLO", "oslo"] {
+        let row = row_of(alloc, &[Plain::NoCase(chars), Plain::Text("Oslo")])?;
+        expect_folded(&rt, alloc, &row)?;
+    }
+    expect_cells(&rt, alloc, &[Plain::NoCase("")], 0xf16b_3303_a27b_53b2)?;
+    expect_cells(
+        &rt,
+        alloc,
+        &[Plain::NoCase("\u{c9}")],
+        0x2c6d_c89e_ff4b_cb1c,
+    )?;
+    expect_cells(
+        &rt,
+        alloc,
+        &[Plain::NoCase("\u{e9}")],
+        0x2c6d_a89e_ff4b_94bc,
+    )?;
+    Ok(())
+}
+
 fn expect_same<Q: Names<Key>>(rt: &impl Abort, asked: &Q, key: &Key, due: bool) {
     expect(rt, asked.same(key), due);
 }
@@ -84,6 +120,41 @@ fn same_in_each_form(rt: HostRuntime) -> Result<(), Fail> {
     let null = Key::of(rt.alloc(), &row, &[0])?;
     expect_same(&rt, &KeyCells(&[Value::Null]), &null, true);
     expect_same(&rt, &KeyCells(&[Value::Int(0)]), &null, false);
+    Ok(())
+}
+
+/// Whether a row's one value is the key's, in each form.
+fn expect_spelled(
+    rt: &impl Abort,
+    alloc: Global,
+    row: &Row,
+    key: &Key,
+    due: bool,
+) -> Result<(), AllocError> {
+    assert!(rt; row.len() == 1);
+    expect_same(rt, &Key::of(alloc, row, &[0])?, key, due);
+    expect_same(rt, &KeyRef::new(row, &[0]), key, due);
+    expect_same(rt, &KeyCells(row.cells()), key, due);
+    Ok(())
+}
+
+#[test]
+fn spellings_are_one_key(rt: HostRuntime) -> Result<(), Fail> {
+    let alloc = rt.alloc();
+    let row = row_of(alloc, &[Plain::NoCase("Oslo")])?;
+    assert!(rt; row.len() == 1);
+    let key = Key::of(alloc, &row, &[0])?;
+    assert!(rt; are(key.cells(), &[Plain::NoCase("oslo")]));
+    for (plain, due) in [
+        (Plain::NoCase("Oslo"), true),
+        (Plain::NoCase("OSLO"), true),
+        (Plain::NoCase("oslo"), true),
+        (Plain::NoCase("Osl"), false),
+        (Plain::NoCase("Osl@"), false),
+        (Plain::Text("oslo"), false),
+    ] {
+        expect_spelled(&rt, alloc, &row_of(alloc, &[plain])?, &key, due)?;
+    }
     Ok(())
 }
 

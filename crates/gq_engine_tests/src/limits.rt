@@ -10,8 +10,8 @@ use std::test::Fail;
 /// The greatest bounds, and a field's place among them.
 const FIELDS: [(&str, u64); 9] = [
     ("tables", 64),
-    ("columns", 32),
-    ("aggregates", 8),
+    ("columns", 128),
+    ("aggregates", 16),
     ("name", 63),
     ("text", 65_535),
     ("line", 65_536),

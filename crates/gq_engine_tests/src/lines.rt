@@ -71,7 +71,7 @@ fn letter(alloc: Global, line: &[u8], limits: &Limits) -> char {
 }
 
 /// Lines, each with what it gives at the greatest limits.
-const LINES: [(&[u8], char); 84] = [
+const LINES: [(&[u8], char); 101] = [
     (b"create s (id int, city text, key (id))", 'c'),
     (b"CREATE s(id INT,city Text,KEY(id))", 'c'),
     (b"\tcreate\tt (a int)  ", 'c'),
@@ -96,6 +96,12 @@ const LINES: [(&[u8], char); 84] = [
     (b"create t (a int, key (a, a))", 'S'),
     (b"create key (a int)", 'S'),
     (b"create t (nocase int)", 'S'),
+    (b"create t (a text nocase)", 'c'),
+    (b"create t(a TEXT\tNoCase,\"nocase\" text,KEY(a))", 'c'),
+    (b"create t (a int nocase)", 'S'),
+    (b"create t (a nocase)", 'S'),
+    (b"create t (a text nocase nocase)", 'S'),
+    (b"create t (a text \"nocase\")", 'S'),
     (b"create t (a int) x", 'S'),
     (b"create 1t (a int)", 'S'),
     (b"create \"\" (a int)", 'S'),
@@ -109,6 +115,20 @@ const LINES: [(&[u8], char); 84] = [
     (b"upsert s ('a''')", 'u'),
     (b"upsert s ('\xFF')", 'S'),
     (b"group s by a, a show count(*)", 'S'),
+    (b"group s by rollup (a, \"b\") show count(*)", 'g'),
+    (
+        b"GROUP s BY RollUp(a)show sum(a) where a = 1 having a is null",
+        'g',
+    ),
+    (b"group s by \"rollup\" show count(*)", 'g'),
+    (b"group s by rollup (a, b, a) show count(*)", 'S'),
+    (b"group s by rollup () show count(*)", 'S'),
+    (b"group s by rollup a show count(*)", 'S'),
+    (b"group s by rollup show count(*)", 'S'),
+    (b"group s by rollup (a), b show count(*)", 'S'),
+    (b"group s by a, rollup (b) show count(*)", 'S'),
+    (b"group s by \"rollup\" (a) show count(*)", 'S'),
+    (b"distinct s on rollup (a)", 'S'),
     (b"group s by a show count(*), count(*)", 'g'),
     (b"group s by a show count(a)", 'g'),
     (b"group s show count(*)", 'g'),
@@ -220,7 +240,11 @@ fn expect_create(rt: &impl Abort, said: &[Command]) -> Result<(), Fail> {
         return Err(no_such_command());
     };
     expect(rt, table.as_str(), "a\"b");
-    let due = [("id", Kind::Int), ("city", Kind::Text)];
+    let due = [
+        ("id", Kind::Int),
+        ("city", Kind::Text),
+        ("town", Kind::NoCase),
+    ];
     expect_columns(rt, columns.as_slice(), &due);
     expect_name(rt, key.as_slice(), "id");
     Ok(())
@@ -228,7 +252,7 @@ fn expect_create(rt: &impl Abort, said: &[Command]) -> Result<(), Fail> {
 
 #[test]
 fn what_a_create_says(rt: HostRuntime) -> Result<(), Fail> {
-    let line = b"create \"a\"\"b\" (id int, city text, key (id))";
+    let line = b"create \"a\"\"b\" (id int, city text, town text nocase, key (id))";
     expect_create(&rt, said(rt.alloc(), line)?.as_slice())
 }
 
@@ -294,7 +318,7 @@ fn what_a_name_alone_says(rt: HostRuntime) -> Result<(), Fail> {
     Ok(())
 }
 
-fn expect_group(rt: &impl Abort, said: &[Command]) -> Result<(), Fail> {
+fn expect_group(rt: &impl Abort, said: &[Command], rollup: bool) -> Result<(), Fail> {
     let [
         Command::Group {
             table,
@@ -309,7 +333,8 @@ fn expect_group(rt: &impl Abort, said: &[Command]) -> Result<(), Fail> {
         return Err(no_such_command());
     };
     expect(rt, table.as_str(), "s");
-    expect_name(rt, by.as_slice(), "city");
+    expect(rt, by.rollup, rollup);
+    expect_name(rt, by.columns.as_slice(), "city");
     assert!(rt; matches!(shown.as_slice(), [Aggregate::CountAll]));
     assert!(rt; tests.is_empty() && exists.is_none() && having.is_empty());
     Ok(())
@@ -317,10 +342,10 @@ fn expect_group(rt: &impl Abort, said: &[Command]) -> Result<(), Fail> {
 
 #[test]
 fn what_a_group_says(rt: HostRuntime) -> Result<(), Fail> {
-    expect_group(
-        &rt,
-        said(rt.alloc(), b"group s by city show count(*)")?.as_slice(),
-    )
+    let plain = said(rt.alloc(), b"group s by city show count(*)")?;
+    expect_group(&rt, plain.as_slice(), false)?;
+    let rolled_up = said(rt.alloc(), b"group s by rollup (city) show count(*)")?;
+    expect_group(&rt, rolled_up.as_slice(), true)
 }
 
 /// Lines under small limits: each limit of a line, at the limit and one past it.

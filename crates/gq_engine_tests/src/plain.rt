@@ -8,6 +8,7 @@ pub enum Plain {
     Null,
     Int(i64),
     Text(&'static str),
+    NoCase(&'static str),
 }
 
 pub fn text(alloc: Global, chars: &str) -> Result<Text, AllocError> {
@@ -19,6 +20,7 @@ pub fn value_of(alloc: Global, plain: Plain) -> Result<Value, AllocError> {
         Plain::Null => Value::Null,
         Plain::Int(number) => Value::Int(number),
         Plain::Text(chars) => Value::Text(text(alloc, chars)?),
+        Plain::NoCase(chars) => Value::NoCase(text(alloc, chars)?),
     })
 }
 
@@ -40,6 +42,7 @@ pub fn is(value: &Value, plain: Plain) -> bool {
         (Value::Null, Plain::Null) => true,
         (Value::Int(number), Plain::Int(due)) => *number == due,
         (Value::Text(text), Plain::Text(due)) => text.as_str() == due,
+        (Value::NoCase(text), Plain::NoCase(due)) => text.as_str() == due,
         _ => false,
     }
 }

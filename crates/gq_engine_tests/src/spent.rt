@@ -91,7 +91,7 @@ fn five_hundred_rows_in_fifty_groups(rt: HostRuntime) -> Result<(), Fail> {
 }
 
 /// Lines, their replies, and how many rows were read and how many groups were made by then.
-const LINES: [(&[u8], &[u8], (u64, u64)); 15] = [
+const LINES: [(&[u8], &[u8], (u64, u64)); 20] = [
     (b"create t (a int, b int, c text)", b"ok 0\n", (0, 0)),
     (b"upsert t (1, 9223372036854775807, 'x')", b"ok 1\n", (0, 0)),
     (b"upsert t (1, 1, 'y')", b"ok 1\n", (0, 0)),
@@ -130,7 +130,29 @@ const LINES: [(&[u8], &[u8], (u64, u64)); 15] = [
         (11, 9),
     ),
     (b"group t by d show count(*)", b"err 5 NoColumn\n", (11, 9)),
-    (b"drop t", b"ok 0\n", (11, 9)),
+    (
+        b"group t by rollup (a, c) show count(*), count(distinct b) where b < 9",
+        b"ok 5\nlevel,a,c,count(*),count(distinct b)\n0,\\N,\\N,2,2\n1,1,\\N,1,1\n1,2,\\N,1,1\n2,1,y,1,1\n2,2,\\N,1,1\n",
+        (17, 14),
+    ),
+    (
+        b"group t by rollup (a) show sum(b)",
+        b"err 13 SumRange\n",
+        (17, 14),
+    ),
+    (b"upsert t (3, -9, null)", b"ok 1\n", (17, 14)),
+    // The total is within the range now, and a group is not.
+    (
+        b"group t by rollup (a) show sum(b)",
+        b"err 13 SumRange\n",
+        (17, 14),
+    ),
+    (
+        b"group t by rollup (a) show count(*) having a is null",
+        b"ok 1\nlevel,a,count(*)\n0,\\N,4\n",
+        (25, 18),
+    ),
+    (b"drop t", b"ok 0\n", (25, 18)),
 ];
 
 /// Expects what each line is answered, and what was spent by then.
@@ -149,8 +171,8 @@ fn expect_lines(
     Ok(())
 }
 
-/// What a grouping takes is of the rows that `where` and `exists` keep, whatever `having` says, and
-/// counts of different values add nothing. No other command raises it, and none that is refused.
+/// What a grouping takes is of the rows that `where` and `exists` keep, whatever `having` says, once
+/// for each level of a rollup, and counts of different values add nothing. No other command raises it, and none that is refused.
 #[test]
 fn only_groups_that_are_answered(rt: HostRuntime) -> Result<(), Fail> {
     let mut engine = engine(rt.alloc(), Limits::greatest());

@@ -31,7 +31,7 @@ const SHOWS: &[u8] = b"show t\nshow u\n";
 /// A command and its reply.
 type Query<'a> = (&'a [u8], &'a [u8]);
 
-const QUERIES: [Query; 9] = [
+const QUERIES: [Query; 10] = [
     (
         b"group t by n show count(*), sum(n)\n",
         b"ok 40\nn,count(*),sum(n)\n0,1,0\n1,1,1\n2,1,2\n3,1,3\n4,1,4\n5,1,5\n6,1,6\n7,1,7\n8,1,8\n9,1,9\n10,1,10\n11,1,11\n12,1,12\n13,1,13\n14,1,14\n15,1,15\n16,1,16\n17,1,17\n18,1,18\n19,1,19\n20,1,20\n21,1,21\n22,1,22\n23,1,23\n24,1,24\n25,1,25\n26,1,26\n27,1,27\n28,1,28\n29,1,29\n30,1,30\n31,1,31\n32,1,32\n33,1,33\n34,1,34\n35,1,35\n36,1,36\n37,1,37\n38,1,38\n39,1,39\n",
@@ -67,6 +67,10 @@ const QUERIES: [Query; 9] = [
     (
         b"distinct t on g where n > 30 and x <= -24\n",
         b"ok 5\ng\n1\n2\n3\n4\n6\n",
+    ),
+    (
+        b"group t by rollup (city, g) show count(*), sum(n), count(distinct x) where n < 9 having sum(n) > 4\n",
+        b"ok 8\nlevel,city,g,count(*),sum(n),count(distinct x)\n0,\\N,\\N,9,36,7\n1,a city whose name is long 0,\\N,3,9,2\n1,a city whose name is long 1,\\N,3,12,3\n1,a city whose name is long 2,\\N,3,15,2\n2,a city whose name is long 0,6,1,6,1\n2,a city whose name is long 1,0,1,7,1\n2,a city whose name is long 2,1,1,8,1\n2,a city whose name is long 2,5,1,5,0\n",
     ),
 ];
 

@@ -29,7 +29,12 @@ fn expect_copied_row(rt: &impl Abort, alloc: Global, plain: &[Plain]) -> Result<
 
 #[test]
 fn copies(rt: HostRuntime) -> Result<(), Fail> {
-    for plain in [Plain::Text("a"), Plain::Int(-7), Plain::Null] {
+    for plain in [
+        Plain::Text("a"),
+        Plain::NoCase("Oslo"),
+        Plain::Int(-7),
+        Plain::Null,
+    ] {
         expect_copy(&rt, rt.alloc(), plain)?;
     }
     expect_copied_text(&rt, rt.alloc(), "b")?;
@@ -55,8 +60,8 @@ fn expect_order(rt: &impl Abort, key: &Key, longer: &Key) {
     expect(rt, compare_keys(key, key), Ordering::Equal);
 }
 
-/// Null, then numbers, then texts by their bytes.
-const ASCENDING: [Plain; 10] = [
+/// Null, then numbers, then texts by their bytes, then texts without case by their folds.
+const ASCENDING: [Plain; 18] = [
     Plain::Null,
     Plain::Int(i64::MIN),
     Plain::Int(-1),
@@ -67,6 +72,14 @@ const ASCENDING: [Plain; 10] = [
     Plain::Text("a"),
     Plain::Text("ab"),
     Plain::Text("\u{e9}"),
+    Plain::NoCase(""),
+    Plain::NoCase("_"),
+    Plain::NoCase("A"),
+    Plain::NoCase("a"),
+    Plain::NoCase("AB"),
+    Plain::NoCase("B"),
+    Plain::NoCase("\u{c9}"),
+    Plain::NoCase("\u{e9}"),
 ];
 
 fn expect_ascending(rt: &impl Abort, values: &[Value]) {
@@ -80,7 +93,7 @@ fn expect_ascending(rt: &impl Abort, values: &[Value]) {
 #[test]
 fn values_in_order(rt: HostRuntime) -> Result<(), Fail> {
     let ascending = values_of(rt.alloc(), &ASCENDING)?;
-    expect(&rt, ascending.len(), 10);
+    expect(&rt, ascending.len(), 18);
     expect_ascending(&rt, ascending.as_slice());
     Ok(())
 }

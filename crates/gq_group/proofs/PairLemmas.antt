@@ -1,5 +1,5 @@
 -- Keys with each of their values once: as rows of their own, in any order, they have the counts of different values.
-use Rattle.std.proofs.Common.{◌≡◌, ◌≤◌, ℕ, zero, suc, ◌+◌, ◌&&◌, Bool, true, false, cond, List, [], ◌∷◌, ◌++◌, length, map, refl, sym, ap, subst, ◌∙◌, arith, append-nil, append_assoc, length-append, IsPermutation}
+use Rattle.std.proofs.Common.{◌≡◌, ◌≤◌, ℕ, pos, zero, suc, ◌+◌, ◌&&◌, Bool, true, false, cond, Some, List, [], ◌∷◌, ◌++◌, length, map, refl, sym, ap, subst, ◌∙◌, arith, append-nil, append_assoc, length-append, IsPermutation}
 use Rattle.std.specs.Prelude.{slice_index_or, IsTrue, All, nat_lt}
 use Rattle.std.specs.List.{list_any, list_all, range_with_len}
 use Rattle.std.proofs.lemmas.List.{map-append, length-map}
@@ -7,18 +7,22 @@ use Rattle.std.proofs.lemmas.List.Sorted.{IsPermutation-refl, IsPermutation-tran
 use Rattle.std.proofs.lemmas.Bool.{and_parts, and_from, lt-ltb}
 use Rattle.std.proofs.lemmas.List.Elements.{All-nil, All-cons, All-head, All-tail}
 use Rattle.gq_row.specs.declared.value.Value.{Value}
-use Rattle.gq_row.specs.declared.value.Value.TheVariants.{Null}
+use Rattle.gq_row.specs.declared.value.Value.TheVariants.{Null, Int}
+use Rattle.gq_row.specs.Folding.{folded}
 use Rattle.gq_row.specs.Order.{same_key}
 use Rattle.gq_row.specs.Repeats.{without_repeats}
 use Rattle.gq_row.specs.Rows.{cell, key_of}
 use Rattle.gq_row.specs.Tables.{keys, of_key}
 use Rattle.gq_row.proofs.DistinctLemmas.{one_more, any_without_repeats}
+use Rattle.gq_row.proofs.FoldLemmas.{key-cells, key_folded}
 use Rattle.gq_row.proofs.MovedLemmas.{keys-permutation, of_key-permutation}
 use Rattle.gq_row.proofs.OrderLemmas.{same_key_equiv}
 use Rattle.gq_row.proofs.TableLemmas.{keys-push}
 use Rattle.gq_agg.specs.declared.kind.AggKind.{AggKind}
 use Rattle.gq_agg.specs.declared.kind.AggKind.TheVariants as kind
 use Rattle.gq_agg.specs.Aggregates.{aggregate}
+use Rattle.gq_agg.specs.Values.{present}
+use Rattle.gq_agg.proofs.Different.{present-folded}
 use Rattle.gq_agg.proofs.Unseen.{order_unseen}
 use Rattle.gq_spill.specs.Reading.{Left, opened}
 use Rattle.gq_spill.specs.Runs.{Runs}
@@ -64,27 +68,34 @@ cells_behind front (x ∷ xs) more =
 abbrev pub paired : Pairing → List Value → List Value
 paired p row = key_of (with_column p.by p.column) row
 
-pair_is : (p : Pairing) (row : List Value) → paired p row ≡ key_of p.by row ++ cell row p.column ∷ []
-pair_is p row = map-append (cell row) p.by (p.column ∷ [])
+pair_is : (p : Pairing) (row : List Value) → paired p row ≡ key_of p.by row ++ folded (cell row p.column) ∷ []
+pair_is p row = map-append (λ column. folded (cell row column)) p.by (p.column ∷ [])
 
 its_length : (p : Pairing) (row : List Value) → length (key_of p.by row) ≡ length p.by
-its_length p row = length-map p.by (cell row)
+its_length p row = length-map p.by (λ column. folded (cell row column))
 
+-- read as a row's key it is the same again: it is folded already
 its_key : (p : Pairing) (row : List Value) → key_of (counts_of (length p.by)).by (paired p row) ≡ key_of p.by row
 its_key p row =
-    (λ i. map (cell (pair_is p row i)) (range_with_len 0 (sym (its_length p row) i)))
-    ∙ cells_behind [] (key_of p.by row) (cell row p.column ∷ [])
+    sym (key-cells (counts_of (length p.by)).by (paired p row))
+    ∙ ap (map folded) ((λ i. map (cell (pair_is p row i)) (range_with_len 0 (sym (its_length p row) i)))
+    ∙ cells_behind [] (key_of p.by row) (folded (cell row p.column) ∷ []))
+    ∙ key_folded p.by row
 
-its_value : (p : Pairing) (row : List Value) → cell (paired p row) (length p.by) ≡ cell row p.column
-its_value p row = (λ i. cell (pair_is p row i) (sym (its_length p row) i)) ∙ at_seam (key_of p.by row) (cell row p.column) []
+its_value : (p : Pairing) (row : List Value) → cell (paired p row) (length p.by) ≡ folded (cell row p.column)
+its_value p row = (λ i. cell (pair_is p row i) (sym (its_length p row) i)) ∙ at_seam (key_of p.by row) (folded (cell row p.column)) []
 
 all_keys : (p : Pairing) (rows : List (List Value)) → map (key_of (counts_of (length p.by)).by) (map (paired p) rows) ≡ map (key_of p.by) rows
 all_keys p [] = refl
 all_keys p (row ∷ rows) = λ i. its_key p row i ∷ all_keys p rows i
 
-all_values : (p : Pairing) (rows : List (List Value)) → column_of (length p.by) (map (paired p) rows) ≡ column_of p.column rows
+all_values : (p : Pairing) (rows : List (List Value)) → column_of (length p.by) (map (paired p) rows) ≡ map folded (column_of p.column rows)
 all_values p [] = refl
 all_values p (row ∷ rows) = λ i. its_value p row i ∷ all_values p rows i
+
+-- as many folds are not null as values
+count_folded : (values : List Value) → aggregate kind.Count (map folded values) ≡ aggregate kind.Count values
+count_folded values = ap (λ n. Some (Int (pos n))) (ap length (present-folded values) ∙ length-map (present values) folded)
 
 all_of_key : (p : Pairing) (rows : List (List Value)) (k : List Value) → of_key (counts_of (length p.by)).by (map (paired p) rows) k ≡ map (paired p) (of_key p.by rows k)
 all_of_key p [] k = refl
@@ -116,7 +127,8 @@ same_groups p rows = each (keys_of (counts_of (length p.by)).by (map (paired p) 
     each [] = refl
     each (k ∷ ks) =
         let its : answers (counts_of (length p.by)).aggs (of_key (counts_of (length p.by)).by (map (paired p) rows) k) ≡ answers (count_of p).aggs (of_key p.by rows k)
-        = ap (answers (counts_of (length p.by)).aggs) (all_of_key p rows k) ∙ (λ i. aggregate kind.Count (all_values p (of_key p.by rows k) i) ∷ []) in
+        = ap (answers (counts_of (length p.by)).aggs) (all_of_key p rows k) ∙ (λ i. aggregate kind.Count (all_values p (of_key p.by rows k) i) ∷ [])
+        ∙ ap (λ o. o ∷ []) (count_folded (column_of p.column (of_key p.by rows k))) in
         λ i. (k, its i) ∷ each ks i
 
 -- ---- the keys are first rows, laid out anew
@@ -208,7 +220,7 @@ widths_in p rows out are = All-permutation (λ (key : List Value). length key �
   where
     wide : (xs : List (List Value)) → All (λ (key : List Value). length key ≡ length p.by + 1) (map (paired p) xs)
     wide [] = All-nil (λ (key : List Value). length key ≡ length p.by + 1)
-    wide (x ∷ xs) = All-cons (λ (key : List Value). length key ≡ length p.by + 1) (paired p x) (map (paired p) xs) (length-map (with_column p.by p.column) (cell x) ∙ length-append p.by (p.column ∷ [])) (wide xs)
+    wide (x ∷ xs) = All-cons (λ (key : List Value). length key ≡ length p.by + 1) (paired p x) (map (paired p) xs) (length-map (with_column p.by p.column) (λ column. folded (cell x column)) ∙ length-append p.by (p.column ∷ [])) (wide xs)
 
 -- ---- keys that are grouped fit
 

@@ -208,7 +208,8 @@ fn count_in_run<H: KeyHash<Key> + Copy, S: RunStore, R: RowSource<S>, K: GroupSi
 
 /// The number of different values of a column, nulls left out, among the source's rows of each key:
 /// one group for each key of the columns `by`, with that number alone, pushed to the sink in some
-/// order. Without columns to group by there is one group, also over no rows.
+/// order. Without columns to group by there is one group, also over no rows. Spellings of a text
+/// without case are one value, and a key is handed out by its fold, as [`group`] does.
 ///
 /// The different pairs of a key and a value are grouped first, and written to a run; these are then
 /// grouped by their keys. Both keep at most the budget's number of groups in memory, as [`group`]

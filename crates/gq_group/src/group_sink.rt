@@ -27,8 +27,8 @@ pub trait GroupSink<S: RunStore> {
     fn make_room(&mut self, groups: usize)
         ensures { self.new ≡ self.old };
 
-    /// Takes a group: its key and the values of its aggregates. After a refusal nothing is said of
-    /// it.
+    /// Takes a group: its key, which is folded, and the values of its aggregates. After a refusal
+    /// nothing is said of it.
     fn push(&mut self, store: &mut S, key: Key, values: Vec<Value>) -> Result<(), Refusal>
         requires { is_ready self.old (S.runs store.old) }
         ensures groups { IsTrue (S.runs store.old).honest →

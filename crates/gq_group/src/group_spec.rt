@@ -1,10 +1,11 @@
 //! What is asked of the groups of rows.
-ghost use Rattle.std.specs.Prelude.{◌≡◌};
+ghost use Rattle.std.specs.Prelude.{◌≡◌, ◌≤◌, IfOk, length, take};
 ghost use Rattle.std.specs.List.{list_all};
 ghost use Rattle.gq_group.specs.Groups.{fits_cell as cell_fits, has_columns as columns_there};
 
 use gq_agg::AggKind;
 use gq_row::Row;
+use std::alloc::{AllocError, Global};
 use std::marker::Model;
 
 /// By which columns rows are grouped, and which aggregates are asked of each group, each of a
@@ -47,6 +48,17 @@ impl GroupSpec {
         ensures { result.now ≡ self.now.aggs }
     {
         self.aggs.as_slice()
+    }
+
+    /// The grouping by so many of the first of its columns, with the same aggregates.
+    pub fn prefix(&self, alloc: Global, columns: usize) -> Result<GroupSpec, AllocError>
+        requires { columns ≤ length self.now.by }
+        ensures by { IfOk result (λ spec. spec.by ≡ take columns self.now.by) }
+        ensures aggs { IfOk result (λ spec. spec.aggs ≡ self.now.aggs) }
+    {
+        let by = Vec::from_slice(alloc, &self.by()[..columns])?;
+        let aggs = Vec::from_slice(alloc, self.aggs())?;
+        Ok(GroupSpec { by, aggs })
     }
 
     /// Whether a row can be grouped: the columns that are named are there, with no text in a sum.

@@ -74,7 +74,9 @@ pub(crate) fn push_all<H: KeyHash<Key> + Copy, S: RunStore, K: GroupSink<S>>(
     Ok(groups)
 }
 
-/// The groups of the source's rows, one for each of their keys, pushed to the sink in some order.
+/// The groups of the source's rows, one for each of their keys, pushed to the sink in some order. A
+/// key is handed out by its fold, so a text without case is in it in small letters, however its rows
+/// spell it.
 ///
 /// At most the budget's number of groups is kept in memory at once. Rows of keys that have no place
 /// there are written to runs, and each run is read in the same way; the runs are discarded whatever

@@ -3,8 +3,9 @@
 //! A [`RowSource`] gives rows, and may keep runs of its own in a store that it shares with others;
 //! a [`GroupSink`] takes groups in the same way. [`group`] goes over the rows once, and pushes one
 //! group for each of their keys: the key, and the values of the aggregates that a [`GroupSpec`]
-//! asks for. Nulls are one key value. Without columns to group by there is one group, also over no
-//! rows.
+//! asks for. Nulls are one key value, and so are the spellings of a text without case: a group is
+//! handed out with its key by its fold, and how its rows spell it is for an aggregate to tell, as the
+//! least of the column. Without columns to group by there is one group, also over no rows.
 //!
 //! ```text
 //! let spec = GroupSpec::new(by, aggs);                 // by column 0, count of column 1
@@ -19,7 +20,8 @@
 //! [`group_distinct`] pushes, for each key, how many different values its rows have in a column,
 //! nulls left out. It goes through [`group`] twice: it groups the rows by the key and the value
 //! behind it, into a run of these pairs, null values too, so that each key has one pair at least; then
-//! it groups that run by the key, and counts the values that are not null.
+//! it groups that run by the key, and counts the values that are not null. The pairs are keys, so a
+//! value has one fold in the run however the rows spell it, and a key is its own fold when it is read.
 //!
 //! # Rows of other keys
 //!
@@ -33,12 +35,12 @@
 //!
 //! # The contract above this crate
 //!
-//! Over an honest store: where [`group`] succeeds, the sink has the groups of the source's rows
-//! more, in some order (`groups` of `specs/Groups.antt`), and the counts are those of rows and
-//! groups; it answers `SumRange` only where some sum is out of range, and succeeds only where none
-//! is. Rows are written and runs are made exactly where there are more groups than the budget, and how
-//! many is bounded by the numbers of rows and groups (`Spills` of `specs/Work.antt`). Where
-//! [`group_distinct`] succeeds, the sink has the counts of different values more, in some order
+//! Over an honest store: where [`group`] succeeds, the sink has the groups of the source's rows more,
+//! in some order, each by the fold of its key (`groups` of `specs/Groups.antt`), and the counts are
+//! those of rows and groups; it answers `SumRange` only where some sum is out of range, and succeeds
+//! only where none is. Rows are written and runs are made exactly where there are more groups than the
+//! budget, and how many is bounded by the numbers of rows and groups (`Spills` of `specs/Work.antt`).
+//! Where [`group_distinct`] succeeds, the sink has the counts of different values more, in some order
 //! (`distinct_groups` of `specs/Distinct.antt`), and the counts of rows and groups are right; it writes
 //! the different pairs once, and else what its two groupings do, each within their bounds
 //! (`SpillsTwice`), and it never answers `SumRange`. Over every store: the runs of others are as they

@@ -42,6 +42,26 @@ fn over_texts(rt: HostRuntime) -> Result<(), Fail> {
 }
 
 #[test]
+fn over_texts_without_case(rt: HostRuntime) -> Result<(), Fail> {
+    let alloc = rt.alloc();
+    let mut values = vec![in alloc; Value::Null]?;
+    for chars in ["b", "a", "B", "A", "b"] {
+        values.push(text(alloc, chars)?.without_case())?;
+    }
+    for (kind, due) in [
+        (AggKind::CountAll, "6"),
+        (AggKind::Count, "5"),
+        (AggKind::Min, "~'A'"),
+        (AggKind::Max, "~'b'"),
+        (AggKind::Sum, "not taken"),
+    ] {
+        let found = aggregate(alloc, kind, values.as_slice())?;
+        assert_eq!(rt; found.as_str(), due);
+    }
+    Ok(())
+}
+
+#[test]
 fn over_nothing(rt: HostRuntime) -> Result<(), Fail> {
     let alloc = rt.alloc();
     let nulls = vec![in alloc; Value::Null, Value::Null]?;

@@ -10,6 +10,7 @@ enum Side<'a> {
     Column(usize),
     Number(i64),
     Word(&'a str),
+    Spelling(&'a str),
     Null,
 }
 
@@ -22,6 +23,7 @@ fn operand(alloc: Global, side: Side) -> Result<Operand, AllocError> {
         Side::Column(column) => Ok(Operand::Column(column)),
         Side::Number(n) => Ok(Operand::Literal(Value::Int(n))),
         Side::Word(chars) => Ok(Operand::Literal(text(alloc, chars)?)),
+        Side::Spelling(chars) => Ok(Operand::Literal(text(alloc, chars)?.without_case())),
         Side::Null => Ok(Operand::Literal(Value::Null)),
     }
 }
@@ -133,6 +135,32 @@ fn comparisons(rt: HostRuntime) -> Result<(), Fail> {
         assert_eq!(rt; holds(&condition, &row), due);
         assert_eq!(rt; filter(&condition, &row), due == Truth::True);
         assert_eq!(rt; having(&condition, &row), due == Truth::True);
+    }
+    Ok(())
+}
+
+/// Of the row (5, null, 'b'): a text beside one without case is compared as one.
+#[test]
+fn comparisons_without_case(rt: HostRuntime) -> Result<(), Fail> {
+    let alloc = rt.alloc();
+    let row = worked_row(alloc)?;
+    for (left, comparison, right, due) in [
+        (Side::Column(2), Comparison::Equal, "B", true),
+        (Side::Column(2), Comparison::Less, "C", true),
+        (Side::Column(2), Comparison::Greater, "_", true),
+        (Side::Word("B"), Comparison::Greater, "_", true),
+        (Side::Word("B"), Comparison::NotEqual, "b", false),
+        (Side::Spelling("OSLO"), Comparison::Equal, "Oslo", true),
+        (Side::Spelling("OSLO"), Comparison::Less, "Oslo", false),
+        (Side::Spelling("oslo"), Comparison::LessEqual, "Rome", true),
+        (Side::Spelling("\u{c9}"), Comparison::Equal, "\u{e9}", false),
+    ] {
+        let (left, right) = (
+            operand(alloc, left)?,
+            operand(alloc, Side::Spelling(right))?,
+        );
+        let condition = one(alloc, Test::Compare(left, comparison, right))?;
+        assert_eq!(rt; filter(&condition, &row), due);
     }
     Ok(())
 }

@@ -111,7 +111,7 @@ fn by_each_hasher(
 /// Rows, the columns of their keys, the column whose values are counted, and what comes of it.
 type Case<'a> = (Rows, &'a [usize], usize, &'a str);
 
-const CASES: [Case; 17] = [
+const CASES: [Case; 19] = [
     (Rows::Worked, &[0], 1, "4 rows, 2 groups; 1:1; 2:1"),
     (Rows::Worked, &[], 1, "4 rows, 1 groups; :2"),
     (Rows::Worked, &[1], 1, "4 rows, 3 groups; 5:1; 7:1; null:0"),
@@ -136,6 +136,13 @@ const CASES: [Case; 17] = [
         "5 rows, 2 groups; '':2; null:3",
     ),
     (Rows::NullsAndEmptyTexts, &[], 1, "5 rows, 1 groups; :1"),
+    (
+        Rows::Spellings,
+        &[1],
+        0,
+        "7 rows, 4 groups; ~'oslo':3; ~'rome':2; ~'\u{c9}':1; ~'\u{e9}':1",
+    ),
+    (Rows::Spellings, &[], 1, "7 rows, 1 groups; :4"),
     (Rows::Remainders, &[], 1, "500 rows, 1 groups; :50"),
     (Rows::Remainders, &[], 0, "500 rows, 1 groups; :500"),
     (

@@ -91,7 +91,7 @@ fn by_each_hasher(alloc: Global, columns: &[usize], rows: Rows) -> Result<Vec<St
 /// Rows, the columns of their keys, and what comes of it.
 type Case<'a> = (Rows, &'a [usize], &'a str);
 
-const CASES: [Case; 7] = [
+const CASES: [Case; 8] = [
     (Rows::Worked, &[0], "4 rows, 2 groups; 1:; 2:"),
     (Rows::Worked, &[1], "4 rows, 3 groups; 5:; 7:; null:"),
     (
@@ -103,6 +103,11 @@ const CASES: [Case; 7] = [
         Rows::NullsAndEmptyTexts,
         &[1],
         "5 rows, 2 groups; '':; null:",
+    ),
+    (
+        Rows::Spellings,
+        &[1],
+        "7 rows, 4 groups; ~'oslo':; ~'rome':; ~'\u{c9}':; ~'\u{e9}':",
     ),
     (Rows::PastTheEdge, &[0], "2 rows, 1 groups; 1:"),
     (Rows::None, &[0], "0 rows, 0 groups"),

@@ -112,6 +112,7 @@ pub(crate) enum Rows {
     Shared,
     NullsAlone,
     NullsAndEmptyTexts,
+    Spellings,
     PastTheEdge,
     AtTheEdge,
     Remainders,
@@ -134,6 +135,11 @@ fn named(alloc: Global, n: i64, name: Option<&str>) -> Result<Row, AllocError> {
         Some(chars) => Value::Text(Text::new(String::from_str(alloc, chars)?)),
         None => Value::Null,
     };
+    Ok(Row::new(vec![in alloc; Value::Int(n), name]?))
+}
+
+pub(crate) fn spelling(alloc: Global, n: i64, chars: &str) -> Result<Row, AllocError> {
+    let name = Value::NoCase(Text::new(String::from_str(alloc, chars)?));
     Ok(Row::new(vec![in alloc; Value::Int(n), name]?))
 }
 
@@ -179,6 +185,19 @@ pub(crate) fn rows_of(alloc: Global, rows: Rows) -> Result<VecDeque<Row>, AllocE
                 (5, Some("")),
             ] {
                 list.push_back(named(alloc, n, name)?)?;
+            }
+        }
+        Rows::Spellings => {
+            for (n, chars) in [
+                (1, "Oslo"),
+                (2, "rome"),
+                (3, "OSLO"),
+                (4, "\u{c9}"),
+                (5, "Rome"),
+                (6, "\u{e9}"),
+                (7, "oslo"),
+            ] {
+                list.push_back(spelling(alloc, n, chars)?)?;
             }
         }
         Rows::PastTheEdge => {
@@ -232,7 +251,7 @@ const ALL: &[(AggKind, usize)] = &[
     (AggKind::Max, 0),
 ];
 
-const CASES: [Case; 9] = [
+const CASES: [Case; 11] = [
     (Rows::Worked, &[0], COUNT, "4 rows, 2 groups; 1:2; 2:1"),
     (
         Rows::Worked,
@@ -254,6 +273,19 @@ const CASES: [Case; 9] = [
         &[1],
         &[(AggKind::CountAll, 0)],
         "5 rows, 2 groups; '':2; null:3",
+    ),
+    (
+        Rows::Spellings,
+        &[1],
+        &[(AggKind::CountAll, 0), (AggKind::Min, 1), (AggKind::Max, 1)],
+        "7 rows, 4 groups; ~'oslo':3,~'OSLO',~'oslo'; ~'rome':2,~'Rome',~'rome'; \
+         ~'\u{c9}':1,~'\u{c9}',~'\u{c9}'; ~'\u{e9}':1,~'\u{e9}',~'\u{e9}'",
+    ),
+    (
+        Rows::Spellings,
+        &[],
+        &[(AggKind::Min, 1), (AggKind::Max, 1), (AggKind::Count, 1)],
+        "7 rows, 1 groups; :~'OSLO',~'\u{e9}',7",
     ),
     (
         Rows::PastTheEdge,
@@ -319,6 +351,22 @@ fn five_hundred_rows_in_fifty_groups(rt: HostRuntime) -> Result<(), Fail> {
     let due = fifty_told(alloc)?;
     for found in by_each_hasher(alloc, &spec, Rows::Remainders)?.as_slice() {
         assert_eq!(rt; found.as_str(), due.as_str());
+    }
+    Ok(())
+}
+
+/// A grouping by two columns, by none, the first and both of them.
+#[test]
+fn prefixes_of_a_grouping(rt: HostRuntime) -> Result<(), Fail> {
+    let alloc = rt.alloc();
+    let spec = spec(alloc, &[0, 1], COUNT)?;
+    assert!(rt; spec.by().len() == 2);
+    let cases: [(usize, &[usize]); 3] = [(0, &[]), (1, &[0]), (2, &[0, 1])];
+    for (columns, by) in cases {
+        if columns <= spec.by().len() {
+            let prefix = spec.prefix(alloc, columns)?;
+            assert!(rt; prefix.by() == by && prefix.aggs() == COUNT);
+        }
     }
     Ok(())
 }

@@ -1,5 +1,5 @@
 //! Rows that have a match among others.
-use crate::groups::row;
+use crate::groups::{row, spelling};
 use gq_row::{Key, Row};
 use gq_select::{KeySet, anti_join, semi_join};
 use std::alloc::{AllocError, Global};
@@ -41,6 +41,37 @@ fn one_column(rt: HostRuntime) -> Result<(), Fail> {
         assert_eq!(rt; matched(alloc, Fnv1a { seed: 0 }, others, &row)?, due);
         assert_eq!(rt; matched(alloc, Constant(0), others, &row)?, due);
         assert_eq!(rt; matched(alloc, LowBits(7), others, &row)?, due);
+    }
+    Ok(())
+}
+
+/// Adds the key of a row in column 1.
+fn add_last<H: KeyHash<Key> + Copy>(keys: &mut KeySet<H>, row: &Row) -> Result<(), AllocError> {
+    if row.len() < 2 {
+        return Err(AllocError);
+    }
+    keys.add(row, &[1])
+}
+
+#[test]
+fn texts_without_case(rt: HostRuntime) -> Result<(), Fail> {
+    let alloc = rt.alloc();
+    let mut keys = KeySet::new(alloc, Constant(0));
+    for chars in ["Oslo", "ROME", "\u{c9}"] {
+        add_last(&mut keys, &spelling(alloc, 1, chars)?)?;
+    }
+    for (chars, due) in [
+        ("OSLO", true),
+        ("rome", true),
+        ("\u{c9}", true),
+        ("\u{e9}", false),
+        ("Bern", false),
+    ] {
+        let row = spelling(alloc, 2, chars)?;
+        if row.len() >= 2 {
+            assert_eq!(rt; semi_join(&keys, &row, &[1]), due);
+            assert_eq!(rt; anti_join(&keys, &row, &[1]), !due);
+        }
     }
     Ok(())
 }

@@ -7,7 +7,7 @@ use Rattle.std.proofs.lemmas.Bool.{ltb-false}
 use Rattle.std.proofs.lemmas.Bool.Decides.{nat_tests}
 use Rattle.csv.specs.Reading.{records, default_config, strip_bom}
 use Rattle.gq_row.specs.declared.value.Value.{Value}
-use Rattle.gq_row.specs.declared.value.Value.TheVariants.{Null, Int, Text}
+use Rattle.gq_row.specs.declared.value.Value.TheVariants.{Null, Int, Text, NoCase}
 use Rattle.gq_row.specs.declared.schema.Column.{Column}
 use Rattle.gq_row.specs.declared.schema.Kind.{Kind}
 use Rattle.gq_row.specs.declared.schema.Kind.TheVariants as kind
@@ -18,6 +18,7 @@ use Rattle.gq_load.specs.declared.load_refusal.LoadRefusal.TheVariants.{BadText,
 use Rattle.gq_load.specs.Answers.{◌>>=◌}
 use Rattle.gq_load.specs.Fields.{int_value, is_null_field, text_value, value_by, value_of}
 use Rattle.gq_load.specs.Numbers.{int_of}
+use Rattle.gq_row.specs.Folding.{without_case}
 use Rattle.gq_row.specs.Fitting.{goes_in, fits_columns, has_null}
 use Rattle.gq_load.specs.Fitting.{AreFit}
 use Rattle.gq_load.specs.Payloads.{arranged, cells_of, keyed, kind_at, load, row_of, rows_from, rows_of, data_rows, value_in, values_of}
@@ -41,9 +42,21 @@ text_goes most number field v h =
     let b = chosen (nat_lt most (length field)) Limit _ v a.1 in
     ap (goes_in kind.Text) (sym (ok_same (Text field) v b.1))
 
+without_goes : (v : Value) → goes_in kind.Text v ≡ true → goes_in kind.NoCase (without_case v) ≡ true
+without_goes Null h = refl
+without_goes (Int n) h = let none : ⊥ = cc in absurd none
+without_goes (Text t) h = refl
+without_goes (NoCase t) h = refl
+
+no_case_goes : (most number : ℕ) (field : List ℕ) (v : Value) → (text_value most number field >>= λ text. Ok (without_case text)) ≡ Ok v → goes_in kind.NoCase v ≡ true
+no_case_goes most number field v h =
+    let text = bound (text_value most number field) (λ text. Ok (without_case text)) v h in
+    ap (goes_in kind.NoCase) (sym (ok_same (without_case text.0) v text.2)) ∙ without_goes text.0 (text_goes most number field text.0 text.1)
+
 by_goes : (most number : ℕ) (k : Kind) (field : List ℕ) (v : Value) → value_by most number k field ≡ Ok v → goes_in k v ≡ true
 by_goes most number kind.Int field v h = int_goes number (int_of field) v h
 by_goes most number kind.Text field v h = text_goes most number field v h
+by_goes most number kind.NoCase field v h = no_case_goes most number field v h
 
 value_goes : (most number : ℕ) (k : Kind) (field : List ℕ) (v : Value) → value_of most number k field ≡ Ok v → goes_in k v ≡ true
 unfolding value_of

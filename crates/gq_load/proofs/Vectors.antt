@@ -11,7 +11,7 @@ use Rattle.gq_row.specs.Headings.{Heading}
 use Rattle.gq_row.specs.Limits.{GREATEST}
 use Rattle.gq_row.specs.declared.limits.Bounds.{Bounds}
 use Rattle.gq_row.specs.declared.schema.Kind.TheVariants as kind
-use Rattle.gq_row.specs.declared.value.Value.TheVariants.{Null, Int, Text}
+use Rattle.gq_row.specs.declared.value.Value.TheVariants.{Null, Int, Text, NoCase}
 use Rattle.gq_load.specs.declared.load_refusal.LoadRefusal.TheVariants.{NullKey, Header, FieldCount, BadInt, Limit}
 use Rattle.gq_load.specs.Fields.{text_value, value_of}
 use Rattle.gq_load.specs.Numbers.{int_of, number_of}
@@ -122,6 +122,10 @@ oslo_is = is_utf8-from_IsUtf8 (codes "Oslo") (IsUtf8-from_ascii (codes "Oslo") (
 oslo : text_value 4 1 (codes "Oslo") ≡ Ok (Text (codes "Oslo"))
 unfolding text_value
 oslo = rw oslo_is refl
+
+as_written : value_of 4 1 kind.NoCase (codes "Oslo") ≡ Ok (NoCase (codes "Oslo"))
+unfolding value_of text_value
+as_written = rw oslo_is refl
 
 too_long : text_value 3 1 (codes "Oslo") ≡ Err Limit
 unfolding text_value

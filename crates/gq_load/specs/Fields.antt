@@ -5,8 +5,10 @@ use Rattle.gq_row.specs.declared.schema.Kind.{Kind}
 use Rattle.gq_row.specs.declared.schema.Kind.TheVariants as kind
 use Rattle.gq_row.specs.declared.value.Value.{Value}
 use Rattle.gq_row.specs.declared.value.Value.TheVariants.{Null, Int, Text}
+use Rattle.gq_row.specs.Folding.{without_case}
 use Rattle.gq_load.specs.declared.load_refusal.LoadRefusal.{LoadRefusal}
 use Rattle.gq_load.specs.declared.load_refusal.LoadRefusal.TheVariants.{BadInt, BadText, Limit}
+use Rattle.gq_load.specs.Answers.{◌>>=◌}
 use Rattle.gq_load.specs.Numbers.{int_of}
 
 -- the field that is null in every column
@@ -17,6 +19,7 @@ null_field = codes "\\N"
 abbrev pub is_null_field : Kind → List ℕ → Bool
 is_null_field kind.Int field = (length field == 0) || bytes_eq field null_field
 is_null_field kind.Text field = bytes_eq field null_field
+is_null_field kind.NoCase field = bytes_eq field null_field
 
 -- the value of a field that isn't null: a whole number, or a text of at most so many bytes; the record's number stands in the fault
 abbrev pub int_value : ℕ → Option ℤ → Result Value LoadRefusal
@@ -29,9 +32,11 @@ text_value longest number field =
     else if nat_lt longest (length field) then Err Limit
     else Ok (Text field)
 
+-- of a column of texts without case that of a text, without case and as it is written
 abbrev pub value_by : ℕ → ℕ → Kind → List ℕ → Result Value LoadRefusal
 value_by longest number kind.Int field = int_value number (int_of field)
 value_by longest number kind.Text field = text_value longest number field
+value_by longest number kind.NoCase field = text_value longest number field >>= λ text. Ok (without_case text)
 
 -- the value of a field in a column of a kind, or its fault
 unfoldable pub value_of : ℕ → ℕ → Kind → List ℕ → Result Value LoadRefusal

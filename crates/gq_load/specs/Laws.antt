@@ -7,7 +7,7 @@ use Rattle.gq_row.specs.declared.schema.Column.{Column}
 use Rattle.gq_row.specs.declared.schema.Kind.{Kind}
 use Rattle.gq_row.specs.declared.schema.Kind.TheVariants as kind
 use Rattle.gq_row.specs.declared.value.Value.{Value}
-use Rattle.gq_row.specs.declared.value.Value.TheVariants.{Null, Text}
+use Rattle.gq_row.specs.declared.value.Value.TheVariants.{Null, Text, NoCase}
 use Rattle.gq_row.specs.Headings.{Heading, position_of}
 use Rattle.gq_row.specs.Rows.{cell}
 use Rattle.gq_load.specs.declared.load_refusal.LoadRefusal.{LoadRefusal}
@@ -39,11 +39,12 @@ pub record ReadsRecords : Type 0 where
   pub first : (heading : Heading) (longest : ℕ) (places : List ℕ) (number : ℕ) (given : List (List (List ℕ))) (fault : LoadRefusal)
       → rows_from heading longest places number given ≡ Err fault → IsFirstFault heading longest places number given fault
 
--- \N is null in every column; an empty field is null in an INT column, and the empty text in a TEXT column
+-- \N is null in every column; an empty field is null in an INT column, and the empty text in a column of texts, with case or without
 pub record ReadsNulls : Type 0 where
   pub marked : (longest number : ℕ) (k : Kind) → value_of longest number k (codes "\\N") ≡ Ok Null
   pub empty_int : (longest number : ℕ) → value_of longest number kind.Int [] ≡ Ok Null
   pub empty_text : (longest number : ℕ) → value_of longest number kind.Text [] ≡ Ok (Text [])
+  pub empty_no_case : (longest number : ℕ) → value_of longest number kind.NoCase [] ≡ Ok (NoCase [])
 
 -- digits, or a sign directly before digits
 abbrev pub SignBefore : List ℕ → Bool → List ℕ → Type 0

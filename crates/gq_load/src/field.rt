@@ -15,8 +15,8 @@ use std::str;
 /// What stands for null in every column.
 const NULL: &[u8] = b"\\N";
 
-/// Writes the value of a field in a column of a kind over another value; a text over a text, in its
-/// memory where that is enough. A text has at most `longest` bytes; `number` is that of the record.
+/// Writes the value of a field in a column of a kind over another value; a text over a text of the
+/// same kind, in its memory where that is enough. A text has at most `longest` bytes; `number` is that of the record.
 #[tactic(auto, unfolding(crate::specs::Fields::value_of))]
 pub(crate) fn write_value(
     alloc: Global,
@@ -38,6 +38,7 @@ pub(crate) fn write_value(
             Ok(())
         }
         Kind::Text => write_text(alloc, text_of(longest, number, field)?, value),
+        Kind::NoCase => write_no_case(alloc, text_of(longest, number, field)?, value),
     }
 }
 
@@ -47,7 +48,7 @@ fn is_null(kind: Kind, field: &[u8]) -> bool
 {
     match kind {
         Kind::Int => field.is_empty() || field == NULL,
-        Kind::Text => field == NULL,
+        Kind::Text | Kind::NoCase => field == NULL,
     }
 }
 
@@ -76,7 +77,7 @@ fn text_of<'a>(longest: usize, number: u64, field: &'a [u8]) -> Result<&'a str, 
     }
 }
 
-/// Writes a text over a value: the only value that takes memory.
+/// Writes a text over a value.
 fn write_text(alloc: Global, text: &str, value: &mut Value) -> Result<(), LoadRefusal>
     ensures ok { OnOk result (value.new ≡ variant.Text text.now) }
     ensures err { IfErr result (λ why. why ≡ Memory) }
@@ -84,6 +85,18 @@ fn write_text(alloc: Global, text: &str, value: &mut Value) -> Result<(), LoadRe
     match value {
         Value::Text(old) => old.write(text)?,
         _ => *value = Value::Text(Text::new(String::from_str(alloc, text)?)),
+    }
+    Ok(())
+}
+
+/// Writes a text without case over a value, as it is written.
+fn write_no_case(alloc: Global, text: &str, value: &mut Value) -> Result<(), LoadRefusal>
+    ensures ok { OnOk result (value.new ≡ variant.NoCase text.now) }
+    ensures err { IfErr result (λ why. why ≡ Memory) }
+{
+    match value {
+        Value::NoCase(old) => old.write(text)?,
+        _ => *value = Value::NoCase(Text::new(String::from_str(alloc, text)?)),
     }
     Ok(())
 }

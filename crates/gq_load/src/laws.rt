@@ -14,7 +14,7 @@ pub fn reads_records()
 {}
 
 /// `\N` is null in every column, whether it was quoted or not. An empty field is null in an INT
-/// column, and the empty text in a TEXT column.
+/// column, and the empty text in a column of texts, with case or without.
 pub fn reads_nulls()
     ensures { ReadsNulls }
 {}

@@ -130,6 +130,27 @@ const NUMBERS: [Case; 9] = [
     ),
 ];
 
+/// Texts without case are kept as they are spelled, rows of one key among them.
+const WITHOUT_CASE: [Case; 5] = [
+    (
+        Table::Towns,
+        b"id,town\n1,Oslo\n2,OSLO\n3,oslo\n",
+        "1,~'Oslo';2,~'OSLO';3,~'oslo';",
+    ),
+    (
+        Table::Towns,
+        b"town,id\n\"Rome, \"\"Centre\"\"\",1\n",
+        "1,~'Rome, \"Centre\"';",
+    ),
+    (Table::Towns, b"id,town\n1,\n2,\"\"\n", "1,~'';2,~'';"),
+    (Table::Towns, b"id,town\n1,\\n\n", "1,~'\\n';"),
+    (
+        Table::Towns,
+        b"id,town\n1,\xc3\x89\n2,\xc3\xa9\n",
+        "1,~'\u{c9}';2,~'\u{e9}';",
+    ),
+];
+
 // Whether each payload of a table of cases has the rows that stand beside it.
 fn all_right(rt: &(impl AllocGlobal + Abort), cases: &[Case]) -> Result<(), Fail> {
     let alloc = rt.alloc();
@@ -162,6 +183,11 @@ fn quoted_fields(rt: HostRuntime) -> Result<(), Fail> {
 #[test]
 fn nulls(rt: HostRuntime) -> Result<(), Fail> {
     all_right(&rt, &NULLS)
+}
+
+#[test]
+fn texts_without_case(rt: HostRuntime) -> Result<(), Fail> {
+    all_right(&rt, &WITHOUT_CASE)
 }
 
 #[test]

@@ -78,6 +78,21 @@ const COUNTS: [Case; 6] = [
     ),
 ];
 
+/// Payloads for the towns, whose texts are without case, and their faults.
+const TOWNS: [Case; 7] = [
+    (b"id,Town\n", LoadRefusal::Header),
+    (b"id,town\n1,a\n2,\xff\n", LoadRefusal::BadText(2)),
+    (b"id,town\nx,\xff\n", LoadRefusal::BadInt(1)),
+    (b"id,town\n1,abcde\n", LoadRefusal::Limit),
+    (b"id,town\n1,\\N\n", LoadRefusal::NullKey(1)),
+    (b"id,town\n1,a\n2,\"\\N\"\n", LoadRefusal::NullKey(2)),
+    // Records count before keys that are the same fall together.
+    (
+        b"id,town\n1,Oslo\n2,OSLO\n3,oslo\n4,oSLO\n",
+        LoadRefusal::Limit,
+    ),
+];
+
 const NOT_NUMBERS: [&[u8]; 16] = [
     b" ",
     b"+",
@@ -121,9 +136,13 @@ const TEXTS: [(LoadRefusal, &str); 7] = [
     (LoadRefusal::Memory, "out of memory"),
 ];
 
-fn refusal(alloc: Global, payload: &[u8]) -> Option<LoadRefusal> {
-    let schema = schema(alloc, Table::Cities)?;
+fn refusal_for(alloc: Global, table: Table, payload: &[u8]) -> Option<LoadRefusal> {
+    let schema = schema(alloc, table)?;
     load_rows(alloc, payload, &schema, &limits(4, 3)?).err()
+}
+
+fn refusal(alloc: Global, payload: &[u8]) -> Option<LoadRefusal> {
+    refusal_for(alloc, Table::Cities, payload)
 }
 
 fn all_refused(rt: &(impl AllocGlobal + Abort), cases: &[Case]) {
@@ -152,6 +171,14 @@ fn too_many_records(rt: HostRuntime) {
     ];
     for payload in most {
         assert_eq!(rt; refusal(rt.alloc(), payload), None);
+    }
+}
+
+#[test]
+fn texts_without_case(rt: HostRuntime) {
+    for (payload, fault) in TOWNS {
+        let found = refusal_for(rt.alloc(), Table::Towns, payload);
+        assert_eq!(rt; found, Some(fault));
     }
 }
 

@@ -13,6 +13,8 @@ pub(crate) enum Table {
     Notes,
     /// `words (n int, word text, key (word, n))`
     Words,
+    /// `towns (id int, town text nocase, key (town))`
+    Towns,
 }
 
 fn column(alloc: Global, name: &str, kind: Kind) -> Option<Column> {
@@ -42,6 +44,10 @@ pub(crate) fn schema(alloc: Global, table: Table) -> Option<Schema> {
         Table::Words => {
             let columns = two(alloc, ("n", Kind::Int), ("word", Kind::Text))?;
             Schema::new(columns, vec![in alloc; 1usize, 0].ok()?)
+        }
+        Table::Towns => {
+            let columns = two(alloc, ("id", Kind::Int), ("town", Kind::NoCase))?;
+            Schema::new(columns, vec![in alloc; 1usize].ok()?)
         }
     }
 }

@@ -11,7 +11,8 @@ use Rattle.clap.proofs.OnLiterals.{clap_on_literals}
 use Rattle.clap.proofs.WalkLemmas.{both}
 use Rattle.gq_options.specs.CommandLine.{BudgetsWorked, TakesOneBudget, has_dash, is_budget, number_of}
 use Rattle.gq_options.proofs.OptionLemmas.{Puts, Waits, alone, before, behind, both-words, numeral-plain, twice-refused, value-refused, value-turns, word-alone, word-before, word-behind}
-use Rattle.gq_options.proofs.SeedLemmas.{seed-puts}
+use Rattle.gq_options.proofs.SeedLemmas.{asks-number, seed-puts}
+use Rattle.gq_options.proofs.StepLemmas.{asks}
 
 -- clap's parser of numbers, narrowed to budgets
 pub narrowed-to : (parser narrow : ValueParser) (least most : ℤ) → parser ≡ Unsigned 0 18446744073709551615 → least ≡ pos 1 → most ≡ pos 1048576
@@ -59,19 +60,19 @@ budget-puts budget is = record {
 pub takes-one-budget : TakesOneBudget
 unfolding clap_on_literals
 takes-one-budget = record {
-  alone = λ name budget is. alone budget-waits name is (budget-plain budget is) refl;
-  before = λ name budget path is plain. before budget-waits name is (budget-plain budget is) plain refl refl;
-  behind = λ name budget path is plain. behind budget-waits name is (budget-plain budget is) plain refl refl;
-  joined = λ name budget is. word-alone (budget-puts budget is) name refl;
-  joined_before = λ name budget path is plain. word-before (budget-puts budget is) name plain refl refl;
-  joined_behind = λ name budget path is plain. word-behind (budget-puts budget is) name plain refl refl;
+  alone = λ name budget is. alone budget-waits name is (budget-plain budget is) (asks refl refl);
+  before = λ name budget path is plain. before budget-waits name is (budget-plain budget is) plain refl (asks refl refl);
+  behind = λ name budget path is plain. behind budget-waits name is (budget-plain budget is) plain refl (asks refl refl);
+  joined = λ name budget is. word-alone (budget-puts budget is) name (asks refl refl);
+  joined_before = λ name budget path is plain. word-before (budget-puts budget is) name plain refl (asks refl refl);
+  joined_behind = λ name budget path is plain. word-behind (budget-puts budget is) name plain refl (asks refl refl);
   no_budget = value-refused budget-waits;
   joined_no_budget = λ name text more is. rw (same-test text ∙ is) refl;
   below_zero = λ name more. refl;
   without_value = λ name. refl;
   twice = λ name one two is. twice-refused budget-waits name one two is (budget-plain one is);
-  seed_first = λ name seed budget is_s is_b. both-words name (seed-puts seed is_s) (budget-puts budget is_b) refl refl;
-  budget_first = λ name seed budget is_s is_b. both-words name (budget-puts budget is_b) (seed-puts seed is_s) refl refl;
+  seed_first = λ name seed budget is_s is_b. both-words name (seed-puts seed) (budget-puts budget is_b) refl (asks-number seed is_s refl refl);
+  budget_first = λ name seed budget is_s is_b. both-words name (budget-puts budget is_b) (seed-puts seed) refl (asks-number seed is_s refl refl);
 }
 
 pub budgets-worked : BudgetsWorked

@@ -25,11 +25,10 @@ use Rattle.clap.specs.declared.parser.matches.MatchedArg.{MatchedArg}
 use Rattle.clap.proofs.CallerLemmas.{entry_by_id, same_rules_by_id}
 use Rattle.clap.proofs.SimpleLemmas.{all_simple, plain_fields, simple_groups}
 use Rattle.clap.proofs.ValueTestLemmas.{Accepts-accepts, accepts-Accepts}
-use Rattle.gq_options.specs.CommandLine.{Asked, BUDGET, LINE, SCRIPT, SEED, SPILL, STATS, is_budget, is_seed, is_set, number_of}
+use Rattle.gq_options.specs.CommandLine.{Asked, BUDGET, LINE, SCRIPT, SEED, SPILL, STATS, is_budget, is_set, number_of}
 use Rattle.gq_options.specs.Words.{IsReadAs, IsReadAsFlag, is_flag}
 use Rattle.clap.specs.ValueTests.{accepts, is_unsigned_in}
 use Rattle.gq_options.proofs.BudgetLemmas.{same-test as budget-test}
-use Rattle.gq_options.proofs.SeedLemmas.{same-test as seed-test}
 
 -- the rules of the line, in their places
 abbrev RULES : List Rule
@@ -74,14 +73,6 @@ only-budget (suc (suc zero)) lt same = absurd (true≢false (sym same))
 only-budget (suc (suc (suc zero))) lt same = absurd (true≢false (sym same))
 only-budget (suc (suc (suc (suc zero)))) lt same = absurd (true≢false (sym same))
 only-budget (suc (suc (suc (suc (suc n))))) lt same = absurd (omega arith)
-
-only-seed : (j : ℕ) → j < 5 → bytes_eq (name_at j) (codes "seed") ≡ true → j ≡ 1
-only-seed zero lt same = absurd (true≢false (sym same))
-only-seed (suc zero) lt same = refl
-only-seed (suc (suc zero)) lt same = absurd (true≢false (sym same))
-only-seed (suc (suc (suc zero))) lt same = absurd (true≢false (sym same))
-only-seed (suc (suc (suc (suc zero)))) lt same = absurd (true≢false (sym same))
-only-seed (suc (suc (suc (suc (suc n))))) lt same = absurd (omega arith)
 
 only-stats : (j : ℕ) → j < 5 → bytes_eq (name_at j) (codes "stats") ≡ true → j ≡ 3
 only-stats zero lt same = absurd (true≢false (sym same))
@@ -202,17 +193,11 @@ not-own : (t : Text) (first : ℕ) → slice_index t 0 ≡ first → (first ≡ 
 not-own t first is h v (inl help) = h (sym is ∙ ap (λ t. slice_index t 0) help)
 not-own t first is h v (inr version) = v (sym is ∙ ap (λ t. slice_index t 0) version)
 
-seed-own : (t : Text) → t ≡ codes "seed" → (t ≡ codes "help") ⊎ (t ≡ codes "version") → ⊥
-seed-own t id = not-own t 115 (ap (λ t. slice_index t 0) id) (λ bad. omega arith) (λ bad. omega arith)
-
 budget-own : (t : Text) → t ≡ codes "budget" → (t ≡ codes "help") ⊎ (t ≡ codes "version") → ⊥
 budget-own t id = not-own t 98 (ap (λ t. slice_index t 0) id) (λ bad. omega arith) (λ bad. omega arith)
 
 stats-own : (t : Text) → t ≡ codes "stats" → (t ≡ codes "help") ⊎ (t ≡ codes "version") → ⊥
 stats-own t id = not-own t 115 (ap (λ t. slice_index t 0) id) (λ bad. omega arith) (λ bad. omega arith)
-
-seed-word : codes "seed" ≡ [] → ⊥
-seed-word e = let bad : ◌≡◌ {A = ℕ} 4 0 = ap length e in absurd (omega arith)
 
 budget-word : codes "budget" ≡ [] → ⊥
 budget-word e = let bad : ◌≡◌ {A = ℕ} 6 0 = ap length e in absurd (omega arith)
@@ -220,18 +205,11 @@ budget-word e = let bad : ◌≡◌ {A = ℕ} 6 0 = ap length e in absurd (omega
 stats-word : codes "stats" ≡ [] → ⊥
 stats-word e = let bad : ◌≡◌ {A = ℕ} 5 0 = ap length e in absurd (omega arith)
 
-seed-at : (xs : List Arg) (d : Arg) → map rule_of xs ≡ RULES → OnlyAt xs d 1 (codes "seed") (Unsigned 0 18446744073709551615)
-seed-at = option-at 1 (codes "seed") (Unsigned 0 18446744073709551615) (omega arith) refl refl only-seed
-
 budget-at : (xs : List Arg) (d : Arg) → map rule_of xs ≡ RULES → OnlyAt xs d 0 (codes "budget") (Unsigned 1 1048576)
 budget-at = option-at 0 (codes "budget") (Unsigned 1 1048576) (omega arith) refl refl only-budget
 
 stats-at : (xs : List Arg) (d : Arg) → map rule_of xs ≡ RULES → OnlyAt xs d 3 (codes "stats") vp.Bool
 stats-at = option-at 3 (codes "stats") vp.Bool (omega arith) refl refl only-stats
-
-pub given-seed : (line : Command) (m : ArgMatches) → app_of line ≡ LINE → IsParsedFrom line m
-    → (t : Text) → one_text (found_of m) (codes "seed") ≡ Some t → is_seed t ≡ true
-given-seed = option-given 1 (codes "seed") (Unsigned 0 18446744073709551615) is_seed seed-at seed-own seed-word refl (λ ignore_case text. seed-test text)
 
 pub given-budget : (line : Command) (m : ArgMatches) → app_of line ≡ LINE → IsParsedFrom line m
     → (t : Text) → one_text (found_of m) (codes "budget") ≡ Some t → is_budget t ≡ true
@@ -240,11 +218,6 @@ given-budget = option-given 0 (codes "budget") (Unsigned 1 1048576) is_budget bu
 pub given-stats : (line : Command) (m : ArgMatches) → app_of line ≡ LINE → IsParsedFrom line m
     → (t : Text) → one_text (found_of m) (codes "stats") ≡ Some t → is_flag t ≡ true
 given-stats = option-given 3 (codes "stats") vp.Bool is_flag stats-at stats-own stats-word refl (λ ignore_case text. refl)
-
-pub seed-read : (E : Type 0) (G : Text → Result ℕ E → Type 0) (o : Option Text) (r : Option ℕ) (n : ℕ) → n ≡ unwrap_or r 0
-    → (o ≡ None → r ≡ None) → ((t : Text) → o ≡ Some t → ReadsOne G t r)
-    → ((t : Text) (x : Result ℕ E) → G t x → ParsesUnsigned 64 10 t x) → IsReadAs is_seed 0 o n
-seed-read = number-read 0 18446744073709551615 is_seed seed-test 0
 
 pub budget-read : (E : Type 0) (G : Text → Result ℕ E → Type 0) (o : Option Text) (r : Option ℕ) (n : ℕ) → n ≡ unwrap_or r 65536
     → (o ≡ None → r ≡ None) → ((t : Text) → o ≡ Some t → ReadsOne G t r)

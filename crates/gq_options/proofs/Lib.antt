@@ -1,8 +1,10 @@
 mod BudgetLemmas
 mod FolderLemmas
 mod GivenLemmas
+mod KeptLemmas
 mod LineLemmas
 mod OptionLemmas
+mod RandomLemmas
 mod SeedLemmas
 mod StatsLemmas
 mod StepLemmas

@@ -9,7 +9,7 @@ use Rattle.clap.specs.declared.error.kind.ErrorKind.TheVariants.{ArgumentConflic
 use Rattle.clap.proofs.OnLiterals.{clap_on_literals}
 use Rattle.clap.proofs.WalkLemmas.{both}
 use Rattle.gq_options.specs.CommandLine.{Asked, Names, faults_of, has_dash}
-use Rattle.gq_options.proofs.StepLemmas.{RULES, Settles, Turns, asked-with, ends, fails-at-end, fails-on, goes-on, holding, names, no-dashes, no-long, no-short, nothing-waits, path-settles, path-turns, put, refuses, settle-faults}
+use Rattle.gq_options.proofs.StepLemmas.{RULES, Asks, Settles, Turns, ends, fails-at-end, fails-on, goes-on, holding, names, no-dashes, no-long, no-short, nothing-waits, path-settles, path-turns, put, refuses, settle-faults}
 
 -- a numeral begins with no dash
 pub numeral-plain : (text : Text) → is_numeral (without_leading_plus text) ≡ true → has_dash text ≡ false
@@ -53,30 +53,30 @@ value-turns {id} {rows} {text} plain takes_one = record {
 
 module _ {word id : Text} {test : Text → Bool} (it : Waits word id test) where
   pub alone : {text : Text} {asked : Asked} (name : Text) → test text ≡ true → has_dash text ≡ false
-      → asked-with (put id text []) ≡ asked → Names (name ∷ word ∷ text ∷ []) asked
-  alone name is plain asked_is =
+      → Asks (put id text []) asked → Names (name ∷ word ∷ text ∷ []) asked
+  alone name is plain asks =
       names name
       (goes-on (it.turns nothing-waits)
       (goes-on (it.value plain)
-      (ends (it.settles refl is) asked_is)))
+      (ends (it.settles refl is) asks)))
 
   pub before : {text path : Text} {asked : Asked} (name : Text) → test text ≡ true → has_dash text ≡ false → has_dash path ≡ false
-      → has_row (codes "SCRIPT") (put id text []) ≡ false → asked-with (put (codes "SCRIPT") path (put id text [])) ≡ asked → Names (name ∷ word ∷ text ∷ path ∷ []) asked
-  before name is plain path_plain new asked_is =
+      → has_row (codes "SCRIPT") (put id text []) ≡ false → Asks (put (codes "SCRIPT") path (put id text [])) asked → Names (name ∷ word ∷ text ∷ path ∷ []) asked
+  before name is plain path_plain new asks =
       names name
       (goes-on (it.turns nothing-waits)
       (goes-on (it.value plain)
       (goes-on (path-turns (it.settles refl is) path_plain)
-      (ends (path-settles new) asked_is))))
+      (ends (path-settles new) asks))))
 
   pub behind : {text path : Text} {asked : Asked} (name : Text) → test text ≡ true → has_dash text ≡ false → has_dash path ≡ false
-      → has_row id (put (codes "SCRIPT") path []) ≡ false → asked-with (put id text (put (codes "SCRIPT") path [])) ≡ asked → Names (name ∷ path ∷ word ∷ text ∷ []) asked
-  behind name is plain path_plain new asked_is =
+      → has_row id (put (codes "SCRIPT") path []) ≡ false → Asks (put id text (put (codes "SCRIPT") path [])) asked → Names (name ∷ path ∷ word ∷ text ∷ []) asked
+  behind name is plain path_plain new asks =
       names name
       (goes-on (path-turns nothing-waits path_plain)
       (goes-on (it.turns (path-settles refl))
       (goes-on (it.value plain)
-      (ends (it.settles new is) asked_is))))
+      (ends (it.settles new is) asks))))
 
   pub value-refused : (name text : Text) → test text ≡ false → has_dash text ≡ false → faults_of (name ∷ word ∷ text ∷ []) ≡ ValueValidation ∷ []
   value-refused name text is plain =
@@ -103,30 +103,30 @@ pub record Puts (word id text : Text) : Type 0 where
       → Settles rows pending after → has_row id after ≡ false → Turns (holding rows pending idle position) word (holding (put id text after) None idle position)
 
 module _ {word id text : Text} (it : Puts word id text) where
-  pub word-alone : {asked : Asked} (name : Text) → asked-with (put id text []) ≡ asked → Names (name ∷ word ∷ []) asked
-  word-alone name asked_is = names name (goes-on (it.turns nothing-waits refl) (ends nothing-waits asked_is))
+  pub word-alone : {asked : Asked} (name : Text) → Asks (put id text []) asked → Names (name ∷ word ∷ []) asked
+  word-alone name asks = names name (goes-on (it.turns nothing-waits refl) (ends nothing-waits asks))
 
   pub word-before : {path : Text} {asked : Asked} (name : Text) → has_dash path ≡ false
-      → has_row (codes "SCRIPT") (put id text []) ≡ false → asked-with (put (codes "SCRIPT") path (put id text [])) ≡ asked → Names (name ∷ word ∷ path ∷ []) asked
-  word-before name plain new asked_is =
+      → has_row (codes "SCRIPT") (put id text []) ≡ false → Asks (put (codes "SCRIPT") path (put id text [])) asked → Names (name ∷ word ∷ path ∷ []) asked
+  word-before name plain new asks =
       names name
       (goes-on (it.turns nothing-waits refl)
       (goes-on (path-turns nothing-waits plain)
-      (ends (path-settles new) asked_is)))
+      (ends (path-settles new) asks)))
 
   pub word-behind : {path : Text} {asked : Asked} (name : Text) → has_dash path ≡ false
-      → has_row id (put (codes "SCRIPT") path []) ≡ false → asked-with (put id text (put (codes "SCRIPT") path [])) ≡ asked → Names (name ∷ path ∷ word ∷ []) asked
-  word-behind name plain new asked_is =
+      → has_row id (put (codes "SCRIPT") path []) ≡ false → Asks (put id text (put (codes "SCRIPT") path [])) asked → Names (name ∷ path ∷ word ∷ []) asked
+  word-behind name plain new asks =
       names name
       (goes-on (path-turns nothing-waits plain)
       (goes-on (it.turns (path-settles refl) new)
-      (ends nothing-waits asked_is)))
+      (ends nothing-waits asks)))
 
 -- two such words
 pub both-words : {one two first second a b : Text} {asked : Asked} (name : Text) → Puts one first a → Puts two second b
-    → has_row second (put first a []) ≡ false → asked-with (put second b (put first a [])) ≡ asked → Names (name ∷ one ∷ two ∷ []) asked
-both-words name it other new asked_is =
+    → has_row second (put first a []) ≡ false → Asks (put second b (put first a [])) asked → Names (name ∷ one ∷ two ∷ []) asked
+both-words name it other new asks =
     names name
     (goes-on (it.turns nothing-waits refl)
     (goes-on (other.turns nothing-waits new)
-    (ends nothing-waits asked_is)))
+    (ends nothing-waits asks)))

@@ -11,9 +11,11 @@ use Rattle.clap.specs.Simple.{App, Shape, built, entered}
 use Rattle.clap.specs.Walk.{Row, Rule, Text, Waiting, Walk, finished, first_of, has_row, idle, is_pending, nothing_held, one_of, settled, settled_rows, walk_from, walked, with_default, with_values, without}
 use Rattle.clap.specs.declared.builder.value_parser.Reading.TheVariants.{AsWritten}
 use Rattle.clap.specs.declared.error.kind.ErrorKind.{ErrorKind}
+use Rattle.clap.specs.declared.error.kind.ErrorKind.TheVariants.{ValueValidation}
 use Rattle.clap.specs.declared.parser.matches.ValueSource.TheVariants.{CommandLine}
 use Rattle.clap.proofs.OnLiterals.{clap_on_literals}
-use Rattle.gq_options.specs.CommandLine.{Asked, LINE, Names, SCRIPT, faults_of, has_dash, is_set, number_of}
+use Rattle.gq_options.specs.CommandLine.{Asked, LINE, Names, SCRIPT, faults_of, has_dash, is_set, names_seed, number_of, seed_fault, seed_named}
+use Rattle.gq_options.specs.declared.options.Seed.TheVariants.{Number}
 
 -- the line as clap builds it
 abbrev pub BUILT : App
@@ -32,15 +34,23 @@ end-faults end = or_else (entered_fault BUILT end.stopped)
     (or_else (defaults_fault (settled RULES end.held).rows RULES)
     (check_fault SHAPE (finished RULES end.held) (is_some (entered BUILT end.stopped)))))
 
+-- what is wrong with the text of the seed among rows
+abbrev pub seed-faults : List Row → Kinds
+seed-faults rows = seed_fault (first_of (codes "seed") rows)
+
+-- the faults of the words that are left, where these are the faults of the walk over them
+abbrev pub faults-by : Kinds → Walk → Kinds
+faults-by kinds end = or_else (or_else kinds (end-faults end)) (seed-faults (finished RULES end.held))
+
 -- the faults of the words that are left
 abbrev pub faults-from : Walk → List Text → Kinds
-faults-from w words = or_else (walk_fault SHAPE [] w words) (end-faults (fold (walked RULES []) w words))
+faults-from w words = faults-by (walk_fault SHAPE [] w words) (fold (walked RULES []) w words)
 
 -- what rows ask for
 abbrev pub asked-by : List Row → Asked
 asked-by rows = record {
   script = first_of (codes "SCRIPT") rows;
-  seed = option_map_or number_of (one_of (codes "seed") rows) 0;
+  seed = option_map_or seed_named (first_of (codes "seed") rows) (Number 0);
   budget = option_map_or number_of (one_of (codes "budget") rows) 65536;
   spill = first_of (codes "spill") rows;
   stats = option_map_or is_set (one_of (codes "stats") rows) false;
@@ -74,9 +84,9 @@ refuses name fails = fails.found
 
 -- the faults of a word, or else those of the words behind it
 abbrev word-or-rest : Walk → List Text → Kinds → Kinds
-word-or-rest behind words kinds = or_else (or_else kinds (walk_fault SHAPE [] behind words)) (end-faults (fold (walked RULES []) behind words))
+word-or-rest behind words kinds = faults-by (or_else kinds (walk_fault SHAPE [] behind words)) (fold (walked RULES []) behind words)
 
-next-word : (w v : Walk) (word : Text) (words : List Text) → Turns w word v → faults-from w (word ∷ words) ≡ faults-from v words
+pub next-word : (w v : Walk) (word : Text) (words : List Text) → Turns w word v → faults-from w (word ∷ words) ≡ faults-from v words
 unfolding walk_fault
 next-word w v word words turn =
     ap (word-or-rest (walked RULES [] w word) words) turn.faultless ∙ ap (λ (u : Walk). faults-from u words) turn.leads
@@ -120,9 +130,17 @@ pub record Settles (rows : List Row) (pending : Option (Text × List Text)) (aft
   pub faultless : settle-faults rows pending ≡ []
   pub put_in : settled_rows RULES pending rows ≡ after
 
--- what rows ask for, and the defaults where there is no row
-abbrev pub asked-with : List Row → Asked
-asked-with rows = asked-by (fold with_default rows RULES)
+-- rows and the defaults where there is no row
+abbrev pub with-defaults : List Row → List Row
+with-defaults rows = fold with_default rows RULES
+
+-- with the defaults, rows have no fault in the seed, and ask for this
+pub record Asks (rows : List Row) (asked : Asked) : Type 0 where
+  pub seeded : seed-faults (with-defaults rows) ≡ []
+  pub asked_is : asked-by (with-defaults rows) ≡ asked
+
+pub asks : {rows : List Row} {asked : Asked} → seed-faults (with-defaults rows) ≡ [] → asked-by (with-defaults rows) ≡ asked → Asks rows asked
+asks seeded asked_is = record { seeded = seeded; asked_is = asked_is }
 
 either-way : (b : Bool) → ◌≡◌ {A = Kinds} (if b then [] else []) []
 either-way true = refl
@@ -135,12 +153,19 @@ defaults-pass rows = simp (or-true, either-way) refl
 
 -- behind the last word
 pub ends : {rows after : List Row} {pending : Option (Text × List Text)} {waiting : Waiting} {position : ℕ} {asked : Asked}
-    → Settles rows pending after → asked-with after ≡ asked → Goes (holding rows pending waiting position) [] asked
+    → Settles rows pending after → Asks after asked → Goes (holding rows pending waiting position) [] asked
 unfolding walk_fault
-ends {rows} {after} settles asked_is = record {
-  accepted = rw (settles.faultless, settles.put_in, defaults-pass after) refl;
-  asked_is = rw settles.put_in asked_is;
+ends {rows} {after} settles it = record {
+  accepted = rw (settles.faultless, settles.put_in, defaults-pass after) it.seeded;
+  asked_is = rw settles.put_in it.asked_is;
 }
+
+-- the text of the seed names none, which is found behind the last word
+pub names-no-seed : {rows after : List Row} {pending : Option (Text × List Text)} {waiting : Waiting} {position : ℕ} (text : Text)
+    → Settles rows pending after → first_of (codes "seed") (with-defaults after) ≡ Some text → names_seed text ≡ false
+    → Fails (holding rows pending waiting position) [] ValueValidation
+unfolding walk_fault
+names-no-seed {rows} {after} text settles there is = record { found = rw (settles.faultless, settles.put_in, defaults-pass after, there, is) refl }
 
 -- what waits has a fault, behind the last word
 pub fails-at-end : {rows : List Row} {pending : Option (Text × List Text)} {waiting : Waiting} {position : ℕ} {kind : ErrorKind}

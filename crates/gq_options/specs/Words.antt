@@ -1,24 +1,33 @@
 -- What reading a command line answers.
-use Rattle.std.specs.Prelude.{◌≡◌, ◌≢◌, ◌||◌, ℕ, Bool, true, false, List, Option, Some, None, Result, Ok, Err, codes, option_map}
+use Rattle.std.specs.Prelude.{◌≡◌, ◌≢◌, ◌||◌, ℕ, Bool, true, false, List, [], ◌∷◌, Option, Some, None, Result, Ok, Err, codes, option_map}
+use Rattle.std.specs.Option.{option_map_or}
 use Rattle.std.specs.Str.{bytes_eq}
 use Rattle.clap.specs.Words.{IsAmong, Text}
 use Rattle.clap.specs.declared.error.kind.ErrorKind.{ErrorKind}
 use Rattle.clap.specs.declared.error.kind.ErrorKind.TheVariants as kind
-use Rattle.gq_options.specs.CommandLine.{Asked, Names, faults_of, is_set, number_of}
+use Rattle.gq_options.specs.CommandLine.{Asked, Names, faults_of, is_set, number_of, seed_fault, seed_named}
 use Rattle.gq_options.specs.declared.options.Options.{Options}
+use Rattle.gq_options.specs.declared.options.Seed.{Seed}
+use Rattle.gq_options.specs.declared.options.Seed.TheVariants.{Number}
 use Rattle.gq_options.specs.declared.options.BadLine.{BadLine}
-use Rattle.gq_options.specs.declared.options.BadLine.TheVariants.{Help, Mistake, Memory}
+use Rattle.gq_options.specs.declared.options.BadLine.TheVariants.{Help, Version, Mistake, Memory}
 
--- clap's kind of error is told as this: help apart from all mistakes, and want of memory in place of either
+-- clap's kind of error asks for nothing that is told: neither for help nor for the version
+abbrev pub AsksNothing : ErrorKind → Type 0
+AsksNothing k = (k ≢ kind.DisplayHelp) × (k ≢ kind.DisplayVersion)
+
+-- clap's kind of error is told as this: help and the version apart from one another and from all mistakes, and want of memory in place of any
 abbrev pub IsToldAs : ErrorKind → BadLine → Type 0
 IsToldAs k (Help text) = k ≡ kind.DisplayHelp
-IsToldAs k (Mistake text) = (k ≢ kind.DisplayHelp) × (k ≢ kind.OutOfMemory)
+IsToldAs k (Version text) = k ≡ kind.DisplayVersion
+IsToldAs k (Mistake text) = AsksNothing k × (k ≢ kind.OutOfMemory)
 IsToldAs k Memory = Unit {0}
 
 -- the words have a fault that is told as this
 abbrev pub IsBad : List Text → BadLine → Type 0
 IsBad words (Help text) = IsAmong kind.DisplayHelp (faults_of words)
-IsBad words (Mistake text) = (k : ErrorKind) × IsAmong k (faults_of words) × (k ≢ kind.DisplayHelp)
+IsBad words (Version text) = IsAmong kind.DisplayVersion (faults_of words)
+IsBad words (Mistake text) = (k : ErrorKind) × IsAmong k (faults_of words) × AsksNothing k
 IsBad words Memory = Unit {0}
 
 -- the text of a number is read as that number, where it passes the test, and no text as another
@@ -34,6 +43,18 @@ is_flag text = bytes_eq text (codes "true") || bytes_eq text (codes "false")
 abbrev pub IsReadAsFlag : Option Text → Bool → Type 0
 IsReadAsFlag None value = value ≡ false
 IsReadAsFlag (Some text) value = is_flag text ≡ true → value ≡ is_set text
+
+-- a mistake is told, or want of memory in its place
+abbrev pub IsToldAsMistake : BadLine → Type 0
+IsToldAsMistake (Help text) = ⊥
+IsToldAsMistake (Version text) = ⊥
+IsToldAsMistake (Mistake text) = Unit {0}
+IsToldAsMistake Memory = Unit {0}
+
+-- a text is read as the seed that it names, and no text as 0; another text is told as a mistake
+abbrev pub ReadsSeed : Option Text → Result Seed BadLine → Type 0
+ReadsSeed named (Ok seed) = (seed_fault named ≡ []) × (option_map_or seed_named named (Number 0) ≡ seed)
+ReadsSeed named (Err bad) = (seed_fault named ≡ kind.ValueValidation ∷ []) × IsToldAsMistake bad
 
 -- what options ask for
 abbrev pub asked_by : Options → Asked

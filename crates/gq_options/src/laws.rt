@@ -1,8 +1,8 @@
 //! Laws: what the definitions come to. Each is the contract of a function that does nothing.
 ghost use Rattle.gq_options.specs.CommandLine.{BudgetsWorked, FoldersWorked, SeedsWorked};
-ghost use Rattle.gq_options.specs.CommandLine.{TakesOneBudget, TakesOneFolder, TakesOnePath, TakesOneSeed, TakesStats};
+ghost use Rattle.gq_options.specs.CommandLine.{TakesOneBudget, TakesOneFolder, TakesOnePath, TakesOneSeed, TakesRandom, TakesStats};
 
-/// The program takes one path, or none, and tells help from mistakes.
+/// The program takes one path, or none, and tells help and the version from mistakes.
 pub fn takes_one_path()
     ensures { TakesOnePath }
 {}
@@ -11,6 +11,11 @@ pub fn takes_one_path()
 pub fn takes_one_seed()
     ensures vary { TakesOneSeed }
     ensures worked { SeedsWorked }
+{}
+
+/// The word `random` asks for a seed from the system, before a path or behind it.
+pub fn takes_random()
+    ensures { TakesRandom }
 {}
 
 /// Besides a path and a seed it takes one budget, before or behind them.

@@ -1,12 +1,22 @@
 //! The program's command line.
 ghost use Rattle.std.specs.Prelude.{◌≡◌, false, IfOk, codes, map, string_bytes};
-ghost use Rattle.clap.specs.Words.{app_of, found_of, kind_of, one_text, rule_of};
-ghost use Rattle.gq_options.specs.CommandLine.{BUDGET, LINE, SCRIPT, SEED, SPILL, STATS, is_budget, is_seed};
-ghost use Rattle.gq_options.specs.Words.{IsReadAs, IsReadAsFlag, IsToldAs, Reads};
+ghost use Rattle.clap.specs.Words.{app_of, first_value, found_of, kind_of, one_text, rule_of};
+ghost use Rattle.gq_options.specs.CommandLine.{BUDGET, LINE, SCRIPT, SEED, SPILL, STATS, is_budget};
+ghost use Rattle.gq_options.specs.Words.{IsReadAs, IsReadAsFlag, IsToldAs, IsToldAsMistake, Reads, ReadsSeed};
 
 use clap::error::ErrorKind;
 use clap::{Arg, ArgAction, ArgMatches, Command, Error, value_parser};
 use std::alloc::{AllocError, Global};
+use std::num::ParseIntError;
+
+/// Which seed a command line asks for.
+#[derive(Clone, Copy, Debug, PartialEq, Eq)]
+pub enum Seed {
+    /// This number.
+    Number(u64),
+    /// One from the system.
+    Random,
+}
 
 /// What a command line asks for.
 #[derive(Clone, Copy, Debug, PartialEq, Eq)]
@@ -14,7 +24,7 @@ pub struct Options<'a> {
     /// The path of the script. Without one the script is the standard input.
     pub script: Option<&'a str>,
     /// The seed of the hash by which tables keep their rows. No reply depends on it.
-    pub seed: u64,
+    pub seed: Seed,
     /// How many groups are kept in memory at once: 1 to 1,048,576. No reply depends on it.
     pub budget: u64,
     /// The folder where rows that are put aside stand. Without one they stand in memory.
@@ -29,6 +39,9 @@ pub enum BadLine {
     /// Help was asked for; its text, for the standard output.
     #[error("{0}")]
     Help(String),
+    /// The version was asked for; its text, for the standard output.
+    #[error("{0}")]
+    Version(String),
     /// The words are no command line of the program; what is wrong with them, for the standard
     /// error.
     #[error("{0}")]
@@ -37,6 +50,10 @@ pub enum BadLine {
     #[error("out of memory")]
     Memory,
 }
+
+// The version, and the toolchain by which all is proved, as `rt version` names it; `./test` holds it
+// to that.
+const VERSION: &str = "0.1.0 (rattle-kit-13f logic dac8208d650f15bf)";
 
 const ABOUT: &str =
     "Keeps rows in tables, and tells of groups of them: counts, sums, least and greatest values.
@@ -64,7 +81,8 @@ Exit status:
   0  all commands were accepted
   1  some command was refused
   2  the command line is wrong
-  3  the script can't be read, a reply can't be written, or there was no memory to begin with";
+  3  the script can't be read, a reply can't be written, or there was no memory, or no random seed, to
+     begin with";
 
 fn budget_option<'a>(alloc: Global) -> Arg<'a>
     ensures rule { rule_of result ≡ BUDGET }
@@ -87,9 +105,8 @@ fn seed_option<'a>(alloc: Global) -> Arg<'a>
     Arg::new(alloc, "seed")
         .long("seed")
         .value_name("N")
-        .value_parser(value_parser!(u64))
         .default_value("0")
-        .help("Seed of the hash that tables use; no reply depends on it")
+        .help("Seed of the hash that tables use, or `random`; no reply depends on it")
 }
 
 fn spill_option<'a>(alloc: Global) -> Arg<'a>
@@ -110,7 +127,9 @@ fn stats_option<'a>(alloc: Global) -> Arg<'a>
         .long("stats")
         .action(ArgAction::SetTrue)
         .value_parser(value_parser!(bool))
-        .help("Tell on standard error, at the end, what grouping took: rows, groups and runs")
+        .help(
+            "Tell on standard error, at the end, what grouping took: rows, groups, runs; and a random seed",
+        )
 }
 
 fn script_word<'a>(alloc: Global) -> Arg<'a>
@@ -126,6 +145,7 @@ fn command_line<'a>(alloc: Global) -> Result<Command<'a>, AllocError>
 {
     Command::new(alloc, "groupsh")
         .bin_name("groupsh")?
+        .version(VERSION)
         .about(ABOUT)
         .after_help(MORE)
         .arg(budget_option(alloc))?
@@ -135,11 +155,33 @@ fn command_line<'a>(alloc: Global) -> Result<Command<'a>, AllocError>
         .arg(script_word(alloc))
 }
 
-// The seed among the matches.
-fn seed_in(matches: &ArgMatches) -> u64
-    ensures { IsReadAs is_seed 0 (one_text (found_of matches.now) (codes "seed")) result }
+// The seed among the matches: the word `random`, or a number in digits.
+fn seed_in(alloc: Global, matches: &ArgMatches) -> Result<Seed, BadLine>
+    ensures { ReadsSeed (first_value (found_of matches.now) (codes "seed")) result }
 {
-    matches.get_one("seed").unwrap_or(0)
+    let Some(text) = matches.get_str("seed") else {
+        return Ok(Seed::Number(0));
+    };
+    if text == "random" {
+        return Ok(Seed::Random);
+    }
+    match text.parse::<u64>() {
+        Ok(number) => Ok(Seed::Number(number)),
+        Err(error) => Err(bad_seed(alloc, text, &error)),
+    }
+}
+
+// What is told of a text that names no seed, in the form of clap's own mistakes.
+fn bad_seed(alloc: Global, text: &str, error: &ParseIntError) -> BadLine
+    ensures { IsToldAsMistake result }
+{
+    let told = format!(in alloc;
+        "error: invalid value '{text}' for '--seed <N>': {error}\n\nFor more information, try '--help'.\n"
+    );
+    match told {
+        Ok(message) => BadLine::Mistake(message),
+        Err(AllocError) => BadLine::Memory,
+    }
 }
 
 // The budget among the matches.
@@ -167,6 +209,7 @@ fn bad_line(alloc: Global, error: &Error) -> BadLine
     match error.to_string(alloc) {
         Err(AllocError) => BadLine::Memory,
         Ok(text) if kind == ErrorKind::DisplayHelp => BadLine::Help(text),
+        Ok(text) if kind == ErrorKind::DisplayVersion => BadLine::Version(text),
         Ok(text) => BadLine::Mistake(text),
     }
 }
@@ -181,7 +224,7 @@ pub fn read_words<'a>(alloc: Global, words: &'a [String]) -> Result<Options<'a>,
     match line.try_get_matches_from(words) {
         Ok(matches) => Ok(Options {
             script: matches.get_str("SCRIPT"),
-            seed: seed_in(&matches),
+            seed: seed_in(alloc, &matches)?,
             budget: budget_in(&matches),
             spill: matches.get_str("spill"),
             stats: stats_in(&matches),

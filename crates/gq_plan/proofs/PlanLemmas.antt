@@ -5,8 +5,8 @@ use Rattle.std.specs.List.{list_all}
 use Rattle.std.specs.Cmp.{first_so}
 use Rattle.gq_row.specs.declared.schema.Column.{Column}
 use Rattle.gq_row.specs.Headings.{positions_of}
-use Rattle.gq_query.specs.declared.shown.Shown.{Shown}
-use Rattle.gq_query.specs.Asking.{can_show}
+use Rattle.gq_select.specs.declared.shown.Shown.{Shown}
+use Rattle.gq_select.specs.Asking.{can_show}
 use Rattle.gq_select.specs.declared.condition.Test.{Test}
 use Rattle.gq_select.specs.declared.matching.Matching.{Matching}
 use Rattle.gq_command.specs.Commands.{Bytes}
@@ -36,43 +36,43 @@ module _ (columns others : List Column) (exists : Exists) where
   both_found theirs ours t o = finds NoColumn (positions_of others exists.theirs) theirs _ t ∙ finds NoColumn (positions_of columns exists.ours) ours _ o
 
 module _ (columns others : List Column) (clauses : GroupClauses) where
-  pub no_by : positions_of columns clauses.by ≡ None → group_named columns others clauses ≡ Err (unnumbered NoColumn)
-  no_by h = misses NoColumn (positions_of columns clauses.by) _ h
+  pub no_by : positions_of columns clauses.by.columns ≡ None → group_named columns others clauses ≡ Err (unnumbered NoColumn)
+  no_by h = misses NoColumn (positions_of columns clauses.by.columns) _ h
 
-  module _ (by : List ℕ) (b : positions_of columns clauses.by ≡ Some by) where
+  module _ (by : List ℕ) (b : positions_of columns clauses.by.columns ≡ Some by) where
     pub no_shown : all_shown columns clauses.shown ≡ None → group_named columns others clauses ≡ Err (unnumbered NoColumn)
-    no_shown h = finds NoColumn (positions_of columns clauses.by) by _ b ∙ misses NoColumn (all_shown columns clauses.shown) _ h
+    no_shown h = finds NoColumn (positions_of columns clauses.by.columns) by _ b ∙ misses NoColumn (all_shown columns clauses.shown) _ h
 
     module _ (shown : List Shown) (s : all_shown columns clauses.shown ≡ Some shown) where
       pub no_tests : all_placed (in_row columns) clauses.tests ≡ None → group_named columns others clauses ≡ Err (unnumbered NoColumn)
       no_tests h =
-          finds NoColumn (positions_of columns clauses.by) by _ b ∙ finds NoColumn (all_shown columns clauses.shown) shown _ s ∙ misses NoColumn (all_placed (in_row columns) clauses.tests) _ h
+          finds NoColumn (positions_of columns clauses.by.columns) by _ b ∙ finds NoColumn (all_shown columns clauses.shown) shown _ s ∙ misses NoColumn (all_placed (in_row columns) clauses.tests) _ h
 
       module _ (tests : List Test) (t : all_placed (in_row columns) clauses.tests ≡ Some tests) where
         pub no_matching : (why : Refused) → matching_named columns others clauses.exists ≡ Err why → group_named columns others clauses ≡ Err why
         no_matching why h =
-            finds NoColumn (positions_of columns clauses.by) by _ b
+            finds NoColumn (positions_of columns clauses.by.columns) by _ b
             ∙ finds NoColumn (all_shown columns clauses.shown) shown _ s
             ∙ finds NoColumn (all_placed (in_row columns) clauses.tests) tests _ t
             ∙ stops (matching_named columns others clauses.exists) why _ h
 
         module _ (matching : Option Matching) (m : matching_named columns others clauses.exists ≡ Ok matching) where
-          pub no_having : all_placed (in_result clauses.by clauses.shown) clauses.having ≡ None → group_named columns others clauses ≡ Err (unnumbered NoColumn)
+          pub no_having : all_placed (in_result clauses.by.columns clauses.shown) clauses.having ≡ None → group_named columns others clauses ≡ Err (unnumbered NoColumn)
           no_having h =
-              finds NoColumn (positions_of columns clauses.by) by _ b
+              finds NoColumn (positions_of columns clauses.by.columns) by _ b
               ∙ finds NoColumn (all_shown columns clauses.shown) shown _ s
               ∙ finds NoColumn (all_placed (in_row columns) clauses.tests) tests _ t
               ∙ gives (matching_named columns others clauses.exists) matching _ m
-              ∙ misses NoColumn (all_placed (in_result clauses.by clauses.shown) clauses.having) _ h
+              ∙ misses NoColumn (all_placed (in_result clauses.by.columns clauses.shown) clauses.having) _ h
 
-          pub all_named : (having : List Test) → all_placed (in_result clauses.by clauses.shown) clauses.having ≡ Some having
-              → group_named columns others clauses ≡ Ok (record { by = by; shown = shown; condition = record { tests = tests }; matching = matching; having = record { tests = having } })
+          pub all_named : (having : List Test) → all_placed (in_result clauses.by.columns clauses.shown) clauses.having ≡ Some having
+              → group_named columns others clauses ≡ Ok (record { by = by; rollup = clauses.by.rollup; shown = shown; condition = record { tests = tests }; matching = matching; having = record { tests = having } })
           all_named having h =
-              finds NoColumn (positions_of columns clauses.by) by _ b
+              finds NoColumn (positions_of columns clauses.by.columns) by _ b
               ∙ finds NoColumn (all_shown columns clauses.shown) shown _ s
               ∙ finds NoColumn (all_placed (in_row columns) clauses.tests) tests _ t
               ∙ gives (matching_named columns others clauses.exists) matching _ m
-              ∙ finds NoColumn (all_placed (in_result clauses.by clauses.shown) clauses.having) having _ h
+              ∙ finds NoColumn (all_placed (in_result clauses.by.columns clauses.shown) clauses.having) having _ h
 
   pub unnamed : (why : Refused) → group_named columns others clauses ≡ Err why → group_plan columns others clauses ≡ Err why
   unnamed why h = stops (group_named columns others clauses) why _ h

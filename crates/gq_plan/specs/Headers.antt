@@ -1,6 +1,7 @@
 -- The header of a `group`.
-use Rattle.std.specs.Prelude.{List, ◌++◌, map, codes}
+use Rattle.std.specs.Prelude.{Bool, true, false, List, [], ◌∷◌, ◌++◌, map, codes}
 use Rattle.gq_command.specs.Commands.{Bytes}
+use Rattle.gq_command.specs.declared.command.By.{By}
 use Rattle.gq_clause.specs.declared.aggregate.Aggregate.{Aggregate}
 use Rattle.gq_clause.specs.declared.aggregate.Aggregate.TheVariants.{CountAll, Count, CountDistinct, Sum, Min, Max}
 
@@ -17,6 +18,11 @@ text_of (Sum name) = called (codes "sum(") name
 text_of (Min name) = called (codes "min(") name
 text_of (Max name) = called (codes "max(") name
 
--- the header: the names of the columns, and then the texts of the aggregates
-abbrev pub group_header : List Bytes → List Aggregate → List Bytes
-group_header by aggregates = by ++ map text_of aggregates
+-- the column of a rollup's levels
+abbrev pub level_header : Bool → List Bytes
+level_header false = []
+level_header true = codes "level" ∷ []
+
+-- the header: the names of the columns, behind that of the level where they are rolled up, and then the texts of the aggregates
+abbrev pub group_header : By → List Aggregate → List Bytes
+group_header by aggregates = level_header by.rollup ++ (by.columns ++ map text_of aggregates)

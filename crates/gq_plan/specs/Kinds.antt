@@ -1,16 +1,16 @@
 -- Which kinds go together.
-use Rattle.std.specs.Prelude.{ℕ, Bool, true, false, List, ◌++◌, map, slice_get, Option, Some, None}
+use Rattle.std.specs.Prelude.{ℕ, Bool, true, false, not, List, ◌++◌, map, slice_get, Option, Some, None}
 use Rattle.std.specs.List.{list_all}
 use Rattle.std.specs.Cmp.Lexicographic.{pointwise}
 use Rattle.gq_row.specs.declared.value.Value.{Value}
 use Rattle.gq_row.specs.declared.value.Value.TheVariants as value
 use Rattle.gq_row.specs.declared.schema.Column.{Column as TableColumn}
 use Rattle.gq_row.specs.declared.schema.Kind.{Kind}
-use Rattle.gq_row.specs.declared.schema.Kind.TheVariants.{Int, Text}
+use Rattle.gq_row.specs.declared.schema.Kind.TheVariants.{Int, Text, NoCase}
 use Rattle.gq_agg.specs.declared.kind.AggKind.TheVariants.{CountAll, Count, Sum, Min, Max}
-use Rattle.gq_query.specs.declared.shown.Shown.{Shown}
-use Rattle.gq_query.specs.declared.shown.Shown.TheVariants.{Aggregate, CountDistinct}
-use Rattle.gq_query.specs.Asking.{kind_at}
+use Rattle.gq_select.specs.declared.shown.Shown.{Shown}
+use Rattle.gq_select.specs.declared.shown.Shown.TheVariants.{Aggregate, CountDistinct}
+use Rattle.gq_select.specs.Asking.{kind_at}
 use Rattle.gq_select.specs.declared.condition.Operand.{Operand}
 use Rattle.gq_select.specs.declared.condition.Operand.TheVariants.{Column, Literal}
 use Rattle.gq_select.specs.declared.condition.Test.{Test}
@@ -19,15 +19,28 @@ use Rattle.gq_select.specs.declared.matching.Matching.{Matching}
 
 abbrev pub same_kind : Kind → Kind → Bool
 same_kind Int Int = true
-same_kind Int Text = false
-same_kind Text Int = false
 same_kind Text Text = true
+same_kind NoCase NoCase = true
+same_kind _ _ = false
+
+-- texts, with case or without
+abbrev pub is_text : Kind → Bool
+is_text Int = false
+is_text Text = true
+is_text NoCase = true
+
+-- numbers are compared with numbers, and texts with texts, whether with case or without
+abbrev pub goes_with : Kind → Kind → Bool
+goes_with Int b = not (is_text b)
+goes_with Text b = is_text b
+goes_with NoCase b = is_text b
 
 -- the kind of a value; null has none
 abbrev pub kind_of : Value → Option Kind
 kind_of value.Null = None
 kind_of (value.Int n) = Some Int
 kind_of (value.Text t) = Some Text
+kind_of (value.NoCase t) = Some NoCase
 
 -- the kind of an operand in rows whose values have these kinds
 abbrev pub operand_kind : List Kind → Operand → Option Kind
@@ -38,7 +51,7 @@ operand_kind kinds (Literal v) = kind_of v
 abbrev pub agrees : Option Kind → Option Kind → Bool
 agrees None b = true
 agrees (Some a) None = true
-agrees (Some a) (Some b) = same_kind a b
+agrees (Some a) (Some b) = goes_with a b
 
 -- what a test compares agrees in kind
 abbrev pub test_fits : List Kind → Test → Bool

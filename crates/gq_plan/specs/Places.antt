@@ -3,9 +3,9 @@ use Rattle.std.specs.Prelude.{◌+◌, Bool, true, false, List, length, map, pos
 use Rattle.gq_row.specs.declared.schema.Column.{Column as TableColumn}
 use Rattle.gq_row.specs.Headings.{position_of}
 use Rattle.gq_agg.specs.declared.kind.AggKind.TheVariants as kind
-use Rattle.gq_query.specs.declared.shown.Shown.{Shown}
-use Rattle.gq_query.specs.declared.shown.Shown.TheVariants as shown
-use Rattle.gq_query.specs.Answers.{all_of}
+use Rattle.gq_select.specs.declared.shown.Shown.{Shown}
+use Rattle.gq_select.specs.declared.shown.Shown.TheVariants as shown
+use Rattle.gq_select.specs.Asking.{all_of}
 use Rattle.gq_select.specs.declared.condition.Operand.{Operand}
 use Rattle.gq_select.specs.declared.condition.Operand.TheVariants.{Column, Literal}
 use Rattle.gq_select.specs.declared.condition.Test.{Test}

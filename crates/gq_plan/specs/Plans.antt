@@ -3,7 +3,7 @@ use Rattle.std.specs.Prelude.{◌<◌, ◌&&◌, Bool, IsTrue, List, length, All
 use Rattle.std.specs.List.{list_all}
 use Rattle.gq_row.specs.declared.schema.Column.{Column}
 use Rattle.gq_row.specs.Headings.{positions_of}
-use Rattle.gq_query.specs.Asking.{CanMatch, can_show}
+use Rattle.gq_select.specs.Asking.{CanMatch, can_show}
 use Rattle.gq_select.specs.declared.matching.Matching.{Matching}
 use Rattle.gq_command.specs.Commands.{Bytes}
 use Rattle.gq_clause.specs.declared.condition.Test.{Test as NamedTest}
@@ -28,12 +28,12 @@ matching_named columns others (Some exists) = do
 -- the positions for the names of a `group`: those behind `having` name the `by` columns and what is shown, all others columns
 abbrev pub group_named : List Column → List Column → GroupClauses → Result GroupPlan Refused
 group_named columns others clauses = do
-  by ← some_or NoColumn (positions_of columns clauses.by)
+  by ← some_or NoColumn (positions_of columns clauses.by.columns)
   shown ← some_or NoColumn (all_shown columns clauses.shown)
   tests ← some_or NoColumn (all_placed (in_row columns) clauses.tests)
   matching ← matching_named columns others clauses.exists
-  having ← some_or NoColumn (all_placed (in_result clauses.by clauses.shown) clauses.having)
-  Ok (record { by = by; shown = shown; condition = record { tests = tests }; matching = matching; having = record { tests = having } })
+  having ← some_or NoColumn (all_placed (in_result clauses.by.columns clauses.shown) clauses.having)
+  Ok (record { by = by; rollup = clauses.by.rollup; shown = shown; condition = record { tests = tests }; matching = matching; having = record { tests = having } })
 
 -- the kinds go together: no texts are summed, and no number is compared with a text
 abbrev pub group_fits : List Column → List Column → GroupPlan → Bool

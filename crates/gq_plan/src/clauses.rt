@@ -1,12 +1,12 @@
 //! What a `group` asks, by names.
 use gq_clause::{Aggregate, Test};
-use gq_command::Exists;
-use gq_row::{Sequence, Text};
+use gq_command::{By, Exists};
+use gq_row::Sequence;
 
 /// The clauses of a `group`, as its line says them.
 #[derive(Drop)]
 pub struct GroupClauses {
-    pub by: Sequence<Text>,
+    pub by: By,
     pub shown: Sequence<Aggregate>,
     pub tests: Sequence<Test>,
     pub exists: Option<Exists>,

@@ -2,7 +2,7 @@
 ghost use Rattle.std.specs.Prelude.{◌≡◌, ◌⊎◌, ◌<◌, All, length, Ok, Err, IfOk, IfErr};
 ghost use Rattle.gq_reply.specs.Refusals.{unnumbered};
 ghost use Rattle.gq_reply.specs.declared.refusal.Refusal.TheVariants.{Memory};
-ghost use Rattle.gq_query.specs.Asking.{CanMatch};
+ghost use Rattle.gq_select.specs.Asking.{CanMatch};
 ghost use Rattle.gq_plan.specs.Plans.{IsWithin, group_fits, group_named, group_plan};
 
 use crate::clauses::GroupClauses;
@@ -59,14 +59,17 @@ fn find_group(
 {
     let columns = schema.columns();
     let rows = Scope::Rows(schema);
-    let groups = Scope::Groups(clauses.by.as_slice(), clauses.shown.as_slice());
-    let by = find_positions(alloc, columns, clauses.by.as_slice())?.ok_or(Refusal::NoColumn)?;
+    let groups = Scope::Groups(clauses.by.columns.as_slice(), clauses.shown.as_slice());
+    let by = find_positions(alloc, columns, clauses.by.columns.as_slice())?.ok_or(
+        Refusal::NoColumn,
+    )?;
     let shown = find_shown(alloc, schema, clauses.shown.as_slice())?.ok_or(Refusal::NoColumn)?;
     let tests = place_tests(alloc, &rows, clauses.tests.as_slice())?.ok_or(Refusal::NoColumn)?;
     let matching = find_matching(alloc, columns, others, &clauses.exists)?;
     let having = place_tests(alloc, &groups, clauses.having.as_slice())?.ok_or(Refusal::NoColumn)?;
     Ok(GroupPlan {
         by,
+        rollup: clauses.by.rollup,
         shown,
         condition: Condition { tests },
         matching,

@@ -4,6 +4,7 @@ ghost use Rattle.gq_command.specs.Commands.{column_names};
 ghost use Rattle.gq_plan.specs.Headers.{called, group_header, text_of};
 
 use gq_clause::Aggregate;
+use gq_command::By;
 use gq_row::{Column, Sequence, Text};
 use std::alloc::{AllocError, Global};
 
@@ -18,15 +19,19 @@ pub fn names_of(alloc: Global, columns: &[Column]) -> Result<Sequence<Text>, All
     Ok(Sequence::new(names))
 }
 
-/// The names of the `by` columns, and then the texts of the aggregates.
+/// The names of the `by` columns, behind `level` where they are rolled up, and then the texts of the
+/// aggregates.
 pub fn header_of(
     alloc: Global,
-    by: Sequence<Text>,
+    by: By,
     aggregates: &[Aggregate],
 ) -> Result<Sequence<Text>, AllocError>
     ensures { IfOk result (λ header. header ≡ group_header by aggregates.now) }
 {
-    let mut names = by.into_vec();
+    let mut names = by.columns.into_vec();
+    if by.rollup {
+        names.insert(0, Text::new(String::from_str(alloc, "level")?))?;
+    }
     for aggregate in aggregates {
         names.push(text_of(alloc, aggregate)?)?;
     }

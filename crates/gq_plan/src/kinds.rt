@@ -2,13 +2,12 @@
 ghost use Rattle.std.specs.Prelude.{◌≡◌, IfOk, map};
 ghost use Rattle.std.specs.Cmp.Lexicographic.{pointwise};
 ghost use Rattle.std.specs.List.{list_all};
-ghost use Rattle.gq_query.specs.Asking.{can_show, kind_at};
-ghost use Rattle.gq_plan.specs.Kinds.{agrees, kind_of, kinds_of, matching_fits, operand_kind, result_kinds, same_kind, shown_kind, test_fits, tests_fit};
+ghost use Rattle.gq_select.specs.Asking.{can_show, kind_at};
+ghost use Rattle.gq_plan.specs.Kinds.{agrees, goes_with, is_text, kind_of, kinds_of, matching_fits, operand_kind, result_kinds, same_kind, shown_kind, test_fits, tests_fit};
 
 use gq_agg::AggKind;
-use gq_query::Shown;
 use gq_row::{Column, Kind, Value};
-use gq_select::{Matching, Operand, Test};
+use gq_select::{Matching, Operand, Shown, Test};
 use std::alloc::{AllocError, Global};
 
 /// Whether each of them can be had of rows that fit these columns.
@@ -110,6 +109,7 @@ fn kind_of(value: &Value) -> Option<Kind>
         Value::Null => None,
         Value::Int(_) => Some(Kind::Int),
         Value::Text(_) => Some(Kind::Text),
+        Value::NoCase(_) => Some(Kind::NoCase),
     }
 }
 
@@ -118,9 +118,22 @@ fn agree(one: Option<Kind>, other: Option<Kind>) -> bool
     ensures { result ≡ agrees one other }
 {
     match (one, other) {
-        (Some(one), Some(other)) => is_same(one, other),
+        (Some(one), Some(other)) => goes_with(one, other),
         _ => true,
     }
+}
+
+// Texts without case go with texts.
+fn goes_with(one: Kind, other: Kind) -> bool
+    ensures { result ≡ goes_with one other }
+{
+    is_text(one) == is_text(other)
+}
+
+fn is_text(kind: Kind) -> bool
+    ensures { result ≡ is_text kind }
+{
+    matches!(kind, Kind::Text | Kind::NoCase)
 }
 
 fn is_same(one: Kind, other: Kind) -> bool

@@ -6,8 +6,9 @@
 //!   columns, and then the aggregates shown. [`plan_distinct`] does it for a `distinct`.
 //! - The plan is refused with `NoColumn` where a name is none of these, and else with
 //!   `TypeMismatch` where kinds don't go together: a sum of texts, a comparison of a number with a
-//!   text, an `exists` over columns of different kinds. No row is looked at for that, so a query of
-//!   an empty table is refused as well.
+//!   text, an `exists` over columns of different kinds. Texts without case are compared with texts;
+//!   an `exists` wants both of one kind. No row is looked at for that, so a query of an empty table
+//!   is refused as well.
 //! - [`header_of`] and [`names_of`] are the headers of replies.
 //!
 //! ```text

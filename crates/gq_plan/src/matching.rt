@@ -2,7 +2,7 @@
 ghost use Rattle.std.specs.Prelude.{◌≡◌, ◌⊎◌, Ok, Err, IfOk, IfErr};
 ghost use Rattle.gq_reply.specs.Refusals.{unnumbered};
 ghost use Rattle.gq_reply.specs.declared.refusal.Refusal.TheVariants.{Memory};
-ghost use Rattle.gq_query.specs.Asking.{CanMatch};
+ghost use Rattle.gq_select.specs.Asking.{CanMatch};
 ghost use Rattle.gq_plan.specs.Plans.{matching_named};
 
 use gq_command::Exists;

@@ -4,8 +4,8 @@ ghost use Rattle.gq_plan.specs.Places.{all_shown, shown_of};
 
 use gq_agg::AggKind;
 use gq_clause::Aggregate;
-use gq_query::Shown;
 use gq_row::{Schema, Sequence};
+use gq_select::Shown;
 use std::alloc::{AllocError, Global};
 
 /// What the aggregates are of the columns: None where a name is no column's.

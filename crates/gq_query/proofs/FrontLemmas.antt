@@ -1,6 +1,7 @@
--- Fronts come in the order of the values.
-use Rattle.std.proofs.Common.{◌≡◌, ℕ, ℤ, zero, suc, ◌+◌, ◌*◌, ◌^◌, ◌<◌, ◌≤◌, List, [], ◌∷◌, drop, get_or, Ordering, Less, Equal, Greater, refl, sym, ap, ◌∙◌, arith}
+-- Fronts come in the order of the values' folds, which decides first.
+use Rattle.std.proofs.Common.{◌≡◌, ℕ, ℤ, zero, suc, ◌+◌, ◌*◌, ◌^◌, ◌<◌, ◌≤◌, List, [], ◌∷◌, drop, get_or, slice_index_or, Ordering, Less, Equal, Greater, refl, sym, ap, subst, ◌∙◌, arith}
 use Rattle.std.specs.Prelude.{negsuc, ◌-ℤ◌, ◌-◌, unsigned_abs, FitsSigned, ◌<ℤ◌}
+use Rattle.std.specs.Char.{to_ascii_lowercase}
 use Rattle.std.specs.Int.{w64}
 use Rattle.std.specs.Ordering.{nat_cmp, int_cmp, ordering_then}
 use Rattle.std.specs.Cmp.Lexicographic.{slice_cmp}
@@ -9,11 +10,14 @@ use Rattle.std.proofs.lemmas.Bool.Decides.{nat_tests}
 use Rattle.std.proofs.Math.Nat.{mul-le-mul_right, add-mul, pow-suc, one-le-pow}
 use Rattle.std.proofs.lemmas.Int.{ints}
 use Rattle.gq_row.specs.declared.value.Value.{Value}
-use Rattle.gq_row.specs.declared.value.Value.TheVariants.{Null, Int, Text}
-use Rattle.gq_row.specs.Order.{compare_values, compare_keys}
+use Rattle.gq_row.specs.declared.value.Value.TheVariants.{Null, Int, Text, NoCase}
+use Rattle.gq_row.specs.Folding.{fold_case, folded}
+use Rattle.gq_row.specs.Order.{folded_order, plain_order, compare_keys}
 use Rattle.gq_row.specs.Rows.{cell}
+use Rattle.gq_row.proofs.FoldLemmas.{folds_once, then_same}
 use Rattle.gq_query.specs.declared.front.Front.{Front}
-use Rattle.gq_query.specs.Fronts.{leading, front_of, IsOfBytes, IsFrontOf}
+use Rattle.gq_query.specs.Answers.{ordered_by}
+use Rattle.gq_query.specs.Fronts.{leading, front_of, IsOfBytes, IsValueFront, IsFrontOf}
 
 -- the order of fronts, as that of numbers of sixteen bytes
 abbrev pub compare_fronts : Front → Front → Ordering
@@ -111,7 +115,7 @@ dropped_bytes zero text bytes = bytes
 dropped_bytes (suc n) [] bytes = bytes
 dropped_bytes (suc n) (b ∷ text) bytes = dropped_bytes n text (tail_bytes b text bytes)
 
--- ---- values and keys
+-- ---- fronts of values
 
 abbrev from_least : ℤ → ℕ
 from_least n = unsigned_abs (n -ℤ negsuc (2 ^ 63 - 1))
@@ -122,37 +126,86 @@ numbers m n p q = by_ranked (m <ℤ n) (m ≡ n) (n <ℤ m) (int_cmp m n) (int_r
     (λ e eq. same (from_least m) (from_least n) (ap from_least eq) ∙ sym e)
     (λ e gt. greater (from_least m) (from_least n) (omega (arith, ints, gt)) ∙ sym e)
 
-texts : (s t : List ℕ) → AreBytes s → AreBytes t → compare_fronts (front_of (Text s)) (front_of (Text t)) ≡ nat_cmp (leading 15 s) (leading 15 t)
-texts s t p q =
+-- the fronts of two texts behind one tag, as numbers of fifteen bytes
+texts : (tag : ℕ) (s t : List ℕ) → AreBytes s → AreBytes t
+    → ordering_then (nat_cmp (tag * 2 ^ 56 + leading 7 s) (tag * 2 ^ 56 + leading 7 t)) (nat_cmp (leading 8 (drop 7 s)) (leading 8 (drop 7 t))) ≡ nat_cmp (leading 15 s) (leading 15 t)
+texts tag s t p q =
     let small_s : leading 8 (drop 7 s) < 256 ^ 8 = leading_small 8 (drop 7 s) (dropped_bytes 7 s p) in
     let small_t : leading 8 (drop 7 t) < 256 ^ 8 = leading_small 8 (drop 7 t) (dropped_bytes 7 t q) in
-    ap (λ o. ordering_then o (nat_cmp (leading 8 (drop 7 s)) (leading 8 (drop 7 t)))) (shifted (2 * 2 ^ 56) (leading 7 s) (leading 7 t))
+    ap (λ o. ordering_then o (nat_cmp (leading 8 (drop 7 s)) (leading 8 (drop 7 t)))) (shifted (tag * 2 ^ 56) (leading 7 s) (leading 7 t))
     ∙ sym (digits (256 ^ 8) (leading 7 s) (leading 7 t) (leading 8 (drop 7 s)) (leading 8 (drop 7 t)) small_s small_t)
     ∙ ap (λ x. nat_cmp x (leading 7 t * 256 ^ 8 + leading 8 (drop 7 t))) (sym (leading_split s))
     ∙ ap (nat_cmp (leading 15 s)) (sym (leading_split t))
 
-itself : (o : Ordering) → ordering_then o o ≡ o
-itself Less = refl
-itself Equal = refl
-itself Greater = refl
+-- so they come before the order of the texts
+texts_first : (tag : ℕ) (s t : List ℕ) → AreBytes s → AreBytes t
+    → ordering_then (ordering_then (nat_cmp (tag * 2 ^ 56 + leading 7 s) (tag * 2 ^ 56 + leading 7 t)) (nat_cmp (leading 8 (drop 7 s)) (leading 8 (drop 7 t)))) (slice_cmp nat_cmp s t) ≡ slice_cmp nat_cmp s t
+texts_first tag s t p q = ap (λ o. ordering_then o (slice_cmp nat_cmp s t)) (texts tag s t p q) ∙ leading_first 15 s t p q
 
-text_above : (k : ℕ) (text : List ℕ) → k < 2 * 2 ^ 56 → nat_cmp k (2 * 2 ^ 56 + leading 7 text) ≡ Less
-text_above k text lt = less k (2 * 2 ^ 56 + leading 7 text) (omega (arith, lt))
+text_above : (tag k : ℕ) (text : List ℕ) → k < tag * 2 ^ 56 → nat_cmp k (tag * 2 ^ 56 + leading 7 text) ≡ Less
+text_above tag k text lt = less k (tag * 2 ^ 56 + leading 7 text) (omega (arith, lt))
 
-above_text : (k : ℕ) (text : List ℕ) → k < 2 * 2 ^ 56 → nat_cmp (2 * 2 ^ 56 + leading 7 text) k ≡ Greater
-above_text k text lt = greater (2 * 2 ^ 56 + leading 7 text) k (omega (arith, lt))
+above_text : (tag k : ℕ) (text : List ℕ) → k < tag * 2 ^ 56 → nat_cmp (tag * 2 ^ 56 + leading 7 text) k ≡ Greater
+above_text tag k text lt = greater (tag * 2 ^ 56 + leading 7 text) k (omega (arith, lt))
 
--- Values are compared by their fronts first, and wherever these tie by themselves.
-by_fronts : (x y : Value) → IsOfBytes x → IsOfBytes y → ordering_then (compare_fronts (front_of x) (front_of y)) (compare_values x y) ≡ compare_values x y
+-- each front of a text is below each of a text without case
+text_below : (text : List ℕ) → AreBytes text → 2 * 2 ^ 56 + leading 7 text < 3 * 2 ^ 56
+text_below text bytes = let small : leading 7 text < 256 ^ 7 = leading_small 7 text bytes in omega (arith, small)
+
+-- ---- folds
+
+lower_byte : (c : ℕ) → c < 256 → to_ascii_lowercase c < 256
+lower_byte c lt = grind (arith, nat_tests)
+
+folded_byte : (text : List ℕ) (i : ℕ) → get_or (fold_case text) i 0 ≡ to_ascii_lowercase (get_or text i 0)
+folded_byte [] i = refl
+folded_byte (c ∷ text) zero = refl
+folded_byte (c ∷ text) (suc i) = folded_byte text i
+
+folded_bytes : (text : List ℕ) → AreBytes text → AreBytes (fold_case text)
+folded_bytes text bytes i = subst (λ b. b < 256) (sym (folded_byte text i)) (lower_byte (get_or text i 0) (bytes i))
+
+front_folded : (v : Value) → front_of (folded v) ≡ front_of v
+front_folded Null = refl
+front_folded (Int n) = refl
+front_folded (Text t) = refl
+front_folded (NoCase t) = ap (λ text. record { high = 3 * 2 ^ 56 + leading 7 text; low = leading 8 (drop 7 text) }) (folds_once t)
+
+bytes_folded : (v : Value) → IsOfBytes v → IsOfBytes (folded v)
+bytes_folded Null h = h
+bytes_folded (Int n) h = h
+bytes_folded (Text t) h = h
+bytes_folded (NoCase t) h = folded_bytes t h
+
+-- the front of a value is that of its fold, so that of a row's first value is that of its key
+pub first_front : (columns : List ℕ) (row : List Value) (column : ℕ) (v : Value) (f : Front) → column ≡ slice_index_or columns 0 0 → v ≡ cell row column → IsValueFront v f → IsFrontOf (ordered_by columns row) f
+first_front [] row column v f at is h = subst (λ w. IsValueFront w f) (is ∙ ap (cell row) at) h
+first_front (c ∷ columns) row column v f at is h =
+    let front : IsValueFront (cell row c) f = subst (λ w. IsValueFront w f) (is ∙ ap (cell row) at) h in
+    (front.0 ∙ sym (front_folded (cell row c)), bytes_folded (cell row c) front.1)
+
+-- ---- values and keys
+
+-- Values are compared by their fronts first, and where these tie by their folds.
+by_fronts : (x y : Value) → IsOfBytes x → IsOfBytes y → ordering_then (compare_fronts (front_of x) (front_of y)) (folded_order x y) ≡ folded_order x y
 by_fronts Null Null p q = refl
 by_fronts Null (Int n) p q = refl
-by_fronts Null (Text t) p q = ap (λ o. ordering_then (ordering_then o (nat_cmp 0 (leading 8 (drop 7 t)))) Less) (text_above 0 t (omega arith))
+by_fronts Null (Text t) p q = ap (λ o. ordering_then (ordering_then o (nat_cmp 0 (leading 8 (drop 7 t)))) Less) (text_above 2 0 t (omega arith))
+by_fronts Null (NoCase t) p q = ap (λ o. ordering_then (ordering_then o (nat_cmp 0 (leading 8 (drop 7 (fold_case t))))) Less) (text_above 3 0 (fold_case t) (omega arith))
 by_fronts (Int m) Null p q = refl
-by_fronts (Int m) (Int n) p q = ap (λ o. ordering_then o (int_cmp m n)) (numbers m n p q) ∙ itself (int_cmp m n)
-by_fronts (Int m) (Text t) p q = ap (λ o. ordering_then (ordering_then o (nat_cmp (from_least m) (leading 8 (drop 7 t)))) Less) (text_above (2 ^ 56) t (omega arith))
-by_fronts (Text s) Null p q = ap (λ o. ordering_then (ordering_then o (nat_cmp (leading 8 (drop 7 s)) 0)) Greater) (above_text 0 s (omega arith))
-by_fronts (Text s) (Int n) p q = ap (λ o. ordering_then (ordering_then o (nat_cmp (leading 8 (drop 7 s)) (from_least n))) Greater) (above_text (2 ^ 56) s (omega arith))
-by_fronts (Text s) (Text t) p q = ap (λ o. ordering_then o (slice_cmp nat_cmp s t)) (texts s t p q) ∙ leading_first 15 s t p q
+by_fronts (Int m) (Int n) p q = ap (λ o. ordering_then o (int_cmp m n)) (numbers m n p q) ∙ then_same (int_cmp m n)
+by_fronts (Int m) (Text t) p q = ap (λ o. ordering_then (ordering_then o (nat_cmp (from_least m) (leading 8 (drop 7 t)))) Less) (text_above 2 (2 ^ 56) t (omega arith))
+by_fronts (Int m) (NoCase t) p q = ap (λ o. ordering_then (ordering_then o (nat_cmp (from_least m) (leading 8 (drop 7 (fold_case t))))) Less) (text_above 3 (2 ^ 56) (fold_case t) (omega arith))
+by_fronts (Text s) Null p q = ap (λ o. ordering_then (ordering_then o (nat_cmp (leading 8 (drop 7 s)) 0)) Greater) (above_text 2 0 s (omega arith))
+by_fronts (Text s) (Int n) p q = ap (λ o. ordering_then (ordering_then o (nat_cmp (leading 8 (drop 7 s)) (from_least n))) Greater) (above_text 2 (2 ^ 56) s (omega arith))
+by_fronts (Text s) (Text t) p q = texts_first 2 s t p q
+by_fronts (Text s) (NoCase t) p q =
+    ap (λ o. ordering_then (ordering_then o (nat_cmp (leading 8 (drop 7 s)) (leading 8 (drop 7 (fold_case t))))) Less) (text_above 3 (2 * 2 ^ 56 + leading 7 s) (fold_case t) (text_below s p))
+by_fronts (NoCase s) Null p q = ap (λ o. ordering_then (ordering_then o (nat_cmp (leading 8 (drop 7 (fold_case s))) 0)) Greater) (above_text 3 0 (fold_case s) (omega arith))
+by_fronts (NoCase s) (Int n) p q = ap (λ o. ordering_then (ordering_then o (nat_cmp (leading 8 (drop 7 (fold_case s))) (from_least n))) Greater) (above_text 3 (2 ^ 56) (fold_case s) (omega arith))
+by_fronts (NoCase s) (Text t) p q =
+    ap (λ o. ordering_then (ordering_then o (nat_cmp (leading 8 (drop 7 (fold_case s))) (leading 8 (drop 7 t)))) Greater) (above_text 3 (2 * 2 ^ 56 + leading 7 t) (fold_case s) (text_below t q))
+by_fronts (NoCase s) (NoCase t) p q = texts_first 3 (fold_case s) (fold_case t) (folded_bytes s p) (folded_bytes t q)
 
 grouped : (a b c : Ordering) → ordering_then a b ≡ b → ordering_then a (ordering_then b c) ≡ ordering_then b c
 grouped Less Less c h = refl
@@ -163,27 +216,33 @@ grouped Greater Less c h = cc h
 grouped Greater Equal c h = cc h
 grouped Greater Greater c h = refl
 
-null_first : (y : Value) (o : Ordering) → ordering_then o (compare_values Null y) ≡ compare_values Null y → ordering_then o Less ≡ Less
+null_first : (y : Value) (o : Ordering) → ordering_then o (folded_order Null y) ≡ folded_order Null y → ordering_then o Less ≡ Less
 null_first Null Less h = refl
 null_first Null Equal h = refl
 null_first Null Greater h = cc h
 null_first (Int n) o h = h
 null_first (Text t) o h = h
+null_first (NoCase t) o h = h
 
-null_last : (x : Value) (o : Ordering) → ordering_then o (compare_values x Null) ≡ compare_values x Null → ordering_then o Greater ≡ Greater
+null_last : (x : Value) (o : Ordering) → ordering_then o (folded_order x Null) ≡ folded_order x Null → ordering_then o Greater ≡ Greater
 null_last Null Less h = cc h
 null_last Null Equal h = refl
 null_last Null Greater h = refl
 null_last (Int n) o h = h
 null_last (Text t) o h = h
+null_last (NoCase t) o h = h
 
 -- So are keys, by the fronts of their first values.
+folds_by_fronts : (xs ys : List Value) → IsOfBytes (cell xs 0) → IsOfBytes (cell ys 0)
+    → ordering_then (compare_fronts (front_of (cell xs 0)) (front_of (cell ys 0))) (slice_cmp folded_order xs ys) ≡ slice_cmp folded_order xs ys
+folds_by_fronts [] [] p q = refl
+folds_by_fronts [] (y ∷ ys) p q = null_first y (compare_fronts (front_of Null) (front_of y)) (by_fronts Null y p q)
+folds_by_fronts (x ∷ xs) [] p q = null_last x (compare_fronts (front_of x) (front_of Null)) (by_fronts x Null p q)
+folds_by_fronts (x ∷ xs) (y ∷ ys) p q = grouped (compare_fronts (front_of x) (front_of y)) (folded_order x y) (slice_cmp folded_order xs ys) (by_fronts x y p q)
+
 keys_by_fronts : (xs ys : List Value) → IsOfBytes (cell xs 0) → IsOfBytes (cell ys 0)
     → ordering_then (compare_fronts (front_of (cell xs 0)) (front_of (cell ys 0))) (compare_keys xs ys) ≡ compare_keys xs ys
-keys_by_fronts [] [] p q = refl
-keys_by_fronts [] (y ∷ ys) p q = null_first y (compare_fronts (front_of Null) (front_of y)) (by_fronts Null y p q)
-keys_by_fronts (x ∷ xs) [] p q = null_last x (compare_fronts (front_of x) (front_of Null)) (by_fronts x Null p q)
-keys_by_fronts (x ∷ xs) (y ∷ ys) p q = grouped (compare_fronts (front_of x) (front_of y)) (compare_values x y) (compare_keys xs ys) (by_fronts x y p q)
+keys_by_fronts xs ys p q = grouped (compare_fronts (front_of (cell xs 0)) (front_of (cell ys 0))) (slice_cmp folded_order xs ys) (slice_cmp plain_order xs ys) (folds_by_fronts xs ys p q)
 
 decided : (r k : Ordering) → (r ≡ Equal → ⊥) → ordering_then r k ≡ k → r ≡ k
 decided Less k not h = h

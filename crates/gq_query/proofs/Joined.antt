@@ -18,23 +18,24 @@ use Rattle.gq_row.specs.declared.schema.Column.{Column}
 use Rattle.gq_agg.specs.declared.kind.AggKind.{AggKind}
 use Rattle.gq_agg.specs.Aggregates.{aggregate}
 use Rattle.gq_group.specs.Groups.{Group, Spec, keys_of, column_of, group_of, answers, answered, groups, is_none, out_of_range}
-use Rattle.gq_query.specs.declared.shown.Shown.{Shown}
-use Rattle.gq_query.specs.declared.shown.Shown.TheVariants.{Aggregate, CountDistinct}
-use Rattle.gq_query.specs.Answers.{shown_value, all_of, result_row, answer, distinct_keys}
-use Rattle.gq_query.specs.Asking.{can_take, can_show}
+use Rattle.gq_select.specs.declared.shown.Shown.{Shown}
+use Rattle.gq_select.specs.declared.shown.Shown.TheVariants.{Aggregate, CountDistinct}
+use Rattle.gq_query.specs.Answers.{shown_value}
+use Rattle.gq_select.specs.Asking.{all_of}
+use Rattle.gq_select.specs.Asking.{can_take, can_show}
 use Rattle.gq_query.specs.Cells.{aggs_of}
 use Rattle.gq_group.specs.Distinct.{distinct_group, distinct_groups}
-use Rattle.gq_query.specs.Joining.{shown_of, AreShown, aggregates_of, so_far, first_of, joined, row_of}
+use Rattle.gq_query.specs.Joining.{shown_of, AreShown, aggregates_of, so_far, first_of, joined, row_of, folded_row, folded_answer, folded_keys}
 use Rattle.gq_select.specs.Distinct.{bare_keys}
 use Rattle.gq_query.proofs.Unseen.{different_told, keys_told}
 
 abbrev Told : Type 0
 Told = List Value × List (Option Value)
 
-cons_head : {X : Type 0} (x y : X) (xs ys : List X) → x ∷ xs ≡ y ∷ ys → x ≡ y
+pub cons_head : {X : Type 0} (x y : X) (xs ys : List X) → x ∷ xs ≡ y ∷ ys → x ≡ y
 cons_head x y xs ys h = cc
 
-cons_tail : {X : Type 0} (x y : X) (xs ys : List X) → x ∷ xs ≡ y ∷ ys → xs ≡ ys
+pub cons_tail : {X : Type 0} (x y : X) (xs ys : List X) → x ∷ xs ≡ y ∷ ys → xs ≡ ys
 cons_tail x y xs ys h = cc
 
 -- ---- sorted by their keys
@@ -213,11 +214,11 @@ insert_within values place n v is past = subst (λ m. insert values m v ≡ inse
 
 -- ---- the answer
 
-all_some : (values : List Value) → all_of (map Some values) ≡ Some values
+pub all_some : (values : List Value) → all_of (map Some values) ≡ Some values
 all_some [] = refl
 all_some (v ∷ values) = ap (option_map (λ vs. v ∷ vs)) (all_some values)
 
-pub answered_rows : (by : List ℕ) (shown : List Shown) (rows ks : List (List Value)) (gs : List Group) → map answered gs ≡ map (shown_of by shown rows) ks → all_of (map (result_row by shown rows) ks) ≡ Some (map row_of gs)
+pub answered_rows : (by : List ℕ) (shown : List Shown) (rows ks : List (List Value)) (gs : List Group) → map answered gs ≡ map (shown_of by shown rows) ks → all_of (map (folded_row by shown rows) ks) ≡ Some (map row_of gs)
 answered_rows by shown rows [] [] h = refl
 answered_rows by shown rows [] (g ∷ gs) h = let none : ⊥ = cc in absurd none
 answered_rows by shown rows (k ∷ ks) [] h = let none : ⊥ = cc in absurd none
@@ -225,10 +226,10 @@ answered_rows by shown rows (k ∷ ks) (g ∷ gs) h =
     let group : answered g ≡ shown_of by shown rows k = cons_head (answered g) (shown_of by shown rows k) (map answered gs) (map (shown_of by shown rows) ks) h in
     let rest = answered_rows by shown rows ks gs (cons_tail (answered g) (shown_of by shown rows k) (map answered gs) (map (shown_of by shown rows) ks) h) in
     let values : all_of (map (λ s. shown_value s (of_key by rows k)) shown) ≡ Some g.1 = ap all_of (sym (ap (λ (p : Told). p.1) group)) ∙ all_some g.1 in
-    let row : result_row by shown rows k ≡ Some (row_of g) = ap (option_map (λ vs. k ++ vs)) values ∙ ap (λ key. Some (key ++ g.1)) (sym (ap (λ (p : Told). p.0) group)) in
+    let row : folded_row by shown rows k ≡ Some (row_of g) = ap (option_map (λ vs. k ++ vs)) values ∙ ap (λ key. Some (key ++ g.1)) (sym (ap (λ (p : Told). p.0) group)) in
     λ i. option_and_then (λ x. option_map (λ xs. x ∷ xs) (rest i)) (row i)
 
-pub shown_answer : (by : List ℕ) (shown : List Shown) (rows : List (List Value)) (gs : List Group) → AreShown by shown rows gs → answer by shown rows ≡ Some (map row_of gs)
+pub shown_answer : (by : List ℕ) (shown : List Shown) (rows : List (List Value)) (gs : List Group) → AreShown by shown rows gs → folded_answer by shown rows ≡ Some (map row_of gs)
 shown_answer by shown rows gs h = answered_rows by shown rows (in_order (λ key. key) (keys_of by rows)) gs h
 
 -- ---- sums that are out of range
@@ -237,7 +238,7 @@ after_none : {X Y : Type 0} (f : X → Option Y) (o : Option X) → ((x : X) →
 after_none f None h = refl
 after_none f (Some x) h = h x
 
-rest_none : {X : Type 0} (o : Option X) (os : List (Option X)) → all_of os ≡ None → all_of (o ∷ os) ≡ None
+pub rest_none : {X : Type 0} (o : Option X) (os : List (Option X)) → all_of os ≡ None → all_of (o ∷ os) ≡ None
 rest_none o os h = after_none (λ x. option_map (λ xs. x ∷ xs) (all_of os)) o (λ x. ap (option_map (λ xs. x ∷ xs)) h)
 
 values_none : (shown : List Shown) (rows : List (List Value)) → list_any is_none (answers (aggs_of shown) rows) ≡ true → all_of (map (λ s. shown_value s rows) shown) ≡ None
@@ -251,18 +252,18 @@ values_none (Aggregate k c ∷ shown) rows h = told (aggregate k (column_of c ro
 values_none (CountDistinct c ∷ shown) rows h = rest_none (shown_value (CountDistinct c) rows) (map (λ s. shown_value s rows) shown) (values_none shown rows h)
 
 rows_none : (by : List ℕ) (shown : List Shown) (rows ks : List (List Value)) → list_any (λ (g : Told). list_any is_none g.1) (map (group_of (record { by = by; aggs = aggs_of shown }) rows) ks) ≡ true
-    → all_of (map (result_row by shown rows) ks) ≡ None
+    → all_of (map (folded_row by shown rows) ks) ≡ None
 rows_none by shown rows [] h = absurd (false≢true h)
 rows_none by shown rows (k ∷ ks) h = told (list_any is_none (answers (aggs_of shown) (of_key by rows k))) refl h (rows_none by shown rows ks)
   where
     told : (b : Bool) → list_any is_none (answers (aggs_of shown) (of_key by rows k)) ≡ b
         → (b || list_any (λ (g : Told). list_any is_none g.1) (map (group_of (record { by = by; aggs = aggs_of shown }) rows) ks)) ≡ true
-        → (list_any (λ (g : Told). list_any is_none g.1) (map (group_of (record { by = by; aggs = aggs_of shown }) rows) ks) ≡ true → all_of (map (result_row by shown rows) ks) ≡ None)
-        → all_of (map (result_row by shown rows) (k ∷ ks)) ≡ None
-    told true e t later = ap (option_and_then (λ x. option_map (λ xs. x ∷ xs) (all_of (map (result_row by shown rows) ks)))) (ap (option_map (λ vs. k ++ vs)) (values_none shown (of_key by rows k) e))
-    told false e t later = rest_none (result_row by shown rows k) (map (result_row by shown rows) ks) (later t)
+        → (list_any (λ (g : Told). list_any is_none g.1) (map (group_of (record { by = by; aggs = aggs_of shown }) rows) ks) ≡ true → all_of (map (folded_row by shown rows) ks) ≡ None)
+        → all_of (map (folded_row by shown rows) (k ∷ ks)) ≡ None
+    told true e t later = ap (option_and_then (λ x. option_map (λ xs. x ∷ xs) (all_of (map (folded_row by shown rows) ks)))) (ap (option_map (λ vs. k ++ vs)) (values_none shown (of_key by rows k) e))
+    told false e t later = rest_none (folded_row by shown rows k) (map (folded_row by shown rows) ks) (later t)
 
-pub no_answer : (by : List ℕ) (shown : List Shown) (rows : List (List Value)) → out_of_range (record { by = by; aggs = aggs_of shown }) rows ≡ true → answer by shown rows ≡ None
+pub no_answer : (by : List ℕ) (shown : List Shown) (rows : List (List Value)) → out_of_range (record { by = by; aggs = aggs_of shown }) rows ≡ true → folded_answer by shown rows ≡ None
 no_answer by shown rows h =
     let spec : Spec = record { by = by; aggs = aggs_of shown } in
     rows_none by shown rows (in_order (λ key. key) (keys_of by rows))
@@ -297,7 +298,7 @@ no_values : (values : List Value) → map Some values ≡ [] → values ≡ []
 no_values [] h = refl
 no_values (v ∷ values) h = let none : ⊥ = cc in absurd none
 
-nothing_behind : (values : List Value) → values ++ [] ≡ values
+pub nothing_behind : (values : List Value) → values ++ [] ≡ values
 nothing_behind [] = refl
 nothing_behind (v ∷ values) = ap (λ l. v ∷ l) (nothing_behind values)
 
@@ -317,7 +318,7 @@ bare_answered (k ∷ ks) = ap (λ l. (k, []) ∷ l) (bare_answered ks)
 
 -- the rows of sorted keys are the different keys in their order
 pub distinct_shown : (on : List ℕ) (rows : List (List Value)) (out sorted : List Group) → IsPermutation (bare_keys on rows) out
-    → IsPermutation out sorted → IsSortedByKey (λ (g : Group). g.0) compare_keys sorted → map row_of sorted ≡ distinct_keys on rows
+    → IsPermutation out sorted → IsSortedByKey (λ (g : Group). g.0) compare_keys sorted → map row_of sorted ≡ folded_keys on rows
 distinct_shown on rows out sorted found moved up =
     bare_rows (in_order (λ key. key) (keys on rows)) sorted
     (sorted_told (λ k. []) (keys on rows) out sorted (different_told on rows)

@@ -14,7 +14,7 @@ use Rattle.gq_select.specs.declared.matching.Matching.{Matching}
 use Rattle.gq_select.specs.KeySets.{AreKeysOf}
 use Rattle.gq_select.specs.Truths.{keeps}
 use Rattle.gq_query.specs.Answers.{has_match, rows_kept}
-use Rattle.gq_query.specs.Asking.{CanMatch}
+use Rattle.gq_select.specs.Asking.{CanMatch}
 use Rattle.gq_query.specs.Keeping.{AreLong, is_found, ours_of}
 use Rattle.gq_query.proofs.Placing.{rows_ready}
 

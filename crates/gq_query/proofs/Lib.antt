@@ -4,4 +4,6 @@ pub mod Joined
 pub mod KeepingLemmas
 pub mod OrderingLemmas
 pub mod Placing
+pub mod RollupLemmas
+pub mod SpellingLemmas
 pub mod Unseen

@@ -1,23 +1,37 @@
 -- Rows compared and sorted.
-use Rattle.std.proofs.Common.{◌≡◌, ℕ, List, [], ◌∷◌, ap, Ordering, IsTrue}
+use Rattle.std.proofs.Common.{◌≡◌, ℕ, List, [], ◌∷◌, refl, ap, ap₂, ◌∙◌, Ordering, IsTrue}
 use Rattle.std.specs.Prelude.{Result, Ok, Err, OnOk}
 use Rattle.std.specs.List.Sorted.{IsSortedByKey, IsSortedByClosure}
 use Rattle.std.specs.Fn.{Called}
-use Rattle.std.specs.Ordering.{is_lt}
+use Rattle.std.specs.Ordering.{is_lt, ordering_then}
+use Rattle.std.specs.Cmp.Lexicographic.{slice_cmp}
 use denote.Param.Members.{Mut}
 use denote.Ref.{Bor}
 use Rattle.std.proofs.lemmas.List.Sorted.{ranks_by}
 use Rattle.std.proofs.lemmas.Fn.{always_returns_same}
 use Rattle.gq_row.specs.declared.value.Value.{Value}
 use Rattle.gq_row.specs.Laws.{IsArranged}
-use Rattle.gq_row.specs.Order.{compare_keys}
+use Rattle.gq_row.specs.Order.{compare_keys, folded_order, plain_order}
 use Rattle.gq_row.specs.Ordered.{in_order}
-use Rattle.gq_row.specs.Rows.{key_of}
+use Rattle.gq_row.specs.Rows.{cell, cells_in, key_of}
 use Rattle.gq_row.specs.Tables.{PlainTable, keys_differ}
+use Rattle.gq_row.proofs.FoldLemmas.{folded_once, then_same}
 use Rattle.gq_row.proofs.ArrangeLemmas.{in_order-alone, in_order-alone_by_row}
 use Rattle.gq_row.proofs.OrderLemmas.{keys_total}
 use Rattle.gq_table.specs.Standing.{IsStanding}
 use Rattle.gq_query.specs.Answers.{ordered_by, rows_shown}
+
+-- keys are compared by the folds of the cells: they are folds themselves, and where these tie so do their bytes
+pub keys_by_cells : (columns : List ℕ) (a b : List Value) → compare_keys (key_of columns a) (key_of columns b) ≡ slice_cmp folded_order (cells_in columns a) (cells_in columns b)
+keys_by_cells columns a b = ap₂ ordering_then (once columns) (bytes columns) ∙ then_same (slice_cmp folded_order (cells_in columns a) (cells_in columns b))
+  where
+    once : (cs : List ℕ) → slice_cmp folded_order (key_of cs a) (key_of cs b) ≡ slice_cmp folded_order (cells_in cs a) (cells_in cs b)
+    once [] = refl
+    once (c ∷ cs) = ap₂ ordering_then (ap₂ plain_order (folded_once (cell a c)) (folded_once (cell b c))) (once cs)
+
+    bytes : (cs : List ℕ) → slice_cmp plain_order (key_of cs a) (key_of cs b) ≡ slice_cmp folded_order (cells_in cs a) (cells_in cs b)
+    bytes [] = refl
+    bytes (c ∷ cs) = ap (ordering_then (folded_order (cell a c) (cell b c))) (bytes cs)
 
 pub on_ok : {X E : Type 0} {P Q : Type 0} (r : Result X E) → (P → Q) → OnOk r P → OnOk r Q
 on_ok (Ok x) f h = f h

@@ -7,14 +7,15 @@ use Rattle.std.proofs.lemmas.List.{length-map, map-append}
 use Rattle.std.proofs.lemmas.List.Folds.{list_any-append}
 use Rattle.std.proofs.lemmas.List.Elements.{All-nil, All-cons, All-head, All-tail}
 use Rattle.gq_row.specs.declared.value.Value.{Value}
-use Rattle.gq_row.specs.declared.value.Value.TheVariants.{Null, Int, Text}
+use Rattle.gq_row.specs.declared.value.Value.TheVariants.{Null, Int, Text, NoCase}
 use Rattle.gq_row.specs.declared.schema.Column.{Column}
 use Rattle.gq_row.specs.declared.schema.Kind.{Kind}
 use Rattle.gq_row.specs.declared.schema.Kind.TheVariants as kind
 use Rattle.gq_row.specs.Fitting.{goes_in, fits_columns}
+use Rattle.gq_row.specs.Folding.{folded}
 use Rattle.gq_row.specs.Order.{same_key}
 use Rattle.gq_row.specs.Repeats.{without_repeats}
-use Rattle.gq_row.specs.Rows.{cell, key_of}
+use Rattle.gq_row.specs.Rows.{cell, cells_in, key_of}
 use Rattle.gq_row.specs.Tables.{keys, of_key}
 use Rattle.gq_agg.specs.declared.kind.AggKind.{AggKind}
 use Rattle.gq_agg.specs.declared.kind.AggKind.TheVariants as agg
@@ -23,7 +24,7 @@ use Rattle.gq_agg.specs.Values.{different}
 use Rattle.gq_group.specs.Groups.{Spec, keys_of, column_of, answers, group_of, groups, counts_all, fits_cell, has_columns, fits_spec, all_fit}
 use Rattle.gq_group.specs.Distinct.{distinct_group, distinct_groups, all_have}
 use Rattle.gq_group.specs.Distinct as distinct
-use Rattle.gq_query.specs.Asking.{kind_at, takes_kind, can_take}
+use Rattle.gq_select.specs.Asking.{kind_at, takes_kind, can_take}
 use Rattle.gq_query.specs.Cells.{is_used, with_column, with_agg, columns_used, place_of, placed_columns, placed_aggs, placed}
 
 or_true : (b : Bool) → (b || true) ≡ true
@@ -178,7 +179,7 @@ first_there (c ∷ columns) column row h = told (nat_eq c column) refl h (first_
 
 pub record IsPlaced (columns : List ℕ) (column : ℕ) (row : List Value) : Type 0 where
   pub within : place_of columns column < length columns
-  pub is : cell (key_of columns row) (place_of columns column) ≡ cell row column
+  pub is : cell (cells_in columns row) (place_of columns column) ≡ cell row column
 
 pub is_placed : (columns : List ℕ) (column : ℕ) (row : List Value) → is_used columns column ≡ true → IsPlaced columns column row
 is_placed columns column row h =
@@ -193,13 +194,13 @@ is_placed columns column row h =
 
 module _ (columns : List ℕ) where
   abbrev narrow : List Value → List Value
-  narrow row = key_of columns row
+  narrow row = cells_in columns row
 
   key_placed : (by : List ℕ) (row : List Value) → list_all (is_used columns) by ≡ true → key_of (placed_columns columns by) (narrow row) ≡ key_of by row
   key_placed [] row h = refl
   key_placed (c ∷ by) row h =
       let parts = and_parts (is_used columns c) (list_all (is_used columns) by) h in
-      λ i. (is_placed columns c row parts.0).is i ∷ key_placed by row parts.1 i
+      λ i. folded ((is_placed columns c row parts.0).is i) ∷ key_placed by row parts.1 i
 
   column_placed : (c : ℕ) (rows : List (List Value)) → is_used columns c ≡ true → column_of (place_of columns c) (map narrow rows) ≡ column_of c rows
   column_placed c [] h = refl
@@ -278,24 +279,27 @@ module _ (columns : List ℕ) where
       (fits_placed_cell a.0 a.1 row used.0 taken.0) (fits_placed_cells aggs row used.1 taken.1)
 
 -- the groups of the rows of these cells are those of the rows
-pub groups_placed : (spec : Spec) (rows : List (List Value)) → groups (placed (columns_used spec) spec) (map (key_of (columns_used spec)) rows) ≡ groups spec rows
+pub groups_placed : (spec : Spec) (rows : List (List Value)) → groups (placed (columns_used spec) spec) (map (cells_in (columns_used spec)) rows) ≡ groups spec rows
 groups_placed spec rows =
     let columns : List ℕ = columns_used spec in
-    ap (map (group_of (placed columns spec) (map (key_of columns) rows))) (keys_placed columns spec.by rows (by_used spec))
+    ap (map (group_of (placed columns spec) (map (cells_in columns) rows))) (keys_placed columns spec.by rows (by_used spec))
     ∙ each_group columns spec rows (keys_of spec.by rows) (by_used spec) (aggs_used spec)
 
 -- and so are the keys of these rows
-pub same_keys : (spec : Spec) (rows : List (List Value)) → keys_of (placed_columns (columns_used spec) spec.by) (map (key_of (columns_used spec)) rows) ≡ keys_of spec.by rows
+pub same_keys : (spec : Spec) (rows : List (List Value)) → keys_of (placed_columns (columns_used spec) spec.by) (map (cells_in (columns_used spec)) rows) ≡ keys_of spec.by rows
 same_keys spec rows = keys_placed (columns_used spec) spec.by rows (by_used spec)
 
 -- ---- the cells of a table's rows
 
 sum_cell : (k : Kind) (v : Value) → goes_in k v ≡ true → takes_kind agg.Sum k ≡ true → not (is_text v) ≡ true
 sum_cell k Null h t = refl
-sum_cell kind.Int (Int n) h t = refl
+sum_cell k (Int n) h t = refl
 sum_cell kind.Int (Text s) h t = absurd (false≢true h)
-sum_cell kind.Text (Int n) h t = absurd (false≢true t)
+sum_cell kind.Int (NoCase s) h t = absurd (false≢true h)
 sum_cell kind.Text (Text s) h t = absurd (false≢true t)
+sum_cell kind.Text (NoCase s) h t = absurd (false≢true t)
+sum_cell kind.NoCase (Text s) h t = absurd (false≢true t)
+sum_cell kind.NoCase (NoCase s) h t = absurd (false≢true t)
 
 no_text : (columns : List Column) (row : List Value) (c : ℕ) → fits_columns columns row ≡ true → nat_lt c (length columns) ≡ true → takes_kind agg.Sum (kind_at columns c) ≡ true → not (is_text (cell row c)) ≡ true
 no_text [] row c fits less t = let below : c < 0 = ltb-true c 0 less in absurd (omega arith)
@@ -315,13 +319,13 @@ takes_cell columns row agg.Min c fits h = refl
 takes_cell columns row agg.Max c fits h = refl
 
 pub all_fit_placed : (columns : List Column) (spec : Spec) (rows : List (List Value)) → list_all (fits_columns columns) rows ≡ true → list_all (can_take columns) spec.aggs ≡ true
-    → all_fit (placed (columns_used spec) spec) (map (key_of (columns_used spec)) rows) ≡ true
+    → all_fit (placed (columns_used spec) spec) (map (cells_in (columns_used spec)) rows) ≡ true
 all_fit_placed columns spec [] fits h = refl
 all_fit_placed columns spec (row ∷ rows) fits h =
     let parts = and_parts (fits_columns columns row) (list_all (fits_columns columns) rows) fits in
     let used : List ℕ = columns_used spec in
-    and_from (fits_spec (placed used spec) (key_of used row)) (all_fit (placed used spec) (map (key_of used) rows))
-    (and_from (has_columns (placed_columns used spec.by) (key_of used row)) (list_all (fits_cell (key_of used row)) (placed_aggs used spec.aggs))
+    and_from (fits_spec (placed used spec) (cells_in used row)) (all_fit (placed used spec) (map (cells_in used) rows))
+    (and_from (has_columns (placed_columns used spec.by) (cells_in used row)) (list_all (fits_cell (cells_in used row)) (placed_aggs used spec.aggs))
     (has_placed used spec.by row (by_used spec))
     (fits_placed_cells used spec.aggs row (aggs_used spec) (all_weaker (can_take columns) (λ a. counts_all a.0 || takes a.0 (cell row a.1)) (λ a k. takes_cell columns row a.0 a.1 parts.0 k) spec.aggs h)))
     (all_fit_placed columns spec rows parts.1 h)
@@ -356,30 +360,30 @@ counting_within columns by column h less =
     (and_from (nat_lt column (length columns) && true) true (and_from (nat_lt column (length columns)) true (lt-ltb column (length columns) less) refl) refl)
 
 distinct_each : (by : List ℕ) (column : ℕ) (rows ks : List (List Value)) → let used = columns_used (counting by column) in
-    map (distinct_group (placed_columns used by) (place_of used column) (map (key_of used) rows)) ks ≡ map (distinct_group by column rows) ks
+    map (distinct_group (placed_columns used by) (place_of used column) (map (cells_in used) rows)) ks ≡ map (distinct_group by column rows) ks
 distinct_each by column rows [] = refl
 distinct_each by column rows (k ∷ ks) =
     let used : List ℕ = columns_used (counting by column) in
-    let values : column_of (place_of used column) (of_key (placed_columns used by) (map (key_of used) rows) k) ≡ column_of column (of_key by rows k)
+    let values : column_of (place_of used column) (of_key (placed_columns used by) (map (cells_in used) rows) k) ≡ column_of column (of_key by rows k)
     = ap (column_of (place_of used column)) (of_key_placed used by rows k (by_used (counting by column))) ∙ column_placed used column (of_key by rows k) (counted_used by column) in
     λ i. (k, Int (pos (different (values i))) ∷ []) ∷ distinct_each by column rows ks i
 
 -- the counts of the rows of these cells are those of the rows
 pub distinct_placed : (by : List ℕ) (column : ℕ) (rows : List (List Value)) → let used = columns_used (counting by column) in
-    distinct_groups (placed_columns used by) (place_of used column) (map (key_of used) rows) ≡ distinct_groups by column rows
+    distinct_groups (placed_columns used by) (place_of used column) (map (cells_in used) rows) ≡ distinct_groups by column rows
 distinct_placed by column rows =
     let used : List ℕ = columns_used (counting by column) in
-    ap (map (distinct_group (placed_columns used by) (place_of used column) (map (key_of used) rows))) (keys_placed used by rows (by_used (counting by column)))
+    ap (map (distinct_group (placed_columns used by) (place_of used column) (map (cells_in used) rows))) (keys_placed used by rows (by_used (counting by column)))
     ∙ distinct_each by column rows (keys_of by rows)
 
 pub all_have_placed : (by : List ℕ) (column : ℕ) (rows : List (List Value)) → let used = columns_used (counting by column) in
-    all_have (distinct.with_column (placed_columns used by) (place_of used column)) (map (key_of used) rows) ≡ true
+    all_have (distinct.with_column (placed_columns used by) (place_of used column)) (map (cells_in used) rows) ≡ true
 all_have_placed by column [] = refl
 all_have_placed by column (row ∷ rows) =
     let used : List ℕ = columns_used (counting by column) in
     let both = all_push (is_used used) by column (by_used (counting by column)) (counted_used by column) in
-    and_from (has_columns (distinct.with_column (placed_columns used by) (place_of used column)) (key_of used row)) (all_have (distinct.with_column (placed_columns used by) (place_of used column)) (map (key_of used) rows))
-    (ap (λ l. has_columns l (key_of used row)) (sym (map-append (λ c. place_of used c) by (column ∷ []))) ∙ has_placed used (by ++ column ∷ []) row both)
+    and_from (has_columns (distinct.with_column (placed_columns used by) (place_of used column)) (cells_in used row)) (all_have (distinct.with_column (placed_columns used by) (place_of used column)) (map (cells_in used) rows))
+    (ap (λ l. has_columns l (cells_in used row)) (sym (map-append (λ c. place_of used c) by (column ∷ []))) ∙ has_placed used (by ++ column ∷ []) row both)
     (all_have_placed by column rows)
 
 -- ---- different keys
@@ -391,13 +395,13 @@ pub bare_within : (columns : List Column) (by : List ℕ) → All (λ c. c < len
 bare_within columns by h = used_within columns (bare by) h refl
 
 -- the different keys of the rows of these cells are those of the rows
-pub keys_of_placed : (by : List ℕ) (rows : List (List Value)) → 0 < length by → let used = columns_used (bare by) in keys (placed_columns used by) (map (key_of used) rows) ≡ keys by rows
+pub keys_of_placed : (by : List ℕ) (rows : List (List Value)) → 0 < length by → let used = columns_used (bare by) in keys (placed_columns used by) (map (cells_in used) rows) ≡ keys by rows
 keys_of_placed [] rows some = absurd (omega (arith, some))
 keys_of_placed (c ∷ by) rows some = keys_placed (columns_used (bare (c ∷ by))) (c ∷ by) rows (by_used (bare (c ∷ by)))
 
-pub bare_have : (by : List ℕ) (rows : List (List Value)) → let used = columns_used (bare by) in all_have (placed_columns used by) (map (key_of used) rows) ≡ true
+pub bare_have : (by : List ℕ) (rows : List (List Value)) → let used = columns_used (bare by) in all_have (placed_columns used by) (map (cells_in used) rows) ≡ true
 bare_have by [] = refl
 bare_have by (row ∷ rows) =
     let used : List ℕ = columns_used (bare by) in
-    and_from (has_columns (placed_columns used by) (key_of used row)) (all_have (placed_columns used by) (map (key_of used) rows))
+    and_from (has_columns (placed_columns used by) (cells_in used row)) (all_have (placed_columns used by) (map (cells_in used) rows))
     (has_placed used by row (by_used (bare by))) (bare_have by rows)

@@ -1,19 +1,20 @@
 -- The rows that a query gives.
-use Rattle.std.specs.Prelude.{◌&&◌, ℕ, pos, Bool, true, List, [], ◌∷◌, ◌++◌, map, filter, Option, None, Some, option_map, option_and_then}
+use Rattle.std.specs.Prelude.{◌&&◌, ℕ, pos, Bool, true, List, [], ◌∷◌, ◌++◌, map, filter, Option, None, Some, option_map}
 use Rattle.gq_row.specs.declared.value.Value.{Value}
 use Rattle.gq_row.specs.declared.value.Value.TheVariants.{Int}
 use Rattle.gq_row.specs.Ordered.{in_order}
 use Rattle.gq_row.specs.Rows.{key_of}
 use Rattle.gq_row.specs.Tables.{PlainTable, keys, of_key}
 use Rattle.gq_agg.specs.Aggregates.{aggregate}
-use Rattle.gq_agg.specs.Values.{different}
+use Rattle.gq_agg.specs.Values.{different, least}
 use Rattle.gq_group.specs.Groups.{keys_of, column_of}
+use Rattle.gq_select.specs.Asking.{all_of}
 use Rattle.gq_select.specs.declared.condition.Test.{Test}
 use Rattle.gq_select.specs.declared.matching.Matching.{Matching}
+use Rattle.gq_select.specs.declared.shown.Shown.{Shown}
+use Rattle.gq_select.specs.declared.shown.Shown.TheVariants.{Aggregate, CountDistinct}
 use Rattle.gq_select.specs.Matches.{is_matched}
 use Rattle.gq_select.specs.Truths.{keeps}
-use Rattle.gq_query.specs.declared.shown.Shown.{Shown}
-use Rattle.gq_query.specs.declared.shown.Shown.TheVariants.{Aggregate, CountDistinct}
 
 -- whether a row has the match that is asked for among other rows, if one is
 abbrev pub has_match : Option Matching → List (List Value) → List Value → Bool
@@ -29,14 +30,13 @@ abbrev pub shown_value : Shown → List (List Value) → Option Value
 shown_value (Aggregate kind column) rows = aggregate kind (column_of column rows)
 shown_value (CountDistinct column) rows = Some (Int (pos (different (column_of column rows))))
 
--- all of some, or none where one of them is none
-abbrev pub all_of : {X : Type 0} → List (Option X) → Option (List X)
-all_of [] = Some []
-all_of (o ∷ os) = option_and_then (λ x. option_map (λ xs. x ∷ xs) (all_of os)) o
+-- how the key of some rows is shown: in each of its columns by the least value there, which is the least spelling of a text without case, and else the one value that they have
+abbrev pub shown_key : List ℕ → List (List Value) → List Value
+shown_key by rows = map (λ column. least (column_of column rows)) by
 
--- a result row: the key, and then what is shown of the rows that have it
+-- a result row: the key as it is shown, and then what is shown of the rows that have it
 abbrev pub result_row : List ℕ → List Shown → List (List Value) → List Value → Option (List Value)
-result_row by shown rows key = option_map (λ values. key ++ values) (all_of (map (λ s. shown_value s (of_key by rows key)) shown))
+result_row by shown rows key = option_map (λ values. shown_key by (of_key by rows key) ++ values) (all_of (map (λ s. shown_value s (of_key by rows key)) shown))
 
 -- the result rows of a `group`: one for each different key, in the order of the keys; none where some sum is out of range
 abbrev pub answer : List ℕ → List Shown → List (List Value) → Option (List (List Value))
@@ -46,9 +46,9 @@ answer by shown rows = all_of (map (result_row by shown rows) (in_order (λ key.
 abbrev pub answer_having : List ℕ → List Shown → List Test → List (List Value) → Option (List (List Value))
 answer_having by shown having rows = option_map (filter (keeps having)) (answer by shown rows)
 
--- the result rows of a `distinct`: the different keys in some columns, in order; null is one key value
+-- the result rows of a `distinct`: the different keys in some columns, in order, each as it is shown; null is one key value
 abbrev pub distinct_keys : List ℕ → List (List Value) → List (List Value)
-distinct_keys on rows = in_order (λ key. key) (keys on rows)
+distinct_keys on rows = map (λ key. shown_key on (of_key on rows key)) (in_order (λ key. key) (keys on rows))
 
 -- what the rows of a table are ordered by: their keys, or all of their values where there is no key
 abbrev pub ordered_by : List ℕ → List Value → List Value

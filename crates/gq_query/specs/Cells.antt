@@ -3,8 +3,8 @@ use Rattle.std.specs.Prelude.{ℕ, Bool, List, [], ◌∷◌, ◌++◌, map, fol
 use Rattle.std.specs.List.{list_any}
 use Rattle.gq_agg.specs.declared.kind.AggKind.{AggKind}
 use Rattle.gq_group.specs.Groups.{Spec, counts_all}
-use Rattle.gq_query.specs.declared.shown.Shown.{Shown}
-use Rattle.gq_query.specs.declared.shown.Shown.TheVariants.{Aggregate, CountDistinct}
+use Rattle.gq_select.specs.declared.shown.Shown.{Shown}
+use Rattle.gq_select.specs.declared.shown.Shown.TheVariants.{Aggregate, CountDistinct}
 
 -- a column is one of these
 abbrev pub is_used : List ℕ → ℕ → Bool

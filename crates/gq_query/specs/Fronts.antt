@@ -2,7 +2,8 @@
 use Rattle.std.specs.Prelude.{◌≡◌, ℕ, zero, suc, ◌+◌, ◌-◌, ◌*◌, ◌^◌, ◌<◌, negsuc, ◌-ℤ◌, List, [], ◌∷◌, drop, get_or, unsigned_abs, FitsSigned}
 use Rattle.std.specs.Int.{w64}
 use Rattle.gq_row.specs.declared.value.Value.{Value}
-use Rattle.gq_row.specs.declared.value.Value.TheVariants.{Null, Int, Text}
+use Rattle.gq_row.specs.declared.value.Value.TheVariants.{Null, Int, Text, NoCase}
+use Rattle.gq_row.specs.Folding.{fold_case}
 use Rattle.gq_row.specs.Rows.{cell}
 use Rattle.gq_query.specs.declared.front.Front.{Front}
 
@@ -12,17 +13,19 @@ leading zero text = 0
 leading (suc n) [] = 0
 leading (suc n) (byte ∷ text) = byte * 256 ^ n + leading n text
 
--- sixteen bytes in two words: nothing of null, 1 and how far a number is from the least, 2 and the first fifteen bytes of a text
+-- sixteen bytes in two words: nothing of null, 1 and how far a number is from the least, 2 and the first fifteen bytes of a text, 3 and those of the fold of a text without case
 abbrev pub front_of : Value → Front
 front_of Null = record { high = 0; low = 0 }
 front_of (Int n) = record { high = 2 ^ 56; low = unsigned_abs (n -ℤ negsuc (2 ^ 63 - 1)) }
 front_of (Text text) = record { high = 2 * 2 ^ 56 + leading 7 text; low = leading 8 (drop 7 text) }
+front_of (NoCase text) = record { high = 3 * 2 ^ 56 + leading 7 (fold_case text); low = leading 8 (drop 7 (fold_case text)) }
 
 -- what a machine holds: numbers of 64 bits, and texts of bytes
 abbrev pub IsOfBytes : Value → Type 0
 IsOfBytes Null = Unit {0}
 IsOfBytes (Int n) = FitsSigned w64 n
 IsOfBytes (Text text) = (i : ℕ) → get_or text i 0 < 256
+IsOfBytes (NoCase text) = (i : ℕ) → get_or text i 0 < 256
 
 -- the front of a value that a machine holds
 abbrev pub IsValueFront : Value → Front → Type 0

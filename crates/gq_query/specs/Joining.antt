@@ -1,12 +1,13 @@
 -- Groups in the order of their keys, as what is shown of them is put together.
-use Rattle.std.specs.Prelude.{◌≡◌, ℕ, List, [], ◌∷◌, ◌++◌, map, take, drop, insert, slice_index_or, Option}
+use Rattle.std.specs.Prelude.{◌≡◌, ℕ, List, [], ◌∷◌, ◌++◌, map, take, drop, insert, slice_index_or, Option, option_map}
 use Rattle.gq_row.specs.declared.value.Value.{Value}
 use Rattle.gq_row.specs.declared.value.Value.TheVariants.{Null}
 use Rattle.gq_row.specs.Ordered.{in_order}
-use Rattle.gq_row.specs.Tables.{of_key}
+use Rattle.gq_row.specs.Tables.{keys, of_key}
 use Rattle.gq_group.specs.Groups.{Group, keys_of, answered}
-use Rattle.gq_query.specs.declared.shown.Shown.{Shown}
-use Rattle.gq_query.specs.declared.shown.Shown.TheVariants.{Aggregate, CountDistinct}
+use Rattle.gq_select.specs.Asking.{all_of}
+use Rattle.gq_select.specs.declared.shown.Shown.{Shown}
+use Rattle.gq_select.specs.declared.shown.Shown.TheVariants.{Aggregate, CountDistinct}
 use Rattle.gq_query.specs.Answers.{shown_value}
 
 -- a key, with what is shown of the rows that have it
@@ -40,3 +41,14 @@ joined place (g ∷ groups) (c ∷ counts) = (g.0, insert g.1 place (first_of c)
 -- the result row of a group
 abbrev pub row_of : Group → List Value
 row_of g = g.0 ++ g.1
+
+-- ---- answers whose keys stand by their folds
+
+abbrev pub folded_row : List ℕ → List Shown → List (List Value) → List Value → Option (List Value)
+folded_row by shown rows key = option_map (λ values. key ++ values) (all_of (map (λ s. shown_value s (of_key by rows key)) shown))
+
+abbrev pub folded_answer : List ℕ → List Shown → List (List Value) → Option (List (List Value))
+folded_answer by shown rows = all_of (map (folded_row by shown rows) (in_order (λ key. key) (keys_of by rows)))
+
+abbrev pub folded_keys : List ℕ → List (List Value) → List (List Value)
+folded_keys on rows = in_order (λ key. key) (keys on rows)

@@ -1,7 +1,7 @@
 -- definitions for readers
 pub mod Answers
-pub mod Asking
 pub mod Laws
+pub mod Rollups
 pub mod Selecting
 pub mod Work
 -- contracts of single functions
@@ -10,3 +10,4 @@ pub mod Fronts
 pub mod Joining
 pub mod Keeping
 pub mod Sources
+pub mod Spelling

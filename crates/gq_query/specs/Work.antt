@@ -1,5 +1,5 @@
 -- What a grouping took.
-use Rattle.std.specs.Prelude.{◌≡◌, ℕ, List, length}
+use Rattle.std.specs.Prelude.{◌≡◌, ◌+◌, ◌-◌, ◌^◌, min, ℕ, Bool, IsTrue, List, [], ◌∷◌, length}
 use Rattle.gq_row.specs.declared.value.Value.{Value}
 use Rattle.gq_group.specs.declared.grouping.Spent.{Spent}
 use Rattle.gq_group.specs.Groups.{keys_of}
@@ -10,3 +10,21 @@ pub record IsSpentOn (budget : ℕ) (by : List ℕ) (rows : List (List Value)) (
   pub read : spent.rows_read ≡ length rows
   pub groups : spent.groups ≡ length (keys_of by rows)
   pub written : Spills budget spent
+
+-- a number raised by another, up to the greatest of 64 bits
+abbrev pub sum_within : ℕ → ℕ → ℕ
+sum_within n more = min (n + more) (2 ^ 64 - 1)
+
+-- what was spent and what is spent now, together
+abbrev pub both_spent : Spent → Spent → Spent
+both_spent old more = record {
+  rows_read = sum_within old.rows_read more.rows_read;
+  rows_written = sum_within old.rows_written more.rows_written;
+  groups = sum_within old.groups more.groups;
+  runs = sum_within old.runs more.runs;
+}
+
+-- What was spent rose by the work of grouping rows by each of some lists of columns, one after the other. Over a store that reads back what was written, each work is what these rows take within the budget.
+pub data RisesBy (honest : Bool) (budget : ℕ) (rows : List (List Value)) : List (List ℕ) → Spent → Spent → Type 0 where
+  IsDone : {spent : Spent} → RisesBy honest budget rows [] spent spent
+  Rises : {by : List ℕ} {sets : List (List ℕ)} {old new : Spent} → (work : Spent) → (IsTrue honest → IsSpentOn budget by rows work) → RisesBy honest budget rows sets (both_spent old work) new → RisesBy honest budget rows (by ∷ sets) old new

@@ -2,8 +2,8 @@
 ghost use Rattle.std.specs.Prelude.{◌≡◌, fold, IfOk, OnOk, position, nat_eq};
 ghost use Rattle.gq_query.specs.Cells.{with_column, with_agg, columns_used, place_of, placed_columns, placed_aggs, aggs_of};
 
-use crate::shown::Shown;
 use gq_agg::AggKind;
+use gq_select::Shown;
 use std::alloc::{AllocError, Global};
 
 /// The columns that a grouping by columns and of aggregates needs, each once.

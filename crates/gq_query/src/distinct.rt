@@ -2,12 +2,11 @@
 ghost use Rattle.std.specs.Prelude.{◌≡◌, ◌<◌, All, IsTrue, IfOk, IfErr, length, option_copied};
 ghost use Rattle.gq_group.specs.Access.{LeavesOthers, HasCause};
 ghost use Rattle.gq_query.specs.Answers.{distinct_keys};
-ghost use Rattle.gq_query.specs.Asking.{CanMatch, no_runs};
+ghost use Rattle.gq_query.specs.Sources.{no_runs};
+ghost use Rattle.gq_select.specs.Asking.{CanMatch};
 ghost use Rattle.gq_query.specs.Selecting.{other_columns, rows_selected};
 
-use crate::group_list::rows_of;
 use crate::kept::Kept;
-use crate::ordering::sort_groups;
 use crate::query::Query;
 use crate::selection::{Selection, other_keys};
 use gq_group::{Budget, Refusal};
@@ -17,7 +16,8 @@ use std::alloc::Global;
 use sw_probe::KeyHash;
 
 /// The result rows of a `distinct`: the different keys that the rows that are selected have in some
-/// columns, of which there is one at least, in ascending order. Null is one key value.
+/// columns, of which there is one at least, in ascending order. Null is one key value. A text without
+/// case is shown by the least spelling that these rows have of it.
 ///
 /// Refused with `Memory` for want of memory, `StoreFault` where the store failed, and `Damaged`
 /// where it did not read back what was written. Whatever comes of it, the store has the live runs
@@ -56,12 +56,5 @@ pub fn distinct_rows<H: KeyHash<Key> + Copy, S: RunStore>(
         by: on,
         budget,
     };
-    let mut groups = query.keys(store)?;
-    let Ok(()) = sort_groups(&mut groups) else {
-        return Err(Refusal::Memory);
-    };
-    let Ok(rows) = rows_of(alloc, groups) else {
-        return Err(Refusal::Memory);
-    };
-    Ok(Sequence::new(rows))
+    Ok(Sequence::new(query.different(store)?))
 }

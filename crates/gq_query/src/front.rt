@@ -1,15 +1,17 @@
 //! What two words tell of a row's place in an order.
 ghost use Rattle.std.specs.Prelude.{◌≡◌, slice_index_or};
-ghost use Rattle.gq_row.specs.declared.value.Value.TheVariants.{Text};
+ghost use Rattle.gq_row.specs.declared.value.Value.TheVariants.{NoCase, Text};
+ghost use Rattle.gq_row.specs.Folding.{fold_case};
 ghost use Rattle.gq_query.specs.Answers.{ordered_by};
 ghost use Rattle.gq_query.specs.Fronts.{IsFrontOf, IsValueFront, front_of, leading};
 
 use gq_row::Value;
 
 /// The front of a value, sixteen bytes in two words: nothing of null, a number behind a byte of 1,
-/// and the first fifteen bytes of a text behind a byte of 2. Sorts know such words as normalized
-/// keys: compared as numbers they come in the order of the values, so whole values, with the memory
-/// of their texts, need a look only where their fronts tie.
+/// the first fifteen bytes of a text behind a byte of 2, and those of the fold of a text without case
+/// behind a byte of 3. Sorts know such words as normalized keys: compared as numbers they come in the
+/// order of the values' folds, which decides first, so whole values, with the memory of their texts,
+/// need a look only where their fronts tie.
 #[derive(Clone, Copy, PartialEq, Eq, PartialOrd, Ord)]
 pub struct Front {
     high: u64,
@@ -21,8 +23,11 @@ const NULL: Front = Front { high: 0, low: 0 };
 // The first byte of a number's front, in its place.
 const NUMBER: u64 = 1 << 56;
 
-// And that of a text's.
+// That of a text's.
 const TEXT: u64 = 2 << 56;
+
+// And that of a text's without case.
+const NO_CASE: u64 = 3 << 56;
 
 /// The front of a row's first value among those that it is ordered by.
 #[inline]
@@ -49,6 +54,7 @@ fn value_front(value: &Value) -> Front
             low: n.abs_diff(i64::MIN),
         },
         Value::Text(text) => text_front(text.as_str().as_bytes()),
+        Value::NoCase(text) => folded_front(text.as_str().as_bytes()),
     }
 }
 
@@ -58,6 +64,16 @@ fn text_front(text: &[u8]) -> Front
     Front {
         high: TEXT + first_bytes(text) / 256,
         low: first_bytes(text.get(7..).unwrap_or(&[])),
+    }
+}
+
+// That of a text without case. Its bytes are folded as they are read.
+fn folded_front(text: &[u8]) -> Front
+    ensures { IsValueFront (NoCase text.now) result }
+{
+    Front {
+        high: NO_CASE + first_folded(text) / 256,
+        low: first_folded(text.get(7..).unwrap_or(&[])),
     }
 }
 
@@ -95,4 +111,27 @@ fn byte(text: &[u8], place: usize) -> u8
         Some(byte) => *byte,
         None => 0,
     }
+}
+
+// The first eight bytes of a text's fold, the first of them highest, with zeros behind its end.
+fn first_folded(text: &[u8]) -> u64
+    ensures { result ≡ leading 8 (fold_case text.now) }
+{
+    u64::from_be_bytes([
+        folded_byte(text, 0),
+        folded_byte(text, 1),
+        folded_byte(text, 2),
+        folded_byte(text, 3),
+        folded_byte(text, 4),
+        folded_byte(text, 5),
+        folded_byte(text, 6),
+        folded_byte(text, 7),
+    ])
+}
+
+#[inline]
+fn folded_byte(text: &[u8], place: usize) -> u8
+    ensures { result ≡ slice_index_or (fold_case text.now) place 0 }
+{
+    byte(text, place).to_ascii_lowercase()
 }

@@ -98,6 +98,19 @@ impl GroupValues {
         Ok(())
     }
 
+    /// Its values behind the key. They move.
+    pub fn into_values(self) -> Result<Vec<Value>, AllocError>
+        ensures { IfOk result (λ values. values.items ≡ self.1) }
+    {
+        let width = self.width;
+        let Ok(mut cells) = self.cells.into_vec() else {
+            return Err(AllocError);
+        };
+        cells.rotate_left(width);
+        cells.truncate(cells.len() - width);
+        Ok(cells)
+    }
+
     /// The result row: the key's values, and then the others. All of them move.
     #[inline]
     pub fn into_row(self) -> Result<Row, AllocError>
@@ -162,7 +175,7 @@ impl GroupList {
 
 impl<S: RunStore> GroupSink<S> for GroupList {
     ghost use Rattle.std.specs.Prelude.{◌≡◌, false};
-    ghost use Rattle.gq_query.specs.Asking.{no_runs};
+    ghost use Rattle.gq_query.specs.Sources.{no_runs};
     ghost use Rattle.gq_query.specs.Sources.{none_live};
 
     ghost owns = { λ s. no_runs };

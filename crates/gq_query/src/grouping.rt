@@ -3,24 +3,25 @@ ghost use Rattle.std.specs.Prelude.{◌≡◌, ◌+◌, ◌<◌, All, IsTrue, If
 ghost use Rattle.std.specs.List.{list_all};
 ghost use Rattle.gq_group.specs.Access.{LeavesOthers, HasCause, GroupCause};
 ghost use Rattle.gq_select.specs.Truths.{keeps};
-ghost use Rattle.gq_query.specs.declared.shown.Shown.TheVariants.{CountDistinct as Different};
-ghost use Rattle.gq_query.specs.Answers.{answer, answer_having};
-ghost use Rattle.gq_query.specs.Asking.{CanMatch, can_show, no_runs};
+ghost use Rattle.gq_select.specs.declared.shown.Shown.TheVariants.{CountDistinct as Different};
+ghost use Rattle.gq_query.specs.Sources.{no_runs};
+ghost use Rattle.gq_select.specs.Asking.{CanMatch, can_show};
 ghost use Rattle.gq_query.specs.Keeping.{HasColumns, kept_rows};
-ghost use Rattle.gq_query.specs.Joining.{AreShown, aggregates_of, so_far, first_of, joined};
+ghost use Rattle.gq_query.specs.Joining.{AreShown, aggregates_of, so_far, first_of, joined, folded_answer};
+ghost use Rattle.gq_query.specs.Rollups.{group_answer, grouping_sets};
 ghost use Rattle.gq_query.specs.Selecting.{other_columns, rows_selected};
-ghost use Rattle.gq_query.specs.Work.{IsSpentOn};
+ghost use Rattle.gq_query.specs.Work.{IsSpentOn, RisesBy};
 
 use crate::cells::aggs_of;
-use crate::group_list::{GroupValues, rows_of};
+use crate::group_list::GroupValues;
 use crate::kept::Kept;
 use crate::ordering::sort_groups;
 use crate::query::Query;
 use crate::selection::{Selection, other_keys};
-use crate::shown::Shown;
+use crate::spending::both_spent;
 use gq_group::{Budget, Refusal, Spent};
 use gq_row::{Key, Row, Sequence};
-use gq_select::{Condition, having};
+use gq_select::{Condition, Shown, having};
 use gq_spill::RunStore;
 use std::alloc::{AllocError, Global};
 use sw_probe::KeyHash;
@@ -30,6 +31,9 @@ use sw_probe::KeyHash;
 #[derive(Drop)]
 pub struct Grouping<'a> {
     pub by: &'a [usize],
+    /// Whether rows are grouped by each front of these columns, the empty one first, and not by all
+    /// of them alone.
+    pub rollup: bool,
     pub shown: &'a [Shown],
     pub having: &'a Condition,
 }
@@ -52,7 +56,7 @@ impl<'a, H: KeyHash<Key> + Copy> Query<'a, H> {
             IfOk result (λ found. IsSpentOn self.now.budget.entries self.now.by.now
             (kept_rows self.now) found.1) }
         ensures overflow { IsTrue (S.runs store.old).honest → IsErrOf result Refusal.SumRange →
-            answer self.now.by.now shown.now (kept_rows self.now) ≡ None }
+            folded_answer self.now.by.now shown.now (kept_rows self.now) ≡ None }
         ensures others { LeavesOthers no_runs no_runs (S.runs store.old) (S.runs store.new) }
         ensures cause { IfErr result (λ e. GroupCause e (S.runs store.old) (S.runs store.new)) }
     {
@@ -119,7 +123,7 @@ impl<'a, H: KeyHash<Key> + Copy> Query<'a, H> {
 
     // The groups in the order of their keys, with what is shown of each, and what the grouping of
     // their aggregates took. Counts of different values are left out of that.
-    fn show<S: RunStore>(
+    pub(crate) fn show<S: RunStore>(
         &self,
         shown: &[Shown],
         store: &mut S,
@@ -134,7 +138,7 @@ impl<'a, H: KeyHash<Key> + Copy> Query<'a, H> {
             IfOk result (λ found. IsSpentOn self.now.budget.entries self.now.by.now
             (kept_rows self.now) found.1) }
         ensures overflow { IsTrue (S.runs store.old).honest → IsErrOf result Refusal.SumRange →
-            answer self.now.by.now shown.now (kept_rows self.now) ≡ None }
+            folded_answer self.now.by.now shown.now (kept_rows self.now) ≡ None }
         ensures others { LeavesOthers no_runs no_runs (S.runs store.old) (S.runs store.new) }
         ensures cause { IfErr result (λ e. GroupCause e (S.runs store.old) (S.runs store.new)) }
     {
@@ -143,6 +147,38 @@ impl<'a, H: KeyHash<Key> + Copy> Query<'a, H> {
             self.show_next(shown, place, &mut groups, store)?;
         }
         Ok((groups, spent))
+    }
+}
+
+impl<'a, H: KeyHash<Key> + Copy> Query<'a, H> {
+    // The result rows that `having` keeps, and what was spent, raised by what grouping them took.
+    fn answer<S: RunStore>(
+        &self,
+        grouping: &Grouping<'_>,
+        store: &mut S,
+        spent: Spent,
+    ) -> Result<(Vec<Row>, Spent), Refusal>
+        requires columns { HasColumns self.now }
+        requires shown { IsTrue (list_all (can_show self.now.table.now.heading.columns)
+            grouping.now.shown.now) }
+        ensures rows { IsTrue (S.runs store.old).honest → IfOk result
+            (λ found. group_answer grouping.now.rollup self.now.by.now grouping.now.shown.now
+            grouping.now.having.now.tests (kept_rows self.now) ≡ Some found.0.items) }
+        ensures spent { IfOk result (λ found. RisesBy (S.runs store.old).honest
+            self.now.budget.entries (kept_rows self.now)
+            (grouping_sets grouping.now.rollup self.now.by.now) spent found.1) }
+        ensures overflow { IsTrue (S.runs store.old).honest → IsErrOf result Refusal.SumRange →
+            group_answer grouping.now.rollup self.now.by.now grouping.now.shown.now
+            grouping.now.having.now.tests (kept_rows self.now) ≡ None }
+        ensures others { LeavesOthers no_runs no_runs (S.runs store.old) (S.runs store.new) }
+        ensures cause { IfErr result (λ e. GroupCause e (S.runs store.old) (S.runs store.new)) }
+    {
+        if grouping.rollup {
+            return self.rollup(grouping.shown, grouping.having, store, spent);
+        }
+        let (rows, work) = self.rows(grouping.shown, store)?;
+        let rows = rows_having(rows, grouping.having);
+        Ok((rows, both_spent(spent, work)))
     }
 }
 
@@ -185,8 +221,15 @@ fn rows_having(rows: Vec<Row>, condition: &Condition) -> Vec<Row>
 
 /// The result rows of a `group`: one for each different key that the rows that are selected have in
 /// some columns, in ascending order; in it the key's values, and then what is shown of the rows
-/// that have it. Of these rows `having` keeps those for which it is true, after all are finished.
-/// And what the grouping took of which the aggregates come; counts of different values are left out.
+/// that have it. A text without case is shown in the key by the least spelling that these rows have of
+/// it in that column. Of these rows `having` keeps those for which it is true, after all are finished.
+///
+/// A rollup is such a grouping by no column, by the first, by the first two, and so on, one behind the
+/// other. In a result row its level stands first, which is how many columns it is by, and null in
+/// each other column; `having` is asked of the rows with these nulls, and knows no level.
+///
+/// And what was spent, raised by what each grouping took of which the aggregates come; counts of
+/// different values are left out.
 ///
 /// Refused with `SumRange` where some sum is out of range, whatever `having` says, `Memory` for
 /// want of memory, `StoreFault` where the store failed, and `Damaged` where it did not read back
@@ -198,6 +241,7 @@ pub fn group_rows<H: KeyHash<Key> + Copy, S: RunStore>(
     grouping: &Grouping<'_>,
     store: &mut S,
     budget: Budget,
+    spent: Spent,
 ) -> Result<(Sequence<Row>, Spent), Refusal>
     requires by { All (λ column. column < length selection.now.table.now.heading.columns)
         grouping.now.by.now }
@@ -207,13 +251,13 @@ pub fn group_rows<H: KeyHash<Key> + Copy, S: RunStore>(
         (other_columns (option_copied selection.now.others))
         (option_copied selection.now.matching) }
     ensures rows { IsTrue (S.runs store.old).honest → IfOk result
-        (λ found. answer_having grouping.now.by.now grouping.now.shown.now
+        (λ found. group_answer grouping.now.rollup grouping.now.by.now grouping.now.shown.now
         grouping.now.having.now.tests (rows_selected selection.now) ≡ Some found.0) }
-    ensures spent { IsTrue (S.runs store.old).honest → IfOk result
-        (λ found. IsSpentOn budget.entries grouping.now.by.now (rows_selected selection.now)
-        found.1) }
+    ensures spent { IfOk result (λ found. RisesBy (S.runs store.old).honest budget.entries
+        (rows_selected selection.now) (grouping_sets grouping.now.rollup grouping.now.by.now)
+        spent found.1) }
     ensures overflow { IsTrue (S.runs store.old).honest → IsErrOf result Refusal.SumRange →
-        answer_having grouping.now.by.now grouping.now.shown.now
+        group_answer grouping.now.rollup grouping.now.by.now grouping.now.shown.now
         grouping.now.having.now.tests (rows_selected selection.now) ≡ None }
     ensures others { LeavesOthers no_runs no_runs (S.runs store.old) (S.runs store.new) }
     ensures cause { IfErr result (λ e. GroupCause e (S.runs store.old) (S.runs store.new)) }
@@ -234,9 +278,6 @@ pub fn group_rows<H: KeyHash<Key> + Copy, S: RunStore>(
         by: grouping.by,
         budget,
     };
-    let (groups, spent) = query.show(grouping.shown, store)?;
-    let Ok(rows) = rows_of(alloc, groups) else {
-        return Err(Refusal::Memory);
-    };
-    Ok((Sequence::new(rows_having(rows, grouping.having)), spent))
+    let (rows, spent) = query.answer(grouping, store, spent)?;
+    Ok((Sequence::new(rows), spent))
 }

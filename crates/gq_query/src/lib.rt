@@ -37,13 +37,15 @@ mod kept;
 pub mod laws;
 mod ordering;
 mod query;
+mod rollup;
 mod selection;
 mod showing;
-mod shown;
+mod spelling;
+mod spending;
 mod table_rows;
 
 pub use distinct::distinct_rows;
+pub use gq_select::Shown;
 pub use grouping::{Grouping, group_rows};
 pub use selection::Selection;
 pub use showing::show_rows;
-pub use shown::Shown;

@@ -8,17 +8,17 @@ ghost use Rattle.std.specs.Prelude.{◌≡◌, OnOk, IsPermutation};
 ghost use Rattle.std.specs.List.Sorted.{IsSortedByKey};
 ghost use Rattle.gq_group.specs.Groups.{Group};
 ghost use Rattle.gq_row.specs.Laws.{IsArranged};
-ghost use Rattle.gq_row.specs.Order.{compare_keys, compare_values};
+ghost use Rattle.gq_row.specs.Order.{compare_keys, folded_order};
 ghost use Rattle.gq_row.specs.Rows.{cell, key_of};
 ghost use Rattle.gq_query.specs.Answers.{ordered_by};
 
 use crate::front::front_in;
 use crate::group_list::GroupValues;
-use gq_row::{Row, Value, compare, compare_cells};
+use gq_row::{Row, Value, compare_cells, compare_folded};
 use std::alloc::AllocError;
 use std::cmp::Ordering;
 
-/// Sorts rows by their values in some columns, or by all of their values where none are named.
+/// Sorts rows by their keys in some columns, or by all of their values where none are named.
 pub fn sort_rows(rows: &mut Vec<Row>, columns: &[usize]) -> Result<(), AllocError>
     ensures { OnOk result (IsArranged (ordered_by columns.now) rows.old.items rows.new.items) }
 {
@@ -46,7 +46,8 @@ fn compare_rows(columns: &[usize], a: &[Value], b: &[Value]) -> Ordering
     }
 }
 
-// The order of two rows by their values in some columns.
+// The order of two rows by their keys in some columns. These are folds, so that nothing is left to
+// bytes where all of them tie.
 fn compare_in(columns: &[usize], a: &[Value], b: &[Value]) -> Ordering
     ensures { result ≡ compare_keys (key_of columns.now a.now) (key_of columns.now b.now) }
 {
@@ -61,12 +62,12 @@ fn compare_in(columns: &[usize], a: &[Value], b: &[Value]) -> Ordering
 
 // A row that is too short has null there.
 fn compare_cell(column: usize, a: &[Value], b: &[Value]) -> Ordering
-    ensures { result ≡ compare_values (cell a.now column) (cell b.now column) }
+    ensures { result ≡ folded_order (cell a.now column) (cell b.now column) }
 {
     match (a.get(column), b.get(column)) {
-        (Some(x), Some(y)) => compare(x, y),
-        (Some(x), None) => compare(x, &Value::Null),
-        (None, Some(y)) => compare(&Value::Null, y),
+        (Some(x), Some(y)) => compare_folded(x, y),
+        (Some(x), None) => compare_folded(x, &Value::Null),
+        (None, Some(y)) => compare_folded(&Value::Null, y),
         (None, None) => Ordering::Equal,
     }
 }

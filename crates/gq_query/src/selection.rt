@@ -2,7 +2,7 @@
 ghost use Rattle.std.specs.Prelude.{◌≡◌, ◌<◌, All, IfOk, Some, length, option_copied};
 ghost use Rattle.gq_select.specs.KeySets.{AreKeysOf};
 ghost use Rattle.gq_select.specs.declared.matching.Matching.{Matching as Match};
-ghost use Rattle.gq_query.specs.Asking.{CanMatch};
+ghost use Rattle.gq_select.specs.Asking.{CanMatch};
 ghost use Rattle.gq_query.specs.Selecting.{other_columns, other_rows};
 
 use gq_row::Key;

@@ -1,6 +1,6 @@
 //! The rows of a table that are kept, as a source.
 ghost use Rattle.std.specs.Prelude.{◌≡◌, ◌<◌, ◌++◌, All, IfOk, OnOk, length};
-ghost use Rattle.gq_row.specs.Rows.{key_of};
+ghost use Rattle.gq_row.specs.Rows.{cells_in};
 ghost use Rattle.gq_row.specs.declared.value.Value.TheVariants as variant;
 
 use crate::kept::Kept;
@@ -12,7 +12,7 @@ use std::alloc::{AllocError, Global};
 use sw_probe::KeyHash;
 
 /// The rows of a table that are still to come. Of each that is kept it hands on the cells in some
-/// columns, one behind the other, and nothing else is copied.
+/// columns as they stand, one behind the other, and nothing else is copied.
 #[derive(Drop)]
 pub struct TableRows<'a, H: KeyHash<Key>> {
     pub alloc: Global,
@@ -25,7 +25,7 @@ pub struct TableRows<'a, H: KeyHash<Key>> {
 #[inline(always)]
 fn cells_of(alloc: Global, spare: Row, row: &Row, columns: &[usize]) -> Result<Row, AllocError>
     requires { All (λ column. column < length row.now) columns.now }
-    ensures { IfOk result (λ cells. cells ≡ key_of columns.now row.now) }
+    ensures { IfOk result (λ cells. cells ≡ cells_in columns.now row.now) }
 {
     let mut cells = spare.into_cells();
     cells.truncate(columns.len());
@@ -44,7 +44,7 @@ fn write_cells(
 ) -> Result<(), AllocError>
     requires within { All (λ column. column < length row.now) columns.now }
     requires all { length cells.old ≡ length columns.now }
-    ensures { OnOk result (cells.new ≡ key_of columns.now row.now) }
+    ensures { OnOk result (cells.new ≡ cells_in columns.now row.now) }
 {
     for i in 0..columns.len() {
         write_cell(alloc, row.cell(columns[i]), &mut cells[i])?;
@@ -60,7 +60,7 @@ fn push_cells(
     columns: &[usize],
 ) -> Result<(), AllocError>
     requires { All (λ column. column < length row.now) columns.now }
-    ensures { OnOk result (cells.new.items ≡ cells.old.items ++ key_of columns.now row.now) }
+    ensures { OnOk result (cells.new.items ≡ cells.old.items ++ cells_in columns.now row.now) }
 {
     for column in columns {
         cells.push(row.cell(*column).copy(alloc)?)?;
@@ -68,7 +68,7 @@ fn push_cells(
     Ok(())
 }
 
-// Writes a value over another; a text over a text in its memory, where that is enough.
+// Writes a value over another; a text over a text of its kind in its memory, where that is enough.
 #[inline]
 fn write_cell(alloc: Global, value: &Value, over: &mut Value) -> Result<(), AllocError>
     ensures { OnOk result (over.new ≡ value.now) }
@@ -77,6 +77,7 @@ fn write_cell(alloc: Global, value: &Value, over: &mut Value) -> Result<(), Allo
         Value::Null => *over = Value::Null,
         Value::Int(n) => *over = Value::Int(*n),
         Value::Text(text) => write_text(alloc, text, over)?,
+        Value::NoCase(text) => write_without_case(alloc, text, over)?,
     }
     Ok(())
 }
@@ -91,10 +92,20 @@ fn write_text(alloc: Global, text: &Text, over: &mut Value) -> Result<(), AllocE
     Ok(())
 }
 
+fn write_without_case(alloc: Global, text: &Text, over: &mut Value) -> Result<(), AllocError>
+    ensures { OnOk result (over.new ≡ variant.NoCase text.now) }
+{
+    match over {
+        Value::NoCase(old) => old.write(text.as_str())?,
+        _ => *over = Value::NoCase(text.copy(alloc)?),
+    }
+    Ok(())
+}
+
 impl<'a, H: KeyHash<Key>, S: RunStore> RowSource<S> for TableRows<'a, H> {
     ghost use Rattle.std.specs.Prelude.{◌≡◌, false, filter, length, map, option_copied, refl};
-    ghost use Rattle.gq_row.specs.Rows.{key_of};
-    ghost use Rattle.gq_query.specs.Asking.{no_runs};
+    ghost use Rattle.gq_row.specs.Rows.{cells_in};
+    ghost use Rattle.gq_query.specs.Sources.{no_runs};
     ghost use Rattle.gq_query.specs.Keeping.{AreLong, is_kept, ours_of};
     ghost use Rattle.gq_query.specs.Sources.{none_live};
 
@@ -104,7 +115,7 @@ impl<'a, H: KeyHash<Key>, S: RunStore> RowSource<S> for TableRows<'a, H> {
         AreLong (ours_of (option_copied s.kept.now.matching)) s.rows };
 
     ghost gives = { λ s runs rows.
-        rows ≡ map (key_of s.columns.now) (filter (is_kept s.kept.now) s.rows) };
+        rows ≡ map (cells_in s.columns.now) (filter (is_kept s.kept.now) s.rows) };
 
     ghost bound = { λ s. length s.rows };
 
@@ -128,7 +139,7 @@ impl<'a, H: KeyHash<Key>, S: RunStore> RowSource<S> for TableRows<'a, H> {
     ghost own_live = { λ s runs ready run own. none_live runs run own };
 
     ghost has_rows = { λ s runs ready honest.
-        (map (key_of s.columns.now) (filter (is_kept s.kept.now) s.rows), refl) };
+        (map (cells_in s.columns.now) (filter (is_kept s.kept.now) s.rows), refl) };
 
     ghost stays_ready = { λ s old new kept ready. ready };
 

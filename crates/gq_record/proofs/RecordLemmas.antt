@@ -9,7 +9,7 @@ use Rattle.std.proofs.lemmas.Int.{to_z-of_z, of_z-to_z, ints}
 use Rattle.std.proofs.lemmas.Nat.{be_bytes_4, be_bytes_8, from_be_bytes-to_be_bytes_4, from_be_bytes-to_be_bytes_8}
 use Rattle.byteorder.specs.Endian.{big_number}
 use Rattle.gq_row.specs.declared.value.Value.{Value}
-use Rattle.gq_row.specs.declared.value.Value.TheVariants.{Null, Int, Text}
+use Rattle.gq_row.specs.declared.value.Value.TheVariants.{Null, Int, Text, NoCase}
 use Rattle.gq_record.specs.Records.{with_length, number_bytes, value_bytes, body_of, record_of, IsText, IsCell, IsStorable}
 use Rattle.gq_record.specs.Laws.{TellsOneRow}
 
@@ -64,18 +64,28 @@ unfolding value_bytes
 value_once Null Null x y p q e = (refl, cc)
 value_once Null (Int n) x y p q e = absurd cc
 value_once Null (Text t) x y p q e = absurd cc
+value_once Null (NoCase t) x y p q e = absurd cc
 value_once (Int m) Null x y p q e = absurd cc
 value_once (Int m) (Int n) x y p q e =
     let tails : number_bytes m ++ x ≡ number_bytes n ++ y = ap (drop 1) e in
     let parts = int_once m n x y p q tails in
     (ap Int parts.0, parts.1)
 value_once (Int m) (Text t) x y p q e = absurd cc
+value_once (Int m) (NoCase t) x y p q e = absurd cc
 value_once (Text s) Null x y p q e = absurd cc
 value_once (Text s) (Int n) x y p q e = absurd cc
 value_once (Text s) (Text t) x y p q e =
     let tails : with_length s ++ x ≡ with_length t ++ y = ap (drop 1) e in
     let parts = block_once s t x y p.short q.short tails in
     (ap Text parts.0, parts.1)
+value_once (Text s) (NoCase t) x y p q e = absurd cc
+value_once (NoCase s) Null x y p q e = absurd cc
+value_once (NoCase s) (Int n) x y p q e = absurd cc
+value_once (NoCase s) (Text t) x y p q e = absurd cc
+value_once (NoCase s) (NoCase t) x y p q e =
+    let tails : with_length s ++ x ≡ with_length t ++ y = ap (drop 1) e in
+    let parts = block_once s t x y p.short q.short tails in
+    (ap NoCase parts.0, parts.1)
 
 -- a value has at least one byte
 value_some : (v : Value) (x : List ℕ) → value_bytes v ++ x ≡ [] → ⊥
@@ -83,12 +93,14 @@ unfolding value_bytes
 value_some Null x e = cc
 value_some (Int n) x e = cc
 value_some (Text t) x e = cc
+value_some (NoCase t) x e = cc
 
 pub value_shortens : (v : Value) (bytes rest : List ℕ) → bytes ≡ value_bytes v ++ rest → length rest < length bytes
 unfolding value_bytes
 value_shortens Null bytes rest e = omega (arith, ap length e)
 value_shortens (Int n) bytes rest e = omega (arith, ap length e)
 value_shortens (Text t) bytes rest e = omega (arith, simp length-append at (ap length e))
+value_shortens (NoCase t) bytes rest e = omega (arith, simp length-append at (ap length e))
 
 -- no value begins with another tag, nor stands where too few bytes or no text follow its tag
 pub none_empty : (v : Value) (rest : List ℕ) → [] ≡ value_bytes v ++ rest → ⊥
@@ -99,18 +111,28 @@ unfolding value_bytes
 none_int Null bytes rest short e = cc
 none_int (Int n) bytes rest short e = omega (arith, ap length e)
 none_int (Text t) bytes rest short e = cc
+none_int (NoCase t) bytes rest short e = cc
 
 pub none_text : (v : Value) (bytes rest : List ℕ) → IsCell v → ((text behind : List ℕ) → IsText text → bytes ≡ with_length text ++ behind → ⊥) → 2 ∷ bytes ≡ value_bytes v ++ rest → ⊥
 unfolding value_bytes
 none_text Null bytes rest fits none e = cc
 none_text (Int n) bytes rest fits none e = cc
 none_text (Text t) bytes rest fits none e = none t rest fits (ap (drop 1) e)
+none_text (NoCase t) bytes rest fits none e = cc
 
-pub none_other : (v : Value) (tag : ℕ) (bytes rest : List ℕ) → tag ≢ 0 → tag ≢ 1 → tag ≢ 2 → tag ∷ bytes ≡ value_bytes v ++ rest → ⊥
+pub none_no_case : (v : Value) (bytes rest : List ℕ) → IsCell v → ((text behind : List ℕ) → IsText text → bytes ≡ with_length text ++ behind → ⊥) → 3 ∷ bytes ≡ value_bytes v ++ rest → ⊥
 unfolding value_bytes
-none_other Null tag bytes rest a b c e = a cc
-none_other (Int n) tag bytes rest a b c e = b cc
-none_other (Text t) tag bytes rest a b c e = c cc
+none_no_case Null bytes rest fits none e = cc
+none_no_case (Int n) bytes rest fits none e = cc
+none_no_case (Text t) bytes rest fits none e = cc
+none_no_case (NoCase t) bytes rest fits none e = none t rest fits (ap (drop 1) e)
+
+pub none_other : (v : Value) (tag : ℕ) (bytes rest : List ℕ) → tag ≢ 0 → tag ≢ 1 → tag ≢ 2 → tag ≢ 3 → tag ∷ bytes ≡ value_bytes v ++ rest → ⊥
+unfolding value_bytes
+none_other Null tag bytes rest a b c d e = a cc
+none_other (Int n) tag bytes rest a b c d e = b cc
+none_other (Text t) tag bytes rest a b c d e = c cc
+none_other (NoCase t) tag bytes rest a b c d e = d cc
 
 -- ---- rows
 

@@ -2,7 +2,7 @@
 use Rattle.std.specs.Prelude.{◌<◌, ◌^◌, ℕ, ℤ, All, List, [], ◌∷◌, ◌++◌, length, flat_map, IsUtf8, FitsSigned}
 use Rattle.std.specs.Int.{to_be_bytes, w32, w64, cast_unsigned}
 use Rattle.gq_row.specs.declared.value.Value.{Value}
-use Rattle.gq_row.specs.declared.value.Value.TheVariants.{Null, Int, Text}
+use Rattle.gq_row.specs.declared.value.Value.TheVariants.{Null, Int, Text, NoCase}
 
 -- bytes with their number before them, in four bytes, the highest first
 abbrev pub with_length : List ℕ → List ℕ
@@ -12,11 +12,12 @@ with_length bytes = to_be_bytes w32 (length bytes) ++ bytes
 abbrev pub number_bytes : ℤ → List ℕ
 number_bytes n = to_be_bytes w64 (cast_unsigned w64 n)
 
--- a value: a byte that tells its kind, and then nothing, the number, or the text with its length
+-- a value: a byte that tells its kind, and then nothing, the number, or the text as it is written with its length
 unfoldable pub value_bytes : Value → List ℕ
 value_bytes Null = 0 ∷ []
 value_bytes (Int n) = 1 ∷ number_bytes n
 value_bytes (Text t) = 2 ∷ with_length t
+value_bytes (NoCase t) = 3 ∷ with_length t
 
 -- the values of a row, one after the other
 abbrev pub body_of : List Value → List ℕ
@@ -40,6 +41,7 @@ abbrev pub IsCell : Value → Type 0
 IsCell Null = Unit {0}
 IsCell (Int n) = FitsSigned w64 n
 IsCell (Text t) = IsText t
+IsCell (NoCase t) = IsText t
 
 -- a row that has a record: its body is shorter than 2^32 bytes
 pub record IsStorable (row : List Value) : Type 0 where

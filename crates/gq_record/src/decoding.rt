@@ -4,7 +4,7 @@ ghost use Rattle.std.specs.Int.{to_be_bytes, w32, w64};
 ghost use Rattle.gq_row.specs.declared.value.Value.{Value as Cell};
 ghost use Rattle.gq_record.specs.Records.{IsStorable, IsCell, IsText, record_of, body_of, value_bytes, with_length, number_bytes};
 
-use crate::kinds::{INT, NULL, TEXT};
+use crate::kinds::{INT, NO_CASE, NULL, TEXT};
 use byteorder::{BigEndian, ByteOrder};
 use gq_row::{Row, Text, Value};
 use std::alloc::{AllocError, Global};
@@ -85,6 +85,10 @@ fn take_value(alloc: Global, bytes: &[u8]) -> Result<Option<(Value, &[u8])>, All
         },
         TEXT => match take_text(alloc, rest)? {
             Some((text, rest)) => Ok(Some((Value::Text(text), rest))),
+            None => Ok(None),
+        },
+        NO_CASE => match take_text(alloc, rest)? {
+            Some((text, rest)) => Ok(Some((Value::NoCase(text), rest))),
             None => Ok(None),
         },
         _ => Ok(None),

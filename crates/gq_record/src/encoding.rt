@@ -1,11 +1,11 @@
 //! Rows to records.
 ghost use Rattle.std.specs.Prelude.{◌≡◌, ◌↔◌, take, ◌++◌, ◌<◌, ◌^◌, All, length, OnOk, OnErr, IsTrue, IfSome, IfNone};
 ghost use Rattle.std.specs.Int.{to_be_bytes, w32};
-ghost use Rattle.gq_record.specs.Records.{IsStorable, IsCell, record_of, body_of, value_bytes, number_bytes};
+ghost use Rattle.gq_record.specs.Records.{IsStorable, IsCell, record_of, body_of, value_bytes, with_length, number_bytes};
 
-use crate::kinds::{INT, NULL, TEXT};
+use crate::kinds::{INT, NO_CASE, NULL, TEXT};
 use byteorder::{BigEndian, ByteOrder};
-use gq_row::{Row, Value};
+use gq_row::{Row, Text, Value};
 use std::alloc::AllocError;
 
 // Puts a length at the end.
@@ -29,6 +29,16 @@ fn put_number(n: i64, out: &mut Vec<u8>) -> Result<(), AllocError>
     out.extend_from_slice(&field)
 }
 
+// Puts a text behind its length at the end, as it is written.
+fn put_text(text: &Text, out: &mut Vec<u8>) -> Result<(), AllocError>
+    requires { length text.now < 2 ^ 32 }
+    ensures ok { OnOk result (out.new.items ≡ out.old.items ++ with_length text.now) }
+    ensures keeps { take (length out.old.items) out.new.items ≡ out.old.items }
+{
+    put_length(text.len(), out)?;
+    out.extend_from_slice(text.as_str().as_bytes())
+}
+
 // Puts a value at the end.
 #[tactic(auto, unfolding(crate::specs::Records::value_bytes))]
 fn put_value(value: &Value, out: &mut Vec<u8>) -> Result<(), AllocError>
@@ -44,8 +54,11 @@ fn put_value(value: &Value, out: &mut Vec<u8>) -> Result<(), AllocError>
         }
         Value::Text(text) => {
             out.push(TEXT)?;
-            put_length(text.len(), out)?;
-            out.extend_from_slice(text.as_str().as_bytes())?;
+            put_text(text, out)?;
+        }
+        Value::NoCase(text) => {
+            out.push(NO_CASE)?;
+            put_text(text, out)?;
         }
     }
     Ok(())
@@ -77,7 +90,7 @@ fn value_len(value: &Value) -> Option<u64>
             let _n = *n;
             Some(9)
         }
-        Value::Text(text) => {
+        Value::Text(text) | Value::NoCase(text) => {
             let chars = text.as_str();
             if chars.len() > u32::MAX as usize {
                 return None;

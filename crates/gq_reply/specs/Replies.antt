@@ -3,7 +3,7 @@ use Rattle.std.specs.Prelude.{ℕ, Bool, true, false, List, [], ◌++◌, length
 use Rattle.std.specs.Fmt.{signed_decimal}
 use Rattle.csv.specs.Writing.{row_text, default_writer}
 use Rattle.gq_row.specs.declared.value.Value.{Value}
-use Rattle.gq_row.specs.declared.value.Value.TheVariants.{Null, Int, Text}
+use Rattle.gq_row.specs.declared.value.Value.TheVariants.{Null, Int, Text, NoCase}
 use Rattle.gq_reply.specs.declared.refusal.Refusal.{Refusal}
 use Rattle.gq_reply.specs.declared.refusal.Refusal.TheVariants as refusal
 use Rattle.gq_reply.specs.declared.reply.Reply.{Reply}
@@ -49,11 +49,12 @@ name_of refusal.StoreFault = codes "StoreFault"
 name_of refusal.Damaged = codes "Damaged"
 name_of refusal.LoadOpen = codes "LoadOpen"
 
--- the field of a value: null is \N, a number its decimal, a text its bytes
+-- the field of a value: null is \N, a number its decimal, a text its bytes, with case or without
 abbrev pub cell_text : Value → List ℕ
 cell_text Null = codes "\\N"
 cell_text (Int n) = signed_decimal n
 cell_text (Text t) = t
+cell_text (NoCase t) = t
 
 -- a record as the CSV writer spells it
 abbrev pub record_text : List (List ℕ) → List ℕ

@@ -78,7 +78,7 @@ fn push_cell(line: &mut ByteRecord, cell: &Value) -> Result<(), AllocError>
             let mut digits = Buffer::new();
             line.push_field(digits.format(*n).as_bytes())
         }
-        Value::Text(text) => line.push_field(text.as_str().as_bytes()),
+        Value::Text(text) | Value::NoCase(text) => line.push_field(text.as_str().as_bytes()),
     }
 }
 

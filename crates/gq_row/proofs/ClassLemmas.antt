@@ -3,8 +3,9 @@ use Rattle.std.proofs.Common.{◌≡◌, ◌↔◌, ◌&&◌, ℕ, suc, Bool, tr
 use Rattle.std.specs.Prelude.{pos, negsuc}
 use Rattle.std.proofs.lemmas.Bool.Decides.{same_from_decides}
 use Rattle.gq_row.specs.declared.value.Value.{Value}
-use Rattle.gq_row.specs.declared.value.Value.TheVariants.{Null, Int, Text}
-use Rattle.gq_row.specs.Order.{same_value, same_key}
+use Rattle.gq_row.specs.declared.value.Value.TheVariants.{Null, Int, Text, NoCase}
+use Rattle.gq_row.specs.Folding.{folded}
+use Rattle.gq_row.specs.Order.{equal_value, same_key}
 use Rattle.gq_row.specs.Rows.{cell, key_of}
 use Rattle.gq_row.specs.Classes.{class_of, raised, Decoded, decode, spelled, bytes_of}
 use Rattle.gq_row.proofs.OrderLemmas.{same_key_exact, same_key_itself}
@@ -24,6 +25,7 @@ decode_class (Null ∷ values) = ap (λ (d : Decoded). whole (Null ∷ d.values)
 decode_class (Int (pos n) ∷ values) = ap (λ (d : Decoded). whole (Int (pos n) ∷ d.values)) (decode_class values)
 decode_class (Int (negsuc n) ∷ values) = ap (λ (d : Decoded). whole (Int (negsuc n) ∷ d.values)) (decode_class values)
 decode_class (Text t ∷ values) = ap (λ (d : Decoded). whole (Text d.parts ∷ d.values)) (decode_parts t (class_of values) values (decode_class values))
+decode_class (NoCase t ∷ values) = ap (λ (d : Decoded). whole (NoCase d.parts ∷ d.values)) (decode_parts t (class_of values) values (decode_class values))
 
 pub class_tells : (a b : List Value) → class_of a ≡ class_of b → a ≡ b
 class_tells a b e = ap (λ (d : Decoded). d.values) (sym (decode_class a) ∙ ap decode e ∙ decode_class b)
@@ -55,4 +57,10 @@ pub unequal_key : (columns : List ℕ) (row key : List Value) → (length column
 unequal_key [] row [] h = absurd (h refl)
 unequal_key [] row (v ∷ vs) h = refl
 unequal_key (c ∷ cs) row [] h = refl
-unequal_key (c ∷ cs) row (v ∷ vs) h = and_false (same_value (cell row c) v) (same_key (key_of cs row) vs) (unequal_key cs row vs (λ e. h (ap (λ n. suc n) e)))
+unequal_key (c ∷ cs) row (v ∷ vs) h = and_false (equal_value (folded (cell row c)) v) (same_key (key_of cs row) vs) (unequal_key cs row vs (λ e. h (ap (λ n. suc n) e)))
+
+pub unequal_folds : (cells key : List Value) → (length cells ≡ length key → ⊥) → false ≡ same_key (map folded cells) key
+unequal_folds [] [] h = absurd (h refl)
+unequal_folds [] (v ∷ vs) h = refl
+unequal_folds (c ∷ cs) [] h = refl
+unequal_folds (c ∷ cs) (v ∷ vs) h = and_false (equal_value (folded c) v) (same_key (map folded cs) vs) (unequal_folds cs vs (λ e. h (ap (λ n. suc n) e)))

@@ -1,20 +1,23 @@
 //! Keys as the keys of maps: the bytes that are hashed of them, and borrowed forms.
-ghost use Rattle.std.specs.Prelude.{◌≡◌, ◌<◌, All, length, fold};
+ghost use Rattle.std.specs.Prelude.{◌≡◌, ◌<◌, ◌%◌, ◌^◌, All, length, map, fold};
+ghost use Rattle.std.specs.Int.{w32, to_be_bytes};
+ghost use Rattle.gq_row.specs.Folding.{fold_case, folded};
 ghost use Rattle.gq_row.specs.Classes.{class_of, bytes_of, spelling, spelled};
 ghost use Rattle.gq_row.specs.Order.{same_key};
 ghost use Rattle.gq_row.specs.Rows.{key_of};
 
 use crate::key::Key;
 use crate::row::Row;
+use crate::text::Text;
 use crate::value::Value;
 use std::marker::Model;
 use sw_probe::{Keyed, Names, Step};
 
 /// Keys are the same where their values are. The bytes that are hashed of a key are those of its
 /// values, one after the other: null is 0; a number is 1 and its eight bytes in two's complement,
-/// the highest first; a text is 2, its length in four bytes, the highest first, and its own bytes.
-/// Of a length that needs more than 32 bits the low 32 count. They are folded one by one, without
-/// memory.
+/// the highest first; a text is 2, its length in four bytes, the highest first, and its own bytes; a
+/// text without case is 3, and then the same of its fold, which is what a key has. Of a length that
+/// needs more than 32 bits the low 32 count. They are folded one by one, without memory.
 impl Keyed for Key {
     ghost class = { class_of };
 
@@ -76,22 +79,38 @@ impl Names<Key> for KeyRef<'_> {
     }
 }
 
-/// Values as a borrowed key: they name the same class as the [`Key`] of these values.
+/// Values as a borrowed key: they name the same class as the [`Key`] of their folds.
 #[derive(Clone, Copy)]
 pub struct KeyCells<'a>(pub &'a [Value]);
 
 impl Names<Key> for KeyCells<'_> {
-    ghost named = { λ key. class_of key.0.now };
+    ghost named = { λ key. class_of (map folded key.0.now) };
 
     #[inline]
     fn same(&self, key: &Key) -> bool {
-        self.0 == key.cells()
+        have_folds(self.0, key.cells())
     }
 
     #[inline]
     fn fold<F: Step>(&self, start: u64, f: &F) -> u64 {
-        fold_cells(self.0, start, f)
+        fold_folded(self.0, start, f)
     }
+}
+
+// Whether the folds of some values are others.
+#[inline]
+fn have_folds(cells: &[Value], key: &[Value]) -> bool
+    ensures { result ≡ same_key (map folded cells.now) key.now }
+{
+    if cells.len() != key.len() {
+        return false;
+    }
+    for i in 0..cells.len() {
+        if !cells[i].folds_to(&key[i]) {
+            return false;
+        }
+    }
+    true
 }
 
 #[inline]
@@ -101,7 +120,18 @@ fn fold_row<F: Step>(positions: &[usize], row: &Row, start: u64, f: &F) -> u64
 {
     let mut acc = start;
     for position in positions {
-        acc = fold_value(row.cell(*position), acc, f);
+        acc = fold_cell(row.cell(*position), acc, f);
+    }
+    acc
+}
+
+#[inline]
+fn fold_folded<F: Step>(cells: &[Value], start: u64, f: &F) -> u64
+    ensures { result ≡ fold (F.next f.now) start (spelled (map folded cells.now)) }
+{
+    let mut acc = start;
+    for cell in cells {
+        acc = fold_cell(cell, acc, f);
     }
     acc
 }
@@ -117,6 +147,20 @@ fn fold_cells<F: Step>(cells: &[Value], start: u64, f: &F) -> u64
     acc
 }
 
+// The bytes of a value's fold, one by one: no fold of a text stands in memory.
+#[inline]
+fn fold_cell<F: Step>(value: &Value, start: u64, f: &F) -> u64
+    ensures { result ≡ fold (F.next f.now) start (spelling (folded value.now)) }
+{
+    match value {
+        Value::NoCase(text) => {
+            let acc = fold_length(text, f.step(start, 3), f);
+            fold_lowered(text.as_str().as_bytes(), acc, f)
+        }
+        _ => fold_value(value, start, f),
+    }
+}
+
 // A value's bytes into a fold: its tag first.
 #[inline]
 fn fold_value<F: Step>(value: &Value, start: u64, f: &F) -> u64
@@ -126,8 +170,11 @@ fn fold_value<F: Step>(value: &Value, start: u64, f: &F) -> u64
         Value::Null => f.step(start, 0),
         Value::Int(n) => fold_bytes(&n.to_be_bytes(), f.step(start, 1), f),
         Value::Text(text) => {
-            let length = (text.len() % 0x1_0000_0000) as u32;
-            let acc = fold_bytes(&length.to_be_bytes(), f.step(start, 2), f);
+            let acc = fold_length(text, f.step(start, 2), f);
+            fold_bytes(text.as_str().as_bytes(), acc, f)
+        }
+        Value::NoCase(text) => {
+            let acc = fold_length(text, f.step(start, 3), f);
             fold_bytes(text.as_str().as_bytes(), acc, f)
         }
     }
@@ -140,6 +187,27 @@ fn fold_bytes<F: Step>(bytes: &[u8], start: u64, f: &F) -> u64
     let mut acc = start;
     for byte in bytes {
         acc = f.step(acc, *byte);
+    }
+    acc
+}
+
+// The length of a text in four bytes.
+#[inline]
+fn fold_length<F: Step>(text: &Text, start: u64, f: &F) -> u64
+    ensures { result ≡ fold (F.next f.now) start (to_be_bytes w32 (length text.now % 2 ^ 32)) }
+{
+    let length = (text.len() % 0x1_0000_0000) as u32;
+    fold_bytes(&length.to_be_bytes(), start, f)
+}
+
+// The bytes of a text's fold.
+#[inline]
+fn fold_lowered<F: Step>(bytes: &[u8], start: u64, f: &F) -> u64
+    ensures { result ≡ fold (F.next f.now) start (fold_case bytes.now) }
+{
+    let mut acc = start;
+    for byte in bytes {
+        acc = f.step(acc, byte.to_ascii_lowercase());
     }
     acc
 }

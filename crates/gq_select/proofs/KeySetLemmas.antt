@@ -8,8 +8,10 @@ use Rattle.std.proofs.lemmas.List.Folds.{list_any-append}
 use Rattle.sw_table.specs.Entries.{Entries}
 use Rattle.sw_flat.proofs.Classes.{same, same_is, same_itself}
 use Rattle.gq_row.specs.declared.value.Value.{Value}
+use Rattle.gq_row.specs.declared.value.Value.TheVariants.{Null, Int, Text, NoCase}
 use Rattle.gq_row.specs.Classes.{class_of}
 use Rattle.gq_row.specs.Fitting.{is_null, has_null}
+use Rattle.gq_row.specs.Folding.{folded}
 use Rattle.gq_row.specs.Order.{same_key}
 use Rattle.gq_row.specs.Rows.{cell, key_of}
 use Rattle.gq_row.specs.Tables.{has_row}
@@ -33,10 +35,17 @@ none_of : (n : Bool) → (n && false) ≡ false
 none_of true = refl
 none_of false = refl
 
+-- a value is null where its fold is
+null_folded : (v : Value) → is_null (folded v) ≡ is_null v
+null_folded Null = refl
+null_folded (Int n) = refl
+null_folded (Text t) = refl
+null_folded (NoCase t) = refl
+
 -- a row has null in some columns where its key there has
 pub null_key : (columns : List ℕ) (row : List Value) → list_any is_null (key_of columns row) ≡ has_null columns row
 null_key [] row = refl
-null_key (column ∷ columns) row = ap (λ b. is_null (cell row column) || b) (null_key columns row)
+null_key (column ∷ columns) row = λ i. null_folded (cell row column) i || null_key columns row i
 
 same_has_null : (columns : List ℕ) (row key : List Value) → has_null columns row ≡ true → same_key (key_of columns row) key ≡ true → list_any is_null key ≡ true
 same_has_null columns row key null is = ap (list_any is_null) (sym (same_key_exact (key_of columns row) key is)) ∙ null_key columns row ∙ null

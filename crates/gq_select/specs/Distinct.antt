@@ -4,7 +4,7 @@ use Rattle.gq_row.specs.declared.value.Value.{Value}
 use Rattle.gq_row.specs.Tables.{keys}
 use Rattle.gq_group.specs.Groups.{Group}
 
--- each different key of the rows once, with an empty list of values
+-- each different key of the rows once, by its fold, with an empty list of values
 abbrev pub bare_keys : List ℕ → List (List Value) → List Group
 bare_keys columns rows = map (λ key. (key, [])) (keys columns rows)
 

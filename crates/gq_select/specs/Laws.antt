@@ -1,5 +1,5 @@
 -- What the definitions come to, in the subject's own words.
-use Rattle.std.specs.Prelude.{◌≡◌, ◌&&◌, ℕ, Bool, true, false, not, IsTrue, List, [], ◌∷◌}
+use Rattle.std.specs.Prelude.{◌≡◌, ◌&&◌, ◌||◌, ℕ, Bool, true, false, not, IsTrue, List, [], ◌∷◌, if◌then◌else◌}
 use Rattle.std.specs.List.{list_all}
 use Rattle.std.specs.declared.cmp.Ordering.{Ordering}
 use Rattle.gq_row.specs.declared.value.Value.{Value}
@@ -7,7 +7,8 @@ use Rattle.gq_row.specs.declared.comparison.Comparison.{Comparison}
 use Rattle.gq_row.specs.declared.comparison.Comparison.TheVariants.{Equal, NotEqual, Less, LessEqual, Greater, GreaterEqual}
 use Rattle.gq_row.specs.Comparisons.{passes}
 use Rattle.gq_row.specs.Fitting.{is_null, has_null}
-use Rattle.gq_row.specs.Order.{compare_values, same_value}
+use Rattle.gq_row.specs.Folding.{folded, has_case, without_case}
+use Rattle.gq_row.specs.Order.{condition_order, plain_order, equal_value, same_value}
 use Rattle.gq_row.specs.Tables.{has_row}
 use Rattle.gq_row.specs.Rows.{key_of}
 use Rattle.gq_select.specs.declared.condition.Operand.{Operand}
@@ -16,7 +17,7 @@ use Rattle.gq_select.specs.declared.condition.Test.TheVariants.{Compare, IsNull,
 use Rattle.gq_select.specs.declared.truth.Truth.{Truth}
 use Rattle.gq_select.specs.declared.truth.Truth.TheVariants.{True, False, Unknown}
 use Rattle.gq_select.specs.Matches.{exists}
-use Rattle.gq_select.specs.Truths.{is_unknown, value_of, all_of, truth, is_true_in, keeps}
+use Rattle.gq_select.specs.Truths.{is_unknown, decided, value_of, compared, all_of, truth, is_true_in, keeps}
 
 -- SQL's table of `and`
 abbrev pub both : Truth → Truth → Truth
@@ -48,12 +49,18 @@ pub record KeepsWhatIsTrue : Type 0 where
   pub each : (tests : List Test) (row : List Value) → keeps tests row ≡ list_all (is_true_in row) tests
   pub none_by_null : (a b : Operand) (comparison : Comparison) (row : List Value) → compares_values row (Compare a comparison b) ≡ false → keeps (Compare a comparison b ∷ []) row ≡ false
 
--- `<>`, `>=` and `>` are the opposites of `=`, `<` and `<=`, and values are equal where they are the same
+-- `<>`, `>=` and `>` are the opposites of `=`, `<` and `<=`; `=` holds of equal values where both have case, and where one is a text without case of those that are the same, a text taken as such
 pub record ComparisonsAgree : Type 0 where
-  pub equal : (a b : Value) → passes Equal (compare_values a b) ≡ same_value a b
+  pub equal : (a b : Value) → IsTrue (has_case a) → IsTrue (has_case b) → passes Equal (condition_order a b) ≡ equal_value a b
+  pub same : (a b : Value) → (has_case a && has_case b) ≡ false → passes Equal (condition_order a b) ≡ same_value (without_case a) (without_case b)
   pub not_equal : (order : Ordering) → passes NotEqual order ≡ not (passes Equal order)
   pub at_least : (order : Ordering) → passes GreaterEqual order ≡ not (passes Less order)
   pub above : (order : Ordering) → passes Greater order ≡ not (passes LessEqual order)
+
+-- where both values have case, a comparison goes by their plain order; where one is a text without case, it is that of both by their folds, a text taken without its case
+pub record MindsCase : Type 0 where
+  pub with_case : (comparison : Comparison) (a b : Value) → IsTrue (has_case a) → IsTrue (has_case b) → compared comparison a b ≡ (if is_null a || is_null b then Unknown else decided (passes comparison (plain_order a b)))
+  pub by_folds : (comparison : Comparison) (a b : Value) → (has_case a && has_case b) ≡ false → compared comparison a b ≡ compared comparison (folded (without_case a)) (folded (without_case b))
 
 -- a row with null in its columns has no match, and a row of the others with null in theirs is none; of any other row a match is a row that has its key
 pub record NullHasNoMatch : Type 0 where

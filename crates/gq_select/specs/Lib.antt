@@ -1,3 +1,4 @@
+pub mod Asking
 pub mod Distinct
 pub mod KeySets
 pub mod Laws

@@ -11,7 +11,7 @@ use Rattle.gq_select.specs.declared.matching.Matching.{Matching}
 abbrev pub is_key_among : List ℕ → List (List Value) → List Value → Bool
 is_key_among columns rows key = not (list_any is_null key) && has_row columns rows key
 
--- whether some row of others has in its columns the values of this row in its own, none of them null
+-- whether some row of others has in its columns the same values as this row in its own, none of them null
 abbrev pub exists : List Value → List ℕ → List (List Value) → List ℕ → Bool
 exists row columns others theirs = is_key_among theirs others (key_of columns row)
 

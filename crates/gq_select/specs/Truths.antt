@@ -5,7 +5,7 @@ use Rattle.gq_row.specs.declared.value.Value.{Value}
 use Rattle.gq_row.specs.declared.comparison.Comparison.{Comparison}
 use Rattle.gq_row.specs.Comparisons.{passes}
 use Rattle.gq_row.specs.Fitting.{is_null}
-use Rattle.gq_row.specs.Order.{compare_values}
+use Rattle.gq_row.specs.Order.{condition_order}
 use Rattle.gq_row.specs.Rows.{cell}
 use Rattle.gq_select.specs.declared.condition.Operand.{Operand}
 use Rattle.gq_select.specs.declared.condition.Operand.TheVariants.{Column, Literal}
@@ -40,9 +40,9 @@ abbrev pub value_of : Operand → List Value → Value
 value_of (Column column) row = cell row column
 value_of (Literal v) row = v
 
--- a comparison is unknown where a compared value is null, and else as the order of values decides
+-- a comparison is unknown where a compared value is null, and else as the order of the two in a condition decides
 abbrev pub compared : Comparison → Value → Value → Truth
-compared comparison a b = if is_null a || is_null b then Unknown else decided (passes comparison (compare_values a b))
+compared comparison a b = if is_null a || is_null b then Unknown else decided (passes comparison (condition_order a b))
 
 -- the truth of a test in a row; whether a value is null is never unknown
 abbrev pub truth_of : Test → List Value → Truth

@@ -5,7 +5,7 @@ ghost use Rattle.std.specs.List.{list_all};
 ghost use Rattle.gq_select.specs.Truths.{known, value_of, truth_of, truth, is_true_in, keeps};
 
 use crate::truth::Truth;
-use gq_row::{Comparison, Row, Sequence, Value, compare};
+use gq_row::{Comparison, Row, Sequence, Value, compare_in_condition};
 
 /// What a test asks of.
 #[derive(Drop)]
@@ -48,15 +48,18 @@ impl Operand {
 }
 
 impl Test {
-    /// Its truth in a row. A comparison is unknown where one of its values is null, and else as the
-    /// order of values decides. Whether a value is null is never unknown.
+    /// Its truth in a row. A comparison is unknown where one of its values is null, and else as their
+    /// order decides: by their folds where one is a text without case, a text taken as such. Whether
+    /// a value is null is never unknown.
     #[inline]
     pub fn truth(&self, row: &Row) -> Truth
         ensures { result ≡ truth_of self.now row.now }
     {
         match self {
             Test::Compare(a, comparison, b) => match (a.known(row), b.known(row)) {
-                (Some(a), Some(b)) => Truth::decided(comparison.passes(compare(a, b))),
+                (Some(a), Some(b)) => {
+                    Truth::decided(comparison.passes(compare_in_condition(a, b)))
+                }
                 _ => Truth::Unknown,
             },
             Test::IsNull(a) => Truth::decided(a.known(row).is_none()),

@@ -75,7 +75,7 @@ impl<H: KeyHash<Key>> KeySet<H> {
     }
 }
 
-/// Whether some row of those whose keys these are has in its columns the values of `row` in
+/// Whether some row of those whose keys these are has in its columns the same values as `row` in
 /// `columns`, none of them null. Nothing is copied.
 #[inline]
 pub fn semi_join<H: KeyHash<Key>>(keys: &KeySet<H>, row: &Row, columns: &[usize]) -> bool

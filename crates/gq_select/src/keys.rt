@@ -15,7 +15,8 @@ use std::alloc::Global;
 use sw_probe::KeyHash;
 
 /// The different keys of the source's rows in some columns, of which there is one at least: each
-/// pushed to the sink once, in some order, with an empty list of values. Nulls are one key value.
+/// pushed to the sink once, in some order, with an empty list of values. Nulls are one key value, and
+/// so are the spellings of a text without case: a key is handed out by its fold.
 ///
 /// A refusal leaves the source behind some of its rows, and the sink with some of the keys; no sum
 /// is asked for, so `SumRange` is none of them. The keys are grouped as by [`group`], and rows are

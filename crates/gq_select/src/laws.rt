@@ -1,7 +1,7 @@
 //! Laws: what the definitions come to, in the subject's own words. Each is the contract of a
 //! function that does nothing.
 ghost use Rattle.gq_select.specs.Laws.{AndIsOfTwo, TwoValuedWithoutNull, KeepsWhatIsTrue};
-ghost use Rattle.gq_select.specs.Laws.{ComparisonsAgree, NullHasNoMatch};
+ghost use Rattle.gq_select.specs.Laws.{ComparisonsAgree, MindsCase, NullHasNoMatch};
 
 /// Tests are joined as by SQL's table of `and`, two at a time.
 pub fn and_is_of_two()
@@ -18,9 +18,15 @@ pub fn keeps_what_is_true()
     ensures { KeepsWhatIsTrue }
 {}
 
-/// Three comparisons are the opposites of the others, and equal values are those that are the same.
+/// Three comparisons are the opposites of the others, and `=` holds of values that are equal, or the
+/// same where one is a text without case.
 pub fn comparisons_agree()
     ensures { ComparisonsAgree }
+{}
+
+/// Values that have case are compared as they stand, and by their folds where one has none.
+pub fn minds_case()
+    ensures { MindsCase }
 {}
 
 /// Null matches nothing, on either side; else a match is a row that has the key.

@@ -1,5 +1,5 @@
 //! Which rows are kept: conditions with SQL's three truth values, rows that have a match among
-//! others, and the different keys of rows.
+//! others, and the different keys of rows; and what may be asked of those that are.
 //!
 //! - A [`Condition`] is a list of tests that are joined by `and`; a test compares two operands, a
 //!   column's value or a value of its own, or asks whether one is null. [`holds`] tells its
@@ -10,9 +10,11 @@
 //!   of a row, and [`anti_join`] that none is, as SQL's `exists` and `not exists` do on equal
 //!   columns: null equals nothing, so a row with null in one of its columns has no match. A
 //!   [`Matching`] says which of the two is asked, and of which columns.
-//! - [`distinct`] pushes each different key of the rows once. Nulls are one key value there.
+//! - [`distinct`] pushes each different key of the rows once, by its fold. Nulls are one key value there.
+//! - [`Shown`] is what may be asked of a group: an aggregate of a column, or how many different values it has.
 //!
 //! A comparison is unknown where one of its values is null; `is null` and `is not null` never are.
+//! Where one of its values is a text without case, a text is taken as such, and folds are compared.
 //! Of two truths the `and`:
 //!
 //! | and | true | unknown | false |
@@ -37,7 +39,7 @@
 //! [`holds`], [`filter`] and [`having`] are `truth` and `keeps` of `specs/Truths.antt`,
 //! [`semi_join`] is `exists` of `specs/Matches.antt` and [`anti_join`] its opposite, for every
 //! hasher. Where [`distinct`] succeeds over an honest store, the sink has the different keys of
-//! the source's rows more, in some order; over every store it leaves the runs of others as they
+//! the source's rows more, each by its fold, in some order; over every store it leaves the runs of others as they
 //! were, and refuses for a cause. The laws in [`laws`] say what the definitions come to.
 #![tactic(auto)]
 
@@ -46,10 +48,12 @@ mod join;
 mod keys;
 pub mod laws;
 mod matching;
+mod shown;
 mod truth;
 
 pub use condition::{Condition, Operand, Test, filter, having, holds};
 pub use join::{KeySet, anti_join, semi_join};
 pub use keys::distinct;
 pub use matching::Matching;
+pub use shown::Shown;
 pub use truth::Truth;

@@ -13,8 +13,12 @@ use Rattle.gq_shell.specs.Session.{EndedWith, report_of}
 use Rattle.gq_shell.specs.Streams.{Stream, IsUntouched, Got, GotFront}
 use Rattle.gq_options.specs.Words.{Reads, asked_by}
 use Rattle.gq_options.specs.declared.options.BadLine.{BadLine}
-use Rattle.gq_options.specs.declared.options.BadLine.TheVariants.{Help, Mistake, Memory}
+use Rattle.gq_options.specs.declared.options.BadLine.TheVariants.{Help, Version, Mistake, Memory}
 use Rattle.gq_options.specs.declared.options.Options.{Options}
+use Rattle.gq_options.specs.declared.options.Seed.{Seed}
+use Rattle.gq_options.specs.declared.options.Seed.TheVariants.{Number, Random}
+use Rattle.gq_shell.specs.declared.seeding.RunSeed.{RunSeed}
+use Rattle.gq_shell.specs.declared.seeding.RunSeed.TheVariants.{Given, Drawn}
 
 -- The standard error got this text, as far as it took it, and this is the status.
 pub record Stopped (errors : Stream) (text : Bytes) (wanted status : ℕ) : Type 0 where
@@ -30,15 +34,16 @@ StoppedBy e text wanted errors status =
     (error_kind e ≡ kind.OutOfMemory → StoppedForMemory errors status)
     × (error_kind e ≢ kind.OutOfMemory → Stopped errors text wanted status)
 
--- the whole help went to the standard output; or it was cut short, and that is told as a write fault
-abbrev pub Helped : Bytes → Stream → Stream → ℕ → Type 0
-Helped text replies errors status =
+-- the whole of this text went to the standard output; or it was cut short, and that is told as a write fault
+abbrev pub Printed : Bytes → Stream → Stream → ℕ → Type 0
+Printed text replies errors status =
     (Got replies text × IsUntouched errors × (status ≡ 0))
     ⊎ (GotFront replies text × Stopped errors (codes "groupsh: write fault\n") 3 status)
 
 -- what a command line that asks for no run came to
 abbrev pub AnsweredBadLine : BadLine → Stream → Stream → ℕ → Type 0
-AnsweredBadLine (Help text) replies errors status = Helped (string_bytes text) replies errors status
+AnsweredBadLine (Help text) replies errors status = Printed (string_bytes text) replies errors status
+AnsweredBadLine (Version text) replies errors status = Printed (string_bytes text) replies errors status
 AnsweredBadLine (Mistake text) replies errors status = IsUntouched replies × Stopped errors (string_bytes text) 2 status
 AnsweredBadLine Memory replies errors status = IsUntouched replies × StoppedForMemory errors status
 
@@ -50,11 +55,22 @@ setting_by folder = record { limits = GREATEST; honest = not (is_some folder) }
 abbrev pub NOTHING : State
 NOTHING = record { database = []; failures = 0 }
 
--- A session of an engine without tables read this script, and reported its work where that was asked for.
-pub record RanScript (asked : Asked) (script : Option Bytes) (replies errors : Stream) (status : ℕ) : Type 0 where
+-- the seed of a run is the number that was asked for, or was drawn where a random one was
+abbrev pub IsSeedFor : Seed → RunSeed → Type 0
+IsSeedFor (Number asked) seed = seed ≡ Given asked
+IsSeedFor Random (Given number) = ⊥
+IsSeedFor Random (Drawn number) = Unit {0}
+
+-- such a seed; or an error, where a random one was asked for
+abbrev pub DrawsFor : Seed → Result RunSeed Error → Type 0
+DrawsFor asked (Ok seed) = IsSeedFor asked seed
+DrawsFor asked (Err e) = asked ≡ Random
+
+-- A session of an engine without tables read this script, and reported its work where that was asked for, and this seed if it was drawn.
+pub record RanScript (asked : Asked) (seed : RunSeed) (script : Option Bytes) (replies errors : Stream) (status : ℕ) : Type 0 where
   pub new : State
   pub spent : Spent
-  pub ended : EndedWith (setting_by asked.spill) NOTHING script new (report_of asked.stats spent) replies errors status
+  pub ended : EndedWith (setting_by asked.spill) NOTHING script new (report_of asked.stats seed spent) replies errors status
 
 -- Where scripts come from: the bytes of the standard input, and what opening a path may give.
 pub record Sources (S : Type 0) : Type 1 where
@@ -63,21 +79,27 @@ pub record Sources (S : Type 0) : Type 1 where
   pub opens : Text → Result S Error → Type 0
 
 -- what opening a path gave was run; or it could not be opened
-abbrev pub RanOpened : {S : Type 0} → Sources S → Asked → Result S Error → Stream → Stream → ℕ → Type 0
-RanOpened sources asked (Ok script) replies errors status = RanScript asked (sources.remaining script) replies errors status
-RanOpened sources asked (Err e) replies errors status = IsUntouched replies × StoppedBy e (codes "groupsh: cannot open script\n") 3 errors status
+abbrev pub RanOpened : {S : Type 0} → Sources S → Asked → RunSeed → Result S Error → Stream → Stream → ℕ → Type 0
+RanOpened sources asked seed (Ok script) replies errors status = RanScript asked seed (sources.remaining script) replies errors status
+RanOpened sources asked seed (Err e) replies errors status = IsUntouched replies × StoppedBy e (codes "groupsh: cannot open script\n") 3 errors status
 
 -- without a path the standard input is the script
-abbrev pub RanNamed : {S : Type 0} → Sources S → Asked → Option Text → Stream → Stream → ℕ → Type 0
-RanNamed sources asked None replies errors status = RanScript asked sources.input replies errors status
-RanNamed {S} sources asked (Some path) replies errors status =
-    (opened : Result S Error) × sources.opens path opened × RanOpened sources asked opened replies errors status
+abbrev pub RanNamed : {S : Type 0} → Sources S → Asked → RunSeed → Option Text → Stream → Stream → ℕ → Type 0
+RanNamed sources asked seed None replies errors status = RanScript asked seed sources.input replies errors status
+RanNamed {S} sources asked seed (Some path) replies errors status =
+    (opened : Result S Error) × sources.opens path opened × RanOpened sources asked seed opened replies errors status
 
--- what was asked for was run; or there was no memory for a run store in a folder
+-- no seed came where a random one was asked for
+abbrev pub HadNoSeed : Asked → Stream → Stream → ℕ → Type 0
+HadNoSeed asked replies errors status =
+    (asked.seed ≡ Random) × IsUntouched replies × ((e : Error) × StoppedBy e (codes "groupsh: no random seed\n") 3 errors status)
+
+-- what was asked for was run, with such a seed; or none came, or there was no memory for a run store in a folder
 abbrev pub RanAsked : {S : Type 0} → Sources S → Asked → Stream → Stream → ℕ → Type 0
 RanAsked sources asked replies errors status =
-    RanNamed sources asked asked.script replies errors status
-    ⊎ (IsTrue (is_some asked.spill) × IsUntouched replies × StoppedForMemory errors status)
+    ((seed : RunSeed) × IsSeedFor asked.seed seed × RanNamed sources asked seed asked.script replies errors status)
+    ⊎ (HadNoSeed asked replies errors status
+    ⊎ (IsTrue (is_some asked.spill) × IsUntouched replies × StoppedForMemory errors status))
 
 -- what was done about a command line as it was read
 abbrev pub Did : {S : Type 0} → Sources S → Result Options BadLine → Stream → Stream → ℕ → Type 0

@@ -8,19 +8,31 @@ use Rattle.gq_engine.specs.declared.run.Fault.TheVariants.{Read, Write}
 use Rattle.gq_engine.specs.Headline.{Ran, State}
 use Rattle.gq_engine.specs.Runs.{Setting}
 use Rattle.gq_shell.specs.Streams.{Stream, GotFront}
+use Rattle.gq_shell.specs.declared.seeding.RunSeed.{RunSeed}
+use Rattle.gq_shell.specs.declared.seeding.RunSeed.TheVariants.{Given, Drawn}
 
 -- the exit status: 0 where all commands were accepted, 1 where some were refused, 3 after a fault
 abbrev pub status_of : Result Summary Fault → ℕ
 status_of (Ok summary) = if summary.refused == 0 then 0 else 1
 status_of (Err fault) = 3
 
--- the line on the work of a session's groupings
-abbrev pub work_line : Spent → Bytes
-work_line spent = codes "groupsh: read " ++ decimal spent.rows_read ++ codes ", written " ++ decimal spent.rows_written ++ codes ", groups " ++ decimal spent.groups ++ codes ", runs " ++ decimal spent.runs ++ codes "\n"
+-- the number of a seed, wherever it comes from
+abbrev pub number_of : RunSeed → ℕ
+number_of (Given number) = number
+number_of (Drawn number) = number
+
+-- what a line tells of the seed: the number, where it was drawn
+abbrev pub seed_told : RunSeed → Bytes
+seed_told (Given number) = []
+seed_told (Drawn number) = codes ", seed " ++ decimal number
+
+-- the line on the work of a session's groupings, and on the seed
+abbrev pub work_line : RunSeed → Spent → Bytes
+work_line seed spent = codes "groupsh: read " ++ decimal spent.rows_read ++ codes ", written " ++ decimal spent.rows_written ++ codes ", groups " ++ decimal spent.groups ++ codes ", runs " ++ decimal spent.runs ++ seed_told seed ++ codes "\n"
 
 -- the same where it is asked for, and else nothing
-abbrev pub report_of : Bool → Spent → Bytes
-report_of stats spent = if stats then work_line spent else []
+abbrev pub report_of : Bool → RunSeed → Spent → Bytes
+report_of stats seed spent = if stats then work_line seed spent else []
 
 -- what the standard error says: of a fault its line, and otherwise the report
 abbrev pub errors_text : Bytes → Result Summary Fault → Bytes

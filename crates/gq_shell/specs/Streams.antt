@@ -1,4 +1,4 @@
--- What the program's two streams got: the standard output, which is for replies and help, and the standard error, which is for all else.
+-- What the program's two streams got: the standard output, which is for replies, help and the version, and the standard error, which is for all else.
 use Rattle.std.specs.Prelude.{◌≡◌, Option, Result, Ok, Err}
 use Rattle.std.specs.Io.KnownBytes.{Appends}
 use Rattle.gq_command.specs.Commands.{Bytes}

@@ -11,16 +11,18 @@ use gq_options::read_words;
 use std::alloc::Global;
 use std::fs::Files;
 use std::io::{self, Read, Write};
+use std::random::RandomSource;
 
 /// Reads the command line, opens the script and runs it, and answers the exit status.
 ///
 /// `words` begin with the program's name, or are the error in reading them; `files` has the folder
-/// of a run store, and `opener` opens a script's path; `input` is the standard input, `replies` the
-/// standard output and `errors` the standard error.
-pub fn run_program<D, R, S, F, W, E>(
+/// of a run store, `source` gives the bytes of a random seed, and `opener` opens a script's path;
+/// `input` is the standard input, `replies` the standard output and `errors` the standard error.
+pub fn run_program<D, N, R, S, F, W, E>(
     alloc: Global,
     words: io::Result<Vec<String>>,
     files: &D,
+    source: &N,
     opener: F,
     input: R,
     replies: &mut W,
@@ -28,6 +30,7 @@ pub fn run_program<D, R, S, F, W, E>(
 ) -> u8
 where
     D: Files,
+    N: RandomSource,
     R: Read + Drop,
     S: Read + Drop,
     F: FnOnce(&str) -> io::Result<S>,
@@ -52,7 +55,9 @@ where
         }
     };
     match read_words(alloc, words.as_slice()) {
-        Ok(options) => run_script(alloc, options, files, opener, input, replies, errors),
+        Ok(options) => run_script(
+            alloc, options, files, source, opener, input, replies, errors,
+        ),
         Err(bad) => answer_bad_line(&bad, replies, errors),
     }
 }

@@ -7,6 +7,7 @@ ghost use Rattle.gq_shell.specs.Program.{NOTHING, RanAsked, RanNamed, RanScript,
 ghost use Rattle.gq_shell.specs.Streams.{stream};
 ghost use Rattle.gq_options.specs.Words.{asked_by};
 
+use crate::seeding::{RunSeed, draw};
 use crate::session::session;
 use crate::stopping::{answer_error, stop_for_memory};
 use gq_dir::DirStore;
@@ -16,15 +17,17 @@ use gq_row::Limits;
 use std::alloc::{AllocError, Global};
 use std::fs::Files;
 use std::io::{self, Read, Write};
+use std::random::RandomSource;
 use sw_probe::Fnv1a;
 
-/// Runs a script in a new engine under the greatest limits, with the seed and the budget given and a
-/// run store in the folder given, or in memory where there is none; and answers the exit status.
-/// The script is what `opener` gives for the path, and `input` where there is no path.
-pub fn run_script<D, R, S, F, W, E>(
+/// Runs a script in a new engine under the greatest limits, with the seed given or one of the source,
+/// the budget given and a run store in the folder given, or in memory where there is none; and answers
+/// the exit status. The script is what `opener` gives for the path, and `input` where there is no path.
+pub fn run_script<D, N, R, S, F, W, E>(
     alloc: Global,
     options: Options,
     files: &D,
+    source: &N,
     opener: F,
     input: R,
     replies: &mut W,
@@ -32,6 +35,7 @@ pub fn run_script<D, R, S, F, W, E>(
 ) -> u8
 where
     D: Files,
+    N: RandomSource,
     R: Read + Drop,
     S: Read + Drop,
     F: FnOnce(&str) -> io::Result<S>,
@@ -47,15 +51,19 @@ where
         (asked_by options.entry) (stream W.contents replies.old replies.new)
         (stream E.contents errors.old errors.new) result }
 {
+    let seed = match draw(options.seed, source) {
+        Ok(seed) => seed,
+        Err(error) => return answer_error(&error, "groupsh: no random seed\n", 3, errors),
+    };
     match options.spill {
         None => {
-            let mut engine = engine_over(alloc, options, MemStore::new(alloc));
-            run_in(&mut engine, options, opener, input, replies, errors)
+            let mut engine = engine_over(alloc, options, seed, MemStore::new(alloc));
+            run_in(&mut engine, options, seed, opener, input, replies, errors)
         }
         Some(folder) => match DirStore::new(alloc, files, folder) {
             Ok(store) => {
-                let mut engine = engine_over(alloc, options, store);
-                run_in(&mut engine, options, opener, input, replies, errors)
+                let mut engine = engine_over(alloc, options, seed, store);
+                run_in(&mut engine, options, seed, opener, input, replies, errors)
             }
             Err(AllocError) => stop_for_memory(errors),
         },
@@ -63,13 +71,20 @@ where
 }
 
 // An engine without tables over a run store.
-fn engine_over<T: RunStore>(alloc: Global, options: Options, store: T) -> Engine<Fnv1a, T>
+fn engine_over<T: RunStore>(
+    alloc: Global,
+    options: Options,
+    seed: RunSeed,
+    store: T,
+) -> Engine<Fnv1a, T>
     ensures setting { setting_of T.runs result ≡ record { limits = GREATEST; honest = (T.runs store).honest } }
     ensures state { state_of T.runs result ≡ record { database = []; failures = (T.runs store).failures } }
 {
     Engine::new(
         alloc,
-        Fnv1a { seed: options.seed },
+        Fnv1a {
+            seed: seed.number(),
+        },
         store,
         budget_of(options.budget),
         Limits::greatest(),
@@ -80,6 +95,7 @@ fn engine_over<T: RunStore>(alloc: Global, options: Options, store: T) -> Engine
 fn run_in<T, R, S, F, W, E>(
     engine: &mut Engine<Fnv1a, T>,
     options: Options,
+    seed: RunSeed,
     opener: F,
     input: R,
     replies: &mut W,
@@ -101,13 +117,13 @@ where
           remaining = S.remaining;
           opens = λ name opened. FnOnceReturnsAt F.FnOnce opener name opened;
         })
-        (asked_by options.entry) (asked_by options.entry).script (stream W.contents replies.old replies.new)
+        (asked_by options.entry) seed (asked_by options.entry).script (stream W.contents replies.old replies.new)
         (stream E.contents errors.old errors.new) result }
 {
     match options.script {
-        None => run_open(engine, options, input, replies, errors),
+        None => run_open(engine, options, seed, input, replies, errors),
         Some(path) => match opener(path) {
-            Ok(script) => run_open(engine, options, script, replies, errors),
+            Ok(script) => run_open(engine, options, seed, script, replies, errors),
             Err(error) => answer_error(&error, "groupsh: cannot open script\n", 3, errors),
         },
     }
@@ -117,6 +133,7 @@ where
 fn run_open<T, R, W, E>(
     engine: &mut Engine<Fnv1a, T>,
     options: Options,
+    seed: RunSeed,
     script: R,
     replies: &mut W,
     errors: &mut E,
@@ -128,10 +145,10 @@ where
     E: Write,
     requires setting { setting_of T.runs engine.old ≡ setting_by (asked_by options).spill }
     requires state { state_of T.runs engine.old ≡ NOTHING }
-    ensures { RanScript (asked_by options.entry) (R.remaining script)
+    ensures { RanScript (asked_by options.entry) seed (R.remaining script)
         (stream W.contents replies.old replies.new) (stream E.contents errors.old errors.new) result }
 {
-    session(engine, script, replies, errors, options.stats)
+    session(engine, script, replies, errors, options.stats, seed)
 }
 
 // The budget of a number, or the nearest one.

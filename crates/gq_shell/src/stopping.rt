@@ -6,13 +6,14 @@ use crate::telling::{CutShort, tell};
 use gq_options::BadLine;
 use std::io::{Error, ErrorKind, Write};
 
-/// Answers a command line that asks for no run: help goes to `replies`, all else to `errors`.
+/// Answers a command line that asks for no run: help and the version go to `replies`, all else to
+/// `errors`.
 pub fn answer_bad_line<W: Write, E: Write>(bad: &BadLine, replies: &mut W, errors: &mut E) -> u8
     ensures { AnsweredBadLine bad.now (stream W.contents replies.old replies.new)
         (stream E.contents errors.old errors.new) result }
 {
     match bad {
-        BadLine::Help(text) => match tell(text.as_str(), replies) {
+        BadLine::Help(text) | BadLine::Version(text) => match tell(text.as_str(), replies) {
             Ok(()) => 0,
             Err(CutShort) => stop("groupsh: write fault\n", 3, errors),
         },

@@ -1,27 +1,21 @@
-//! Command lines and what they ask for, sessions with their statuses, and the program over streams
-//! in memory.
+//! Sessions with their statuses, and the program over streams in memory.
+use crate::command_lines::{VERSION, owned};
 use crate::program::run_program;
 use crate::report::report_of;
+use crate::seeding::RunSeed;
 use crate::session::session;
 use crate::telling::CutShort;
 use gq_engine::{Budget, Engine, MemStore, Spent};
-use gq_options::{BadLine, Options, read_words};
+use gq_options::BadLine;
 use gq_row::{Bounds, Limits};
 use std::alloc::{AllocError, Global};
 use std::io::{self, ErrorKind, Read, Write};
 use std::process::Abort;
+use std::random::RandomSource;
 use std::test::Fail;
 use std::time::SystemTime;
 use std::{env, fs};
 use sw_probe::Fnv1a;
-
-fn owned(alloc: Global, words: &[&str]) -> Result<Vec<String>, AllocError> {
-    let mut all = Vec::new(alloc);
-    for word in words {
-        all.push(String::from_str(alloc, word)?)?;
-    }
-    Ok(all)
-}
 
 fn fresh(alloc: Global, limits: Limits) -> Result<Engine<Fnv1a, MemStore>, Fail> {
     let Some(budget) = Budget::new(65_536) else {
@@ -36,290 +30,17 @@ fn fresh(alloc: Global, limits: Limits) -> Result<Engine<Fnv1a, MemStore>, Fail>
     ))
 }
 
-const DEFAULTS: Options<'static> = Options {
-    script: None,
-    seed: 0,
-    budget: 65_536,
-    spill: None,
-    stats: false,
-};
-
-fn scripted(script: &str) -> Options {
-    Options {
-        script: Some(script),
-        ..DEFAULTS
-    }
-}
-
-fn seeded(seed: u64) -> Options<'static> {
-    Options { seed, ..DEFAULTS }
-}
-
-fn spilling(folder: &str) -> Options {
-    Options {
-        spill: Some(folder),
-        ..DEFAULTS
-    }
-}
-
-/// Whether a command line names these options.
-fn names(alloc: Global, line: &[&str], due: Options) -> Result<bool, Fail> {
-    let words = owned(alloc, line)?;
-    match read_words(alloc, words.as_slice()) {
-        Ok(options) => Ok(options == due),
-        Err(_) => Ok(false),
-    }
-}
-
-#[test]
-fn command_lines_with_scripts(rt: HostRuntime) -> Result<(), Fail> {
-    let cases: [(&[&str], Options); 8] = [
-        (&["groupsh"], DEFAULTS),
-        (&["groupsh", "a.gq"], scripted("a.gq")),
-        (&["groupsh", ""], scripted("")),
-        (&["groupsh", "-"], scripted("-")),
-        (&["groupsh", "--", "a.gq"], scripted("a.gq")),
-        (&["groupsh", "--", "--help"], scripted("--help")),
-        (&["groupsh", "--"], DEFAULTS),
-        (&["groupsh", "--", "--seed=5"], scripted("--seed=5")),
-    ];
-    for (line, due) in cases {
-        assert!(rt; names(rt.alloc(), line, due)?, "{line:?}");
-    }
-    Ok(())
-}
-
-#[test]
-fn command_lines_with_numbers(rt: HostRuntime) -> Result<(), Fail> {
-    let cases: [(&[&str], Options); 10] = [
-        (&["groupsh", "--seed", "5"], seeded(5)),
-        (
-            &["groupsh", "a.gq", "--seed=5"],
-            Options {
-                seed: 5,
-                ..scripted("a.gq")
-            },
-        ),
-        (&["groupsh", "--seed", "+042"], seeded(42)),
-        (&["groupsh", "--seed", "0", "7"], scripted("7")),
-        (
-            &["groupsh", "--seed=18446744073709551615"],
-            seeded(u64::MAX),
-        ),
-        (
-            &["groupsh", "--budget", "1"],
-            Options {
-                budget: 1,
-                ..DEFAULTS
-            },
-        ),
-        (
-            &["groupsh", "--budget=1048576", "a.gq"],
-            Options {
-                budget: 1_048_576,
-                ..scripted("a.gq")
-            },
-        ),
-        (
-            &["groupsh", "a.gq", "--budget", "+07"],
-            Options {
-                budget: 7,
-                ..scripted("a.gq")
-            },
-        ),
-        (
-            &["groupsh", "--budget=10", "--seed=5"],
-            Options {
-                budget: 10,
-                ..seeded(5)
-            },
-        ),
-        (
-            &["groupsh", "--seed", "5", "--budget", "10"],
-            Options {
-                budget: 10,
-                ..seeded(5)
-            },
-        ),
-    ];
-    for (line, due) in cases {
-        assert!(rt; names(rt.alloc(), line, due)?, "{line:?}");
-    }
-    Ok(())
-}
-
-#[test]
-fn command_lines_with_folders_and_reports(rt: HostRuntime) -> Result<(), Fail> {
-    let cases: [(&[&str], Options); 8] = [
-        (&["groupsh", "--spill", "d"], spilling("d")),
-        (&["groupsh", "--spill=-d"], spilling("-d")),
-        (&["groupsh", "--spill", "-"], spilling("-")),
-        (&["groupsh", "--spill="], spilling("")),
-        (&["groupsh", "--spill", ""], spilling("")),
-        (
-            &["groupsh", "--stats"],
-            Options {
-                stats: true,
-                ..DEFAULTS
-            },
-        ),
-        (
-            &["groupsh", "a.gq", "--stats"],
-            Options {
-                stats: true,
-                ..scripted("a.gq")
-            },
-        ),
-        (
-            &[
-                "groupsh",
-                "--stats",
-                "--spill",
-                "d",
-                "--budget=1",
-                "--seed",
-                "7",
-                "a.gq",
-            ],
-            Options {
-                script: Some("a.gq"),
-                seed: 7,
-                budget: 1,
-                spill: Some("d"),
-                stats: true,
-            },
-        ),
-    ];
-    for (line, due) in cases {
-        assert!(rt; names(rt.alloc(), line, due)?, "{line:?}");
-    }
-    Ok(())
-}
-
-/// Each command line that is none, and what is wrong with it.
-#[test]
-fn mistakes(rt: HostRuntime) -> Result<(), Fail> {
-    let cases: [(&[&str], &str); 25] = [
-        (&["groupsh", "a.gq", "b.gq"], "argument 'b.gq' found\n"),
-        (&["groupsh", "--budget", "0"], "0 is not in 1..=1048576"),
-        (
-            &["groupsh", "--budget=1048577"],
-            "1048577 is not in 1..=1048576",
-        ),
-        (
-            &["groupsh", "--budget", "x"],
-            "invalid value 'x' for '--budget <N>'",
-        ),
-        (
-            &["groupsh", "--budget"],
-            "a value is required for '--budget <N>'",
-        ),
-        (
-            &["groupsh", "--budget=1", "--budget", "1"],
-            "cannot be used multiple times",
-        ),
-        (
-            &["groupsh", "--spill"],
-            "a value is required for '--spill <DIR>'",
-        ),
-        (
-            &["groupsh", "--spill", "--stats"],
-            "a value is required for '--spill <DIR>'",
-        ),
-        (&["groupsh", "--spill", "-d"], "argument '-d' found\n"),
-        (
-            &["groupsh", "--spill=d", "--spill=d"],
-            "cannot be used multiple times",
-        ),
-        (
-            &["groupsh", "--stats", "--stats"],
-            "cannot be used multiple times",
-        ),
-        (
-            &["groupsh", "--stats=x"],
-            "unexpected value 'x' for '--stats' found",
-        ),
-        (&["groupsh", "-x"], "argument '-x' found\n"),
-        (&["groupsh", "--version"], "argument '--version' found\n"),
-        (&["groupsh", "--see", "7"], "argument '--see' found\n"),
-        (
-            &["groupsh", "--seed"],
-            "a value is required for '--seed <N>'",
-        ),
-        (
-            &["groupsh", "--seed", "--", "7"],
-            "a value is required for '--seed <N>'",
-        ),
-        (&["groupsh", "--seed", "-1"], "argument '-1' found\n"),
-        (
-            &["groupsh", "--seed=-1"],
-            "invalid value '-1' for '--seed <N>'",
-        ),
-        (&["groupsh", "--seed="], "invalid value '' for '--seed <N>'"),
-        (
-            &["groupsh", "--seed", "x"],
-            "invalid value 'x' for '--seed <N>'",
-        ),
-        (
-            &["groupsh", "--seed", "1.5"],
-            "invalid value '1.5' for '--seed <N>'",
-        ),
-        (
-            &["groupsh", "--seed", "a.gq"],
-            "invalid value 'a.gq' for '--seed <N>'",
-        ),
-        (
-            &["groupsh", "--seed", "18446744073709551616"],
-            "number too large to fit in target type",
-        ),
-        (
-            &["groupsh", "--seed", "1", "--seed=1"],
-            "cannot be used multiple times",
-        ),
-    ];
-    for (words, wrong) in cases {
-        let words = owned(rt.alloc(), words)?;
-        match read_words(rt.alloc(), words.as_slice()) {
-            Err(BadLine::Mistake(text)) => {
-                assert!(rt; text.as_str().starts_with("error: "), "{text}");
-                assert!(rt; text.as_str().contains(wrong), "{text}");
-            }
-            other => assert!(rt; false, "{words:?}: {other:?}"),
-        }
-    }
-    Ok(())
-}
-
-#[test]
-fn help(rt: HostRuntime) -> Result<(), Fail> {
-    let lines: [&[&str]; 3] = [
-        &["groupsh", "--help"],
-        &["bin/groupsh", "-h"],
-        &["groupsh", "a.gq", "--help"],
-    ];
-    for words in lines {
-        let words = owned(rt.alloc(), words)?;
-        let Err(BadLine::Help(text)) = read_words(rt.alloc(), words.as_slice()) else {
-            return Err(Fail::new("no help"));
-        };
-        for part in [
-            "Usage: groupsh [OPTIONS] [SCRIPT]\n",
-            "upsert s (1, 'Oslo')\n",
-            "docs/LANGUAGE.md",
-        ] {
-            assert!(rt; text.as_str().contains(part), "{text}");
-        }
-    }
-    Ok(())
-}
+const GIVEN: RunSeed = RunSeed::Given(0);
 
 /// The text that each error shows.
 #[test]
 fn errors_show_their_texts(rt: HostRuntime) -> Result<(), Fail> {
     let help = BadLine::Help(String::from_str(rt.alloc(), "Usage\n")?);
+    let version = BadLine::Version(String::from_str(rt.alloc(), "groupsh 1\n")?);
     let mistake = BadLine::Mistake(String::from_str(rt.alloc(), "error: two\n")?);
     for (error, text) in [
         (&help, "Usage\n"),
+        (&version, "groupsh 1\n"),
         (&mistake, "error: two\n"),
         (&BadLine::Memory, "out of memory"),
     ] {
@@ -351,7 +72,7 @@ fn statuses(rt: HostRuntime) -> Result<(), Fail> {
         let mut engine = fresh(rt.alloc(), Limits::greatest())?;
         let mut replies = Vec::new(rt.alloc());
         let mut errors = Vec::new(rt.alloc());
-        let answered = session(&mut engine, script, &mut replies, &mut errors, false);
+        let answered = session(&mut engine, script, &mut replies, &mut errors, false, GIVEN);
         assert_eq!(rt; answered, status);
         assert_eq!(rt; replies.as_slice(), due);
         assert!(rt; errors.is_empty());
@@ -432,7 +153,7 @@ fn read_faults(rt: HostRuntime) -> Result<(), Fail> {
         let script = Broken {
             bytes: b"create s (a int)\nupsert s (1)",
         };
-        let status = session(&mut engine, script, &mut replies, &mut errors, false);
+        let status = session(&mut engine, script, &mut replies, &mut errors, false, GIVEN);
         assert_eq!(rt; status, 3);
         assert_eq!(rt; replies.as_slice(), b"ok 0\n".as_slice());
         assert_eq!(rt; errors.as_slice(), b"groupsh: read fault\n".as_slice());
@@ -447,7 +168,7 @@ fn write_faults(rt: HostRuntime) -> Result<(), Fail> {
         let mut replies = Narrow::new(rt.alloc(), 4, error);
         let mut errors = Narrow::new(rt.alloc(), 1000, None);
         let script: &[u8] = b"create s (a int)\nupsert s (1)\n";
-        let status = session(&mut engine, script, &mut replies, &mut errors, false);
+        let status = session(&mut engine, script, &mut replies, &mut errors, false, GIVEN);
         assert_eq!(rt; status, 3);
         assert_eq!(rt; replies.written.as_slice(), b"ok 0\nok".as_slice());
         assert_eq!(rt;
@@ -480,6 +201,7 @@ fn faults_at_each_call(rt: HostRuntime) -> Result<(), Fail> {
             &mut replies,
             &mut errors,
             false,
+            GIVEN,
         );
         let told = b"groupsh: read fault\n";
         assert_fault(&rt, status, replies.as_slice(), errors.as_slice(), told);
@@ -490,7 +212,7 @@ fn faults_at_each_call(rt: HostRuntime) -> Result<(), Fail> {
             let mut engine = fresh(rt.alloc(), Limits::greatest())?;
             let mut replies = Narrow::new(rt.alloc(), room, error);
             let mut errors = Vec::new(rt.alloc());
-            let status = session(&mut engine, script, &mut replies, &mut errors, false);
+            let status = session(&mut engine, script, &mut replies, &mut errors, false, GIVEN);
             let told = b"groupsh: write fault\n";
             assert_fault(
                 &rt,
@@ -513,7 +235,7 @@ fn a_standard_error_that_takes_little(rt: HostRuntime) -> Result<(), Fail> {
             let mut replies = Vec::new(rt.alloc());
             let mut errors = Narrow::new(rt.alloc(), room, error);
             let script = Broken { bytes: b"" };
-            let status = session(&mut engine, script, &mut replies, &mut errors, true);
+            let status = session(&mut engine, script, &mut replies, &mut errors, true, GIVEN);
             assert_eq!(rt; status, 3);
             let told: &[u8] = b"groupsh: read fault\n";
             let (front, _rest) = told.split_at((2 * room).min(told.len()));
@@ -528,7 +250,7 @@ fn run_session(alloc: Global, script: &[u8], stats: bool) -> Result<(u8, Vec<u8>
     let mut engine = fresh(alloc, Limits::greatest())?;
     let mut replies = Vec::new(alloc);
     let mut errors = Vec::new(alloc);
-    let status = session(&mut engine, script, &mut replies, &mut errors, stats);
+    let status = session(&mut engine, script, &mut replies, &mut errors, stats, GIVEN);
     Ok((status, replies, errors))
 }
 
@@ -563,6 +285,7 @@ fn reports(rt: HostRuntime) -> Result<(), Fail> {
 fn long_reports(rt: HostRuntime) -> Result<(), Fail> {
     let line = report_of(
         true,
+        RunSeed::Drawn(u64::MAX - 4),
         Spent {
             rows_read: u64::MAX,
             rows_written: u64::MAX - 1,
@@ -572,20 +295,55 @@ fn long_reports(rt: HostRuntime) -> Result<(), Fail> {
     );
     assert_eq!(rt;
         line.as_str(),
-        "groupsh: read 18446744073709551615, written 18446744073709551614, groups 18446744073709551613, runs 18446744073709551612\n"
+        "groupsh: read 18446744073709551615, written 18446744073709551614, groups 18446744073709551613, runs 18446744073709551612, seed 18446744073709551611\n"
     );
     let mut engine = fresh(rt.alloc(), Limits::greatest())?;
     let mut replies = Vec::new(rt.alloc());
     let mut errors = Narrow::new(rt.alloc(), 7, None);
-    let status = session(&mut engine, grouped(), &mut replies, &mut errors, true);
+    let status = session(
+        &mut engine,
+        grouped(),
+        &mut replies,
+        &mut errors,
+        true,
+        GIVEN,
+    );
     assert_eq!(rt; status, 0);
     assert_eq!(rt; errors.written.as_slice(), b"groupsh: read ".as_slice());
     Ok(())
 }
 
-/// What the program answers and writes, where its scripts are these.
+/// Fills each place with the same byte, or fails.
+#[derive(Clone, Copy)]
+struct Source {
+    byte: Result<u8, ErrorKind>,
+}
+
+impl RandomSource for Source {
+    fn fill_bytes(&self, buffer: &mut [u8]) -> io::Result<()> {
+        match self.byte {
+            Ok(byte) => {
+                buffer.fill(byte);
+                Ok(())
+            }
+            Err(kind) => Err(kind.into()),
+        }
+    }
+}
+
+/// What the program answers and writes, where its scripts are these and its random bytes are all 5.
 fn run_in_memory(
     rt: &HostRuntime,
+    words: io::Result<Vec<String>>,
+    input: &[u8],
+) -> (u8, Vec<u8>, Vec<u8>) {
+    run_with_source(rt, Source { byte: Ok(5) }, words, input)
+}
+
+/// What it answers and writes with this source of random bytes.
+fn run_with_source(
+    rt: &HostRuntime,
+    source: Source,
     words: io::Result<Vec<String>>,
     input: &[u8],
 ) -> (u8, Vec<u8>, Vec<u8>) {
@@ -604,6 +362,7 @@ fn run_in_memory(
         rt.alloc(),
         words,
         rt,
+        &source,
         opener,
         input,
         &mut replies,
@@ -646,10 +405,68 @@ fn programs(rt: HostRuntime) -> Result<(), Fail> {
     Ok(())
 }
 
+/// Random seeds: a report tells them, nothing else does, and where there is none nothing is run.
+#[test]
+fn random_seeds(rt: HostRuntime) -> Result<(), Fail> {
+    let script = b"creat\n".as_slice();
+    let both = b"ok 0\nerr 1 Syntax\n".as_slice();
+    let told =
+        b"groupsh: read 0, written 0, groups 0, runs 0, seed 361700864190383365\n".as_slice();
+    let zero = b"groupsh: read 0, written 0, groups 0, runs 0, seed 0\n".as_slice();
+    let none = b"groupsh: no random seed\n".as_slice();
+    let full = b"groupsh: out of memory\n".as_slice();
+    let (fives, zeros) = (Ok(5), Ok(0));
+    let (failing, starved) = (Err(ErrorKind::Other), Err(ErrorKind::OutOfMemory));
+    let cases: [(&[&str], Result<u8, ErrorKind>, u8, &[u8], &[u8]); 8] = [
+        (&["groupsh", "--seed=random", "-"], fives, 1, both, b""),
+        (
+            &["groupsh", "--seed=random", "--stats", "-"],
+            fives,
+            1,
+            both,
+            told,
+        ),
+        (
+            &["groupsh", "--stats", "-", "--seed", "random"],
+            zeros,
+            1,
+            both,
+            zero,
+        ),
+        (&["groupsh", "--seed=random", "-"], failing, 3, b"", none),
+        (
+            &["groupsh", "--seed=random", "--spill=d"],
+            failing,
+            3,
+            b"",
+            none,
+        ),
+        (
+            &["groupsh", "--stats", "--seed=random", "b.gq"],
+            failing,
+            3,
+            b"",
+            none,
+        ),
+        (&["groupsh", "--seed=random", "-"], starved, 3, b"", full),
+        (&["groupsh", "--seed=7", "-"], failing, 1, both, b""),
+    ];
+    for (words, byte, status, due, told) in cases {
+        let words = owned(rt.alloc(), words)?;
+        let (answered, replies, errors) = run_with_source(&rt, Source { byte }, Ok(words), script);
+        assert_eq!(rt; answered, status);
+        assert_eq!(rt; replies.as_slice(), due);
+        assert_eq!(rt; errors.as_slice(), told);
+    }
+    Ok(())
+}
+
 #[test]
 fn command_lines_that_run_nothing(rt: HostRuntime) -> Result<(), Fail> {
-    let cases: [(&[&str], u8, &str, &str); 3] = [
+    let cases: [(&[&str], u8, &str, &str); 5] = [
         (&["groupsh", "--help"], 0, "Keeps rows", ""),
+        (&["groupsh", "--version"], 0, VERSION, ""),
+        (&["groupsh", "a.gq", "-V"], 0, VERSION, ""),
         (&["groupsh", "--seed", "x", "a.gq"], 2, "", "error: "),
         (&["groupsh", "a.gq", "b.gq"], 2, "", "error: "),
     ];

@@ -1,5 +1,5 @@
 //! Records of rows, written down by hand.
-use crate::rows::{number, spelled, text, worked};
+use crate::rows::{no_case, number, spelled, text, worked};
 use gq_row::{Row, Value};
 use gq_spill::{decode_row, encode_row, is_storable};
 use std::alloc::{AllocError, Global};
@@ -51,11 +51,13 @@ fn records_of_each_kind(rt: HostRuntime) -> Result<(), Fail> {
     let null = Row::new(vec![in alloc; Value::Null]?);
     let empty = Row::new(vec![in alloc; text(alloc, "")?]?);
     let accented = Row::new(vec![in alloc; text(alloc, "é")?, Value::Null]?);
+    let spelling = Row::new(vec![in alloc; no_case(alloc, "OsLO")?, no_case(alloc, "")?]?);
     for (row, due) in [
         (none, &b"\0\0\0\0"[..]),
         (null, b"\0\0\0\x01\0"),
         (empty, b"\0\0\0\x05\x02\0\0\0\0"),
         (accented, b"\0\0\0\x08\x02\0\0\0\x02\xc3\xa9\0"),
+        (spelling, b"\0\0\0\x0e\x03\0\0\0\x04OsLO\x03\0\0\0\0"),
         (number(alloc, 258)?, b"\0\0\0\x09\x01\0\0\0\0\0\0\x01\x02"),
         (
             number(alloc, i64::MAX)?,
@@ -83,6 +85,7 @@ fn what_stands_behind_a_record_is_left(rt: HostRuntime) -> Result<(), Fail> {
         (&b"\0\0\0\x01\0\0\0\0\x01"[..], "null;", 5usize),
         (b"\0\0\0\0abc", ";", 4),
         (b"\0\0\0\x06\x02\0\0\0\x01a\xff", "'a';", 10),
+        (b"\0\0\0\x06\x03\0\0\0\x01A\xff", "~'A';", 10),
     ] {
         let (row, len) = decoded(alloc, bytes)?.ok_or("it begins with a record")?;
         assert_eq!(rt; row.as_str(), due);
@@ -100,7 +103,8 @@ fn what_is_no_record(rt: HostRuntime) -> Result<(), Fail> {
         b"\0\0\0\x01",
         b"\xff\xff\xff\xff\0",
         // Kinds that there are not.
-        b"\0\0\0\x01\x03",
+        b"\0\0\0\x01\x04",
+        b"\0\0\0\x06\x04\0\0\0\x01a",
         b"\0\0\0\x02\0\xff",
         // A number of seven bytes, and one that ends behind its body.
         b"\0\0\0\x08\x01\0\0\0\0\0\0\0",
@@ -110,6 +114,11 @@ fn what_is_no_record(rt: HostRuntime) -> Result<(), Fail> {
         b"\0\0\0\x06\x02\0\0\0\0a",
         b"\0\0\0\x06\x02\0\0\0\x01\xff",
         b"\0\0\0\x03\x02\0\0",
+        // The same of a text without case.
+        b"\0\0\0\x01\x03",
+        b"\0\0\0\x06\x03\0\0\0\x02ab",
+        b"\0\0\0\x06\x03\0\0\0\0a",
+        b"\0\0\0\x06\x03\0\0\0\x01\xff",
     ] {
         assert!(rt; decoded(alloc, bytes)?.is_none(), "{bytes:?}");
     }

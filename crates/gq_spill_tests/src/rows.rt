@@ -6,6 +6,11 @@ pub(crate) fn text(alloc: Global, chars: &str) -> Result<Value, AllocError> {
     Ok(Value::Text(Text::new(String::from_str(alloc, chars)?)))
 }
 
+/// A text without case.
+pub(crate) fn no_case(alloc: Global, chars: &str) -> Result<Value, AllocError> {
+    Ok(Value::NoCase(Text::new(String::from_str(alloc, chars)?)))
+}
+
 /// A row of one number.
 pub(crate) fn number(alloc: Global, n: i64) -> Result<Row, AllocError> {
     Ok(Row::new(vec![in alloc; Value::Int(n)]?))
@@ -25,7 +30,7 @@ pub(crate) fn worked(alloc: Global) -> Result<Row, AllocError> {
     Ok(Row::new(vec![in alloc; Value::Null, Value::Int(-1), text(alloc, "Oslo")?]?))
 }
 
-/// Each row with its values between commas, and a semicolon behind it.
+/// Each row with its values between commas, a `~` before a text without case, and a semicolon behind it.
 pub(crate) fn spelled(alloc: Global, rows: &[Row]) -> Result<String, AllocError> {
     let mut out = String::new(alloc);
     for row in rows {
@@ -39,6 +44,10 @@ pub(crate) fn spelled(alloc: Global, rows: &[Row]) -> Result<String, AllocError>
                 Value::Text(text) => {
                     let chars = text.as_str();
                     out.push_str(format!(in alloc; "'{chars}'")?.as_str())?;
+                }
+                Value::NoCase(text) => {
+                    let chars = text.as_str();
+                    out.push_str(format!(in alloc; "~'{chars}'")?.as_str())?;
                 }
             }
         }

@@ -1,6 +1,6 @@
 //! Runs and records while memory runs out: first with none, then with a little more each time, so
 //! that each request is the first to be refused in some run.
-use crate::rows::{spelled, text, worked};
+use crate::rows::{no_case, spelled, text, worked};
 use crate::whole::{read_rows, write_rows};
 use gq_row::{Row, Value};
 use gq_spill::{
@@ -13,13 +13,16 @@ use std::test::Fail;
 // By how many bytes what is left grows with each step.
 const STEP: usize = 16;
 
-const DUE: &str = "null,-1,'Oslo';1,null,'a city of a name that takes a block of its own';2,7,'';";
+const DUE: &str = "null,-1,'Oslo';1,null,'a city of a name that takes a block of its own';2,7,'';\
+     ~'Rome',3,~'A CITY that takes a block of its own, too';";
 
 fn rows(alloc: Global) -> Result<Vec<Row>, AllocError> {
     let long = text(alloc, "a city of a name that takes a block of its own")?;
     let second = Row::new(vec![in alloc; Value::Int(1), Value::Null, long]?);
     let third = Row::new(vec![in alloc; Value::Int(2), Value::Int(7), text(alloc, "")?]?);
-    Ok(vec![in alloc; worked(alloc)?, second, third]?)
+    let long = no_case(alloc, "A CITY that takes a block of its own, too")?;
+    let fourth = Row::new(vec![in alloc; no_case(alloc, "Rome")?, Value::Int(3), long]?);
+    Ok(vec![in alloc; worked(alloc)?, second, third, fourth]?)
 }
 
 /// The rows that come back of some rows.

@@ -10,7 +10,7 @@ use Rattle.gq_row.specs.declared.schema.Column.{Column}
 use Rattle.gq_row.specs.declared.limits.Bounds.{Bounds}
 use Rattle.gq_row.specs.Fitting.{fits_columns, goes_in}
 use Rattle.gq_row.specs.Headings.{Heading, is_heading}
-use Rattle.gq_row.specs.Limits.{within_greatest, from_one}
+use Rattle.gq_row.specs.Limits.{GREATEST, within_greatest, from_one}
 use Rattle.gq_row.specs.Order.{same_key}
 use Rattle.gq_row.specs.Repeats.{no_repeats}
 use Rattle.gq_row.specs.Rows.{key_of}
@@ -80,7 +80,7 @@ eighth a b c d e f g h i k = (two h i (two g (h && i) (two f (g && (h && i)) (tw
 pub rows_limit : (bounds : Bounds) → IsTrue (within_greatest bounds) → bounds.rows ≤ 16777216
 rows_limit b h =
     leb-true b.rows 16777216 (two (nat_lt 0 b.rows) (nat_le b.rows 16777216)
-    (eighth (from_one b.tables 64) (from_one b.columns 32) (from_one b.aggregates 8) (from_one b.name 63) (from_one b.text 65535) (from_one b.line 65536) (from_one b.payload 268435456) (from_one b.rows 16777216) (from_one b.script 1099511627776) h)).1
+    (eighth (from_one b.tables 64) (from_one b.columns GREATEST.columns) (from_one b.aggregates GREATEST.aggregates) (from_one b.name 63) (from_one b.text 65535) (from_one b.line 65536) (from_one b.payload 268435456) (from_one b.rows 16777216) (from_one b.script 1099511627776) h)).1
 
 -- ---- what holds of a list holds of it in another order
 

@@ -7,6 +7,7 @@ ghost use Rattle.sw_flat.specs.Vacancies.{IsVacancy};
 ghost use Rattle.gq_row.specs.Classes.{class_of, bytes_of};
 ghost use Rattle.gq_row.specs.Rows.{key_of};
 ghost use Rattle.gq_row.specs.Tables.{delete, has_row};
+ghost use Rattle.gq_table.specs.Changes.{named_key};
 ghost use Rattle.gq_table.specs.Keyed.{OwnKeys, rows_in, by_key};
 ghost use Rattle.gq_table.specs.Refusing.{rows_with, WhyNotKeyed};
 
@@ -133,7 +134,8 @@ pub(crate) fn reserve_keyed<H: KeyHash<Key>>(
     outcome.map_err(|_| AllocError)
 }
 
-// Takes the row of a key out of the map, and tells whether there was one. It takes no memory.
+// Takes the row of the key that some values name out of the map, and tells whether there was one. It
+// takes no memory.
 pub(crate) fn delete_keyed<H: KeyHash<Key>>(
     map: &mut FlatMap<Key, Row, H>,
     positions: &[usize],
@@ -141,8 +143,8 @@ pub(crate) fn delete_keyed<H: KeyHash<Key>>(
 ) -> bool
     requires own { OwnKeys positions.now (by_key map.old) }
     ensures own { OwnKeys positions.now (by_key map.new) }
-    ensures answer { result ≡ has_row positions.now (rows_in map.old) key.now }
-    ensures rows { IsPermutation (delete positions.now (rows_in map.old) key.now)
+    ensures answer { result ≡ has_row positions.now (rows_in map.old) (named_key key.now) }
+    ensures rows { IsPermutation (delete positions.now (rows_in map.old) (named_key key.now))
         (rows_in map.new) }
 {
     let _ = positions;

@@ -2,8 +2,8 @@
 //!
 //! A [`Table`] has a schema and rows. Where the schema has key columns the rows stand in a flat
 //! map under their keys and nowhere else, so that a row is found by one look-up; else they stand in
-//! a list. A row that is put replaces the row of the same key, or is added; a load puts many, all
-//! or none.
+//! a list. A row that is put replaces the row of the same key, spelling and all, or is added; a load
+//! puts many, all or none.
 //!
 //! The one contract above this crate: clauses see a table as its heading and the list of its rows,
 //! in some order, and each change is that of plain lists (`put`, `put_all` and `delete` of

@@ -2,7 +2,7 @@
 ghost use Rattle.std.specs.Prelude.{◌≡◌, ◌+◌, ◌<◌, ◌≤◌, ◌⊎◌, ◌++◌, ◌∷◌, [], IsTrue, IfOk, IfErr, OnOk, OnErr, None, false, length, IsPermutation};
 ghost use Rattle.gq_row.specs.Fitting.{fits_columns, has_null};
 ghost use Rattle.gq_row.specs.Tables.{has_row};
-ghost use Rattle.gq_table.specs.Changes.{IsPut, IsLoaded, IsDeleted};
+ghost use Rattle.gq_table.specs.Changes.{IsPut, IsLoaded, IsDeleted, named_key};
 ghost use Rattle.gq_table.specs.Keyed.{rows_in};
 ghost use Rattle.gq_table.specs.Refusing.{row_refusal, load_refusal, WhyNotPut, WhyNotLoaded};
 ghost use Rattle.gq_table.specs.Standing.{IsStanding};
@@ -118,8 +118,8 @@ impl<H: KeyHash<Key> + Copy> Table<H> {
         RowIter::new(&self.rows)
     }
 
-    /// Replaces the row that has the same key, or adds the row, and says else the first reason to
-    /// refuse it: `TypeMismatch` where its values don't fit the columns, `NullKey` where one of a
+    /// Replaces the row that has the same key, however that is spelled, or adds the row, which is
+    /// stored as it is given; and says else the first reason to refuse it: `TypeMismatch` where its values don't fit the columns, `NullKey` where one of a
     /// key column is null, and `Limit` where there would be too many rows. A row that replaces
     /// another takes no memory; for want of memory the rest is refused with `Memory`.
     pub fn upsert(&mut self, row: Row, limits: &Limits) -> Result<(), TableRefusal>
@@ -197,12 +197,12 @@ impl<H: KeyHash<Key> + Copy> Table<H> {
         self.rows
     }
 
-    /// Takes the row of a key away, if there is one, and tells whether there was. It takes no
-    /// memory.
+    /// Takes the row away whose key columns hold values that are the same as these, if there is
+    /// one, and tells whether there was. It takes no memory.
     pub fn delete(&mut self, key: &[Value]) -> bool
         requires { 0 < length self.old.heading.key }
-        ensures rows { IsDeleted self.old key.now self.new }
-        ensures answer { result ≡ has_row self.old.heading.key self.old.rows key.now }
+        ensures rows { IsDeleted self.old (named_key key.now) self.new }
+        ensures answer { result ≡ has_row self.old.heading.key self.old.rows (named_key key.now) }
     {
         match &mut self.rows {
             Rows::Keyed(map) => delete_keyed(map, self.schema.key(), key),

@@ -22,6 +22,8 @@ mod map;
 #[cfg(test)]
 mod map_drops;
 #[cfg(test)]
+mod merged;
+#[cfg(test)]
 mod numbers;
 #[cfg(test)]
 mod plain;

@@ -17,13 +17,13 @@ returns-in_err-having-clause-refused c =
     let columns = c.args.schema.now.columns in
     let others = c.args.others.now in
     let clauses = c.args.clauses.now in
-    let by : positions_of columns clauses.by ≡ Some c.in_ok-by.by = sym (rw (c.columns-columns.ensures, c.as_slice-3.ensures) at c.in_ok-find_positions.ensures) ∙ c.in_ok-by.ensures.ok_part in
+    let by : positions_of columns clauses.by.columns ≡ Some c.in_ok-by.by = sym (rw (c.columns-columns.ensures, c.as_slice-3.ensures) at c.in_ok-find_positions.ensures) ∙ c.in_ok-by.ensures.ok_part in
     let shown : all_shown columns clauses.shown ≡ Some c.in_ok-shown.shown = sym (rw c.as_slice-4.ensures at c.in_ok-find_shown.ensures) ∙ c.in_ok-shown.ensures.ok_part in
     let tests : all_placed (in_row columns) clauses.tests ≡ Some c.in_ok-tests.tests = sym (rw c.as_slice-5.ensures at c.in_ok-place_tests.ensures) ∙ c.in_ok-tests.ensures.ok_part in
     let matching : matching_named columns others clauses.exists ≡ Ok c.in_ok-matching.matching = rw c.columns-columns.ensures at c.in_ok-matching.ensures.told in
     let p = err_from_is_err_and c.from_residual-in_err-having.result c.from_residual-in_err-having.ensures.1 in
     let m = missed c.in_ok-place_tests-2.field-0 c.in_err-having.field-0.0 NoColumn c.in_err-having.ensures.value in
-    let none : all_placed (in_result clauses.by clauses.shown) clauses.having ≡ None = sym (rw (c.as_slice.ensures, c.as_slice-2.ensures, c.as_slice-6.ensures) at c.in_ok-place_tests-2.ensures) ∙ m.0 in
+    let none : all_placed (in_result clauses.by.columns clauses.shown) clauses.having ≡ None = sym (rw (c.as_slice.ensures, c.as_slice-2.ensures, c.as_slice-6.ensures) at c.in_ok-place_tests-2.ensures) ∙ m.0 in
     let refused = no_having columns others clauses c.in_ok-by.by by c.in_ok-shown.shown shown c.in_ok-tests.tests tests c.in_ok-matching.matching matching none in
     rw p.1 (inr (refused ∙ ap (λ (w : Refused). Err w) (sym (p.2 ∙ ap unnumbered m.1))))
 
@@ -32,15 +32,15 @@ returns-clause-told c =
     let columns = c.args.schema.now.columns in
     let others = c.args.others.now in
     let clauses = c.args.clauses.now in
-    let by : positions_of columns clauses.by ≡ Some c.in_ok-by.by = sym (rw (c.columns-columns.ensures, c.as_slice-3.ensures) at c.in_ok-find_positions.ensures) ∙ c.in_ok-by.ensures.ok_part in
+    let by : positions_of columns clauses.by.columns ≡ Some c.in_ok-by.by = sym (rw (c.columns-columns.ensures, c.as_slice-3.ensures) at c.in_ok-find_positions.ensures) ∙ c.in_ok-by.ensures.ok_part in
     let shown : all_shown columns clauses.shown ≡ Some c.in_ok-shown.shown = sym (rw c.as_slice-4.ensures at c.in_ok-find_shown.ensures) ∙ c.in_ok-shown.ensures.ok_part in
     let tests : all_placed (in_row columns) clauses.tests ≡ Some c.in_ok-tests.tests = sym (rw c.as_slice-5.ensures at c.in_ok-place_tests.ensures) ∙ c.in_ok-tests.ensures.ok_part in
     let matching : matching_named columns others clauses.exists ≡ Ok c.in_ok-matching.matching = rw c.columns-columns.ensures at c.in_ok-matching.ensures.told in
-    let having : all_placed (in_result clauses.by clauses.shown) clauses.having ≡ Some c.in_ok-having.having = sym (rw (c.as_slice.ensures, c.as_slice-2.ensures, c.as_slice-6.ensures) at c.in_ok-place_tests-2.ensures) ∙ c.in_ok-having.ensures.ok_part in
+    let having : all_placed (in_result clauses.by.columns clauses.shown) clauses.having ≡ Some c.in_ok-having.having = sym (rw (c.as_slice.ensures, c.as_slice-2.ensures, c.as_slice-6.ensures) at c.in_ok-place_tests-2.ensures) ∙ c.in_ok-having.ensures.ok_part in
     all_named columns others clauses c.in_ok-by.by by c.in_ok-shown.shown shown c.in_ok-tests.tests tests c.in_ok-matching.matching matching c.in_ok-having.having having
 
 pub returns-clause-by : goal.returns-clause-by
 returns-clause-by c =
     let columns = c.args.schema.now.columns in
-    let by : positions_of columns c.args.clauses.now.by ≡ Some c.in_ok-by.by = sym (rw (c.columns-columns.ensures, c.as_slice-3.ensures) at c.in_ok-find_positions.ensures) ∙ c.in_ok-by.ensures.ok_part in
-    positions_within columns c.args.clauses.now.by c.in_ok-by.by by
+    let by : positions_of columns c.args.clauses.now.by.columns ≡ Some c.in_ok-by.by = sym (rw (c.columns-columns.ensures, c.as_slice-3.ensures) at c.in_ok-find_positions.ensures) ∙ c.in_ok-by.ensures.ok_part in
+    positions_within columns c.args.clauses.now.by.columns c.in_ok-by.by by

@@ -1,5 +1,5 @@
 use Rattle.std.proofs.Common.{◌≡◌, ◌++◌, drop, map}
-use Rattle.gq_query.specs.Asking.{kind_at}
+use Rattle.gq_select.specs.Asking.{kind_at}
 use Rattle.gq_plan.proofs.kinds.key_kinds.Given as goal
 
 abbrev pub invariant-loop-position : goal.invariant-loop-position

@@ -1,6 +1,6 @@
 use Rattle.std.proofs.Common.{◌≡◌, drop, map}
 use Rattle.std.specs.Cmp.Lexicographic.{pointwise}
-use Rattle.gq_query.specs.Asking.{kind_at}
+use Rattle.gq_select.specs.Asking.{kind_at}
 use Rattle.gq_plan.specs.Kinds.{same_kind}
 use Rattle.gq_plan.proofs.kinds.kinds_agree.Given as goal
 

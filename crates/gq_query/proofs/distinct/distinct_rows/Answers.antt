@@ -2,12 +2,11 @@ use Rattle.std.proofs.Common.{◌∙◌, ap}
 use Rattle.std.specs.Prelude.{option_copied}
 use Rattle.gq_query.specs.Answers.{distinct_keys}
 use Rattle.gq_query.specs.Selecting.{other_columns, other_rows}
-use Rattle.gq_query.proofs.Joined.{distinct_shown}
 use Rattle.gq_query.proofs.KeepingLemmas.{asks_ours, kept_are}
 use Rattle.gq_query.proofs.distinct.distinct_rows.Goals as goal
 
-pub keys-requires-clause-columns : goal.keys-requires-clause-columns
-keys-requires-clause-columns g c =
+pub different-requires-clause-columns : goal.different-requires-clause-columns
+different-requires-clause-columns g c =
     let selection = c.args.selection.now in
     record {
       by = c.requires.on;
@@ -18,6 +17,4 @@ pub returns-clause-rows : goal.returns-clause-rows
 returns-clause-rows g c = λ h.
     let selection = c.args.selection.now in
     let are = kept_are selection.condition.now.tests (option_copied selection.matching) c.in-Ok.keys (other_rows (option_copied selection.others)) selection.table.now.rows c.in-Ok.ensures in
-    c.new.ensures ∙ c.in-Ok-rows_of.ensures
-    ∙ distinct_shown c.args.on.now _ c.in_ok-groups.groups.items c.sort_groups.new.groups.items (c.in_ok-groups.ensures.keys h) c.in-Ok-sort_groups.ensures.moved c.in-Ok-sort_groups.ensures.ascending
-    ∙ ap (distinct_keys c.args.on.now) are
+    c.new.ensures ∙ c.in_ok-different.ensures.rows h ∙ ap (distinct_keys c.args.on.now) are

@@ -20,9 +20,9 @@ invariant_of-self g c = (
 
 pub returns-in-Some : goal.returns-in-Some
 returns-in-Some g c =
-    let Q : Database → Type 0 = λ db. Settles deleted (delete_row db c.args.name.now c.args.key.now) c.delete_row.result db (set c.self.inside.tables.items c.in-Some.i (c.index_mut.result.now.0, c.delete_row.new.table)) in
+    let Q : Database → Type 0 = λ db. Settles deleted (delete_row db c.args.name.now c.args.values.now) c.delete_row.result db (set c.self.inside.tables.items c.in-Some.i (c.index_mut.result.now.0, c.delete_row.new.table)) in
     subst Q c.self.view_is
-    (took_out c.self.inside.tables.items c.args.name.now c.in-Some.i c.index_mut.result.now c.args.key.now c.delete_row.result c.delete_row.new.table
+    (took_out c.self.inside.tables.items c.args.name.now c.in-Some.i c.index_mut.result.now c.args.values.now c.delete_row.result c.delete_row.new.table
     (rw c.as_slice.ensures.value at c.in-Some.ensures) c.index_mut.ensures.value c.delete_row.ensures.deletes)
 
 pub returns-in-None : goal.returns-in-None

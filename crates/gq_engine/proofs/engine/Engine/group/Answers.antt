@@ -8,6 +8,7 @@ use Rattle.gq_reply.specs.Refusals.{unnumbered}
 use Rattle.gq_plan.specs.Headers.{group_header}
 use Rattle.gq_engine.specs.Engines.{database}
 use Rattle.gq_engine.specs.Serving.{Plainly, GroupsOver}
+use Rattle.gq_query.specs.Rollups.{grouping_sets}
 use Rattle.gq_engine.specs.Steps.{group, rows_about, rows_planned}
 use Rattle.gq_engine.proofs.GroupLemmas.{asked_planned, group_planned, refused_over, shown_over}
 use Rattle.gq_engine.proofs.OrderLemmas.{same_tables}
@@ -81,10 +82,8 @@ returns-clause-spent g c =
     let plan = c.in_ok-asked.asked.plan in
     let asks = rw c.as_str.ensures at c.in_ok-asked.ensures.asks in
     record {
-      by = plan.by;
+      sets = grouping_sets plan.rollup plan.by;
       rows = rows_about plan table other;
       asked = asked_planned (database c.args.self.now) c.args.name clauses table asks.found other asks.there plan asks.told;
-      more = c.in_ok-rows.spent;
       work = c.in_ok-rows.ensures.spent;
-      sum = c.both_spent-self.ensures;
     }

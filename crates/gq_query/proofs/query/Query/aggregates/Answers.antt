@@ -1,7 +1,7 @@
 use Rattle.std.proofs.Common.{◌≡◌, ◌∙◌, map, sym, subst, rules, IsTrue, IsPermutation, true}
 use Rattle.std.specs.List.{list_all}
 use Rattle.gq_group.specs.Groups.{groups, answered, out_of_range}
-use Rattle.gq_query.specs.Asking.{can_take}
+use Rattle.gq_select.specs.Asking.{can_take}
 use Rattle.gq_query.specs.Keeping.{kept_rows}
 use Rattle.gq_query.proofs.Joined.{can_take_aggs, no_answer, groups_shown}
 use Rattle.gq_query.proofs.query.Query.aggregates.Goals as goal

@@ -1,6 +1,6 @@
 use Rattle.std.proofs.Common.{◌≡◌, ◌∙◌, ℕ, List, [], filter, map, sym, ap, subst, refl, IsPermutation}
 use Rattle.std.specs.Prelude.{option_copied}
-use Rattle.gq_row.specs.Rows.{key_of}
+use Rattle.gq_row.specs.Rows.{cells_in}
 use Rattle.gq_group.specs.Distinct.{distinct_groups, all_have, with_column}
 use Rattle.gq_group.specs.Groups.{OneWidth}
 use Rattle.gq_group.proofs.Widths.{one_width-cells}
@@ -28,7 +28,7 @@ group_distinct-requires-clause-rows g c = λ h rows e.
     let used : c.as_slice-3.result.now ≡ all = c.as_slice-3.ensures.value ∙ c.in-Ok.ensures in
     let by_there : c.as_slice-4.result.now ≡ placed_columns all by = c.as_slice-4.ensures.value ∙ c.in-Ok-place_columns.ensures ∙ ap (λ u. placed_columns u by) (c.as_slice.ensures.value ∙ c.in-Ok.ensures) in
     let place : c.place_of-place.result ≡ place_of all c.args.column = c.place_of-place.ensures ∙ ap (λ u. place_of u c.args.column) (c.as_slice-2.ensures.value ∙ c.in-Ok.ensures) in
-    let given : rows ≡ map (key_of all) mine = e ∙ (λ i. map (key_of (used i)) (filter keep (c.rows.ensures.rows i))) in
+    let given : rows ≡ map (cells_in all) mine = e ∙ (λ i. map (cells_in (used i)) (filter keep (c.rows.ensures.rows i))) in
     (λ i. all_have (with_column (by_there i) (place i)) (given i)) ∙ all_have_placed by c.args.column mine
 
 pub group_distinct-requires-clause-widths : goal.group_distinct-requires-clause-widths
@@ -41,13 +41,13 @@ returns-clause-counts g c = λ h.
     let by = c.args.self.now.by.now in
     let mine = kept_rows c.args.self.now in
     let keep = is_kept c.args.self.now.kept.now in
-    let given = map (key_of c.as_slice-3.result.now) (filter keep c.rows.result) in
+    let given = map (cells_in c.as_slice-3.result.now) (filter keep c.rows.result) in
     let all : List ℕ = columns_used (counting by c.args.column) in
     let used : c.as_slice-3.result.now ≡ all = c.as_slice-3.ensures.value ∙ c.in-Ok.ensures in
     let by_there : c.as_slice-4.result.now ≡ placed_columns all by = c.as_slice-4.ensures.value ∙ c.in-Ok-place_columns.ensures ∙ ap (λ u. placed_columns u by) (c.as_slice.ensures.value ∙ c.in-Ok.ensures) in
     let place : c.place_of-place.result ≡ place_of all c.args.column = c.place_of-place.ensures ∙ ap (λ u. place_of u c.args.column) (c.as_slice-2.ensures.value ∙ c.in-Ok.ensures) in
     let same : distinct_groups c.as_slice-4.result.now c.place_of-place.result given ≡ distinct_groups by c.args.column mine
-    = (λ i. distinct_groups (by_there i) (place i) (map (key_of (used i)) (filter keep (c.rows.ensures.rows i)))) ∙ distinct_placed by c.args.column mine in
+    = (λ i. distinct_groups (by_there i) (place i) (map (cells_in (used i)) (filter keep (c.rows.ensures.rows i)))) ∙ distinct_placed by c.args.column mine in
     let pushed = c.in_ok-group_distinct.ensures.groups h given refl [] (sym c.new-sink.ensures) in
     let found : c.into_vec.result.items ≡ pushed.0 = c.into_vec.ensures ∙ sym pushed.2 in
     subst (IsPermutation (distinct_groups by c.args.column mine)) (sym found) (subst (λ gs. IsPermutation gs pushed.0) same pushed.1)

@@ -3,7 +3,7 @@ use Rattle.std.specs.Prelude.{option_copied}
 use Rattle.std.specs.List.{list_any}
 use Rattle.std.proofs.lemmas.List.{length-map}
 use Rattle.gq_row.specs.Fitting.{fits_columns}
-use Rattle.gq_row.specs.Rows.{key_of}
+use Rattle.gq_row.specs.Rows.{cells_in}
 use Rattle.gq_group.specs.Groups.{Spec, OneWidth, groups, answered, is_none, all_fit, keys_of}
 use Rattle.gq_group.proofs.Widths.{one_width-cells}
 use Rattle.gq_query.specs.Cells.{columns_used, placed}
@@ -27,7 +27,7 @@ group-requires-clause-rows g c = λ h rows e.
     let keep = is_kept c.args.self.now.kept.now in
     let used : c.as_slice-2.result.now ≡ columns_used spec = c.as_slice-2.ensures.value ∙ c.in-Ok.ensures in
     let asked : c.in-Ok-place_spec.spec ≡ placed (columns_used spec) spec = c.in-Ok-place_spec.ensures ∙ ap (λ u. placed u spec) (c.as_slice.ensures.value ∙ c.in-Ok.ensures) in
-    let given : rows ≡ map (key_of (columns_used spec)) (filter keep table.rows) = e ∙ (λ i. map (key_of (used i)) (filter keep (c.rows.ensures.rows i))) in
+    let given : rows ≡ map (cells_in (columns_used spec)) (filter keep table.rows) = e ∙ (λ i. map (cells_in (used i)) (filter keep (c.rows.ensures.rows i))) in
     let fit = all_kept (fits_columns table.heading.columns) keep table.rows c.rows.ensures.standing.fitting in
     (λ i. all_fit (asked i) (given i)) ∙ all_fit_placed table.heading.columns spec (filter keep table.rows) fit c.requires.aggs
 
@@ -41,11 +41,11 @@ returns-in_err-spent-clause-overflow g c = λ h e.
     let spec : Spec = record { by = c.args.self.now.by.now; aggs = c.args.aggs.now } in
     let rows = kept_rows c.args.self.now in
     let keep = is_kept c.args.self.now.kept.now in
-    let given = map (key_of c.as_slice-2.result.now) (filter keep c.rows.result) in
+    let given = map (cells_in c.as_slice-2.result.now) (filter keep c.rows.result) in
     let used : c.as_slice-2.result.now ≡ columns_used spec = c.as_slice-2.ensures.value ∙ c.in-Ok.ensures in
     let asked : c.in-Ok-place_spec.spec ≡ placed (columns_used spec) spec = c.in-Ok-place_spec.ensures ∙ ap (λ u. placed u spec) (c.as_slice.ensures.value ∙ c.in-Ok.ensures) in
     let same : groups c.in-Ok-place_spec.spec given ≡ groups spec rows
-    = (λ i. groups (asked i) (map (key_of (used i)) (filter keep (c.rows.ensures.rows i)))) ∙ groups_placed spec rows in
+    = (λ i. groups (asked i) (map (cells_in (used i)) (filter keep (c.rows.ensures.rows i)))) ∙ groups_placed spec rows in
     sym (ap (list_any (λ g. list_any is_none g.1)) same) ∙ c.in_err-spent.ensures.overflow h (search rules) given refl
 
 pub returns-clause-groups : goal.returns-clause-groups
@@ -53,11 +53,11 @@ returns-clause-groups g c = λ h.
     let spec : Spec = record { by = c.args.self.now.by.now; aggs = c.args.aggs.now } in
     let rows = kept_rows c.args.self.now in
     let keep = is_kept c.args.self.now.kept.now in
-    let given = map (key_of c.as_slice-2.result.now) (filter keep c.rows.result) in
+    let given = map (cells_in c.as_slice-2.result.now) (filter keep c.rows.result) in
     let used : c.as_slice-2.result.now ≡ columns_used spec = c.as_slice-2.ensures.value ∙ c.in-Ok.ensures in
     let asked : c.in-Ok-place_spec.spec ≡ placed (columns_used spec) spec = c.in-Ok-place_spec.ensures ∙ ap (λ u. placed u spec) (c.as_slice.ensures.value ∙ c.in-Ok.ensures) in
     let same : groups c.in-Ok-place_spec.spec given ≡ groups spec rows
-    = (λ i. groups (asked i) (map (key_of (used i)) (filter keep (c.rows.ensures.rows i)))) ∙ groups_placed spec rows in
+    = (λ i. groups (asked i) (map (cells_in (used i)) (filter keep (c.rows.ensures.rows i)))) ∙ groups_placed spec rows in
     let pushed = c.in_ok-spent.ensures.groups h given refl [] (sym c.new-sink.ensures) in
     let all : c.into_vec.result.items ≡ pushed.0 = c.into_vec.ensures ∙ sym pushed.2 in
     subst (λ l. IsPermutation (groups spec rows) (map answered l)) (sym all) (subst (λ gs. IsPermutation gs (map answered pushed.0)) same pushed.1)
@@ -67,14 +67,14 @@ returns-clause-spent g c = λ h.
     let spec : Spec = record { by = c.args.self.now.by.now; aggs = c.args.aggs.now } in
     let rows = kept_rows c.args.self.now in
     let keep = is_kept c.args.self.now.kept.now in
-    let given = map (key_of c.as_slice-2.result.now) (filter keep c.rows.result) in
+    let given = map (cells_in c.as_slice-2.result.now) (filter keep c.rows.result) in
     let used : c.as_slice-2.result.now ≡ columns_used spec = c.as_slice-2.ensures.value ∙ c.in-Ok.ensures in
     let asked : c.in-Ok-place_spec.spec ≡ placed (columns_used spec) spec = c.in-Ok-place_spec.ensures ∙ ap (λ u. placed u spec) (c.as_slice.ensures.value ∙ c.in-Ok.ensures) in
     let same : keys_of c.in-Ok-place_spec.spec.by given ≡ keys_of spec.by rows
-    = (λ i. keys_of (asked i).by (map (key_of (used i)) (filter keep (c.rows.ensures.rows i)))) ∙ same_keys spec rows in
+    = (λ i. keys_of (asked i).by (map (cells_in (used i)) (filter keep (c.rows.ensures.rows i)))) ∙ same_keys spec rows in
     let told = c.in_ok-spent.ensures.counts h given refl in
     record {
-      read = told.0 ∙ length-map (filter keep c.rows.result) (key_of c.as_slice-2.result.now) ∙ ap (λ l. length (filter keep l)) c.rows.ensures.rows;
+      read = told.0 ∙ length-map (filter keep c.rows.result) (cells_in c.as_slice-2.result.now) ∙ ap (λ l. length (filter keep l)) c.rows.ensures.rows;
       groups = told.1 ∙ ap (λ l. length l) same;
       written = c.in_ok-spent.ensures.spills h;
     }

@@ -1,7 +1,7 @@
 use Rattle.std.proofs.Common.{◌≡◌, ◌∙◌, ℕ, List, [], filter, length, map, sym, ap, subst, refl, arith, IsPermutation}
 use Rattle.std.specs.Prelude.{option_copied}
 use Rattle.std.proofs.lemmas.List.{length-map}
-use Rattle.gq_row.specs.Rows.{key_of}
+use Rattle.gq_row.specs.Rows.{cells_in}
 use Rattle.gq_row.specs.Tables.{keys}
 use Rattle.gq_group.specs.Distinct.{all_have}
 use Rattle.gq_group.specs.Groups.{OneWidth}
@@ -36,7 +36,7 @@ distinct-requires-clause-rows g c = λ h rows e.
     let all : List ℕ = columns_used (bare by) in
     let used : c.as_slice-2.result.now ≡ all = c.as_slice-2.ensures.value ∙ c.in-Ok.ensures in
     let by_there : c.in-Ok-place_columns.by.items ≡ placed_columns all by = c.in-Ok-place_columns.ensures ∙ ap (λ u. placed_columns u by) (c.as_slice.ensures.value ∙ c.in-Ok.ensures) in
-    let given : rows ≡ map (key_of all) mine = e ∙ (λ i. map (key_of (used i)) (filter keep (c.rows.ensures.rows i))) in
+    let given : rows ≡ map (cells_in all) mine = e ∙ (λ i. map (cells_in (used i)) (filter keep (c.rows.ensures.rows i))) in
     (λ i. all_have (by_there i) (given i)) ∙ bare_have by mine
 
 pub distinct-requires-clause-widths : goal.distinct-requires-clause-widths
@@ -49,12 +49,12 @@ returns-clause-keys g c = λ h.
     let by = c.args.self.now.by.now in
     let mine = kept_rows c.args.self.now in
     let keep = is_kept c.args.self.now.kept.now in
-    let given = map (key_of c.as_slice-2.result.now) (filter keep c.rows.result) in
+    let given = map (cells_in c.as_slice-2.result.now) (filter keep c.rows.result) in
     let all : List ℕ = columns_used (bare by) in
     let used : c.as_slice-2.result.now ≡ all = c.as_slice-2.ensures.value ∙ c.in-Ok.ensures in
     let by_there : c.in-Ok-place_columns.by.items ≡ placed_columns all by = c.in-Ok-place_columns.ensures ∙ ap (λ u. placed_columns u by) (c.as_slice.ensures.value ∙ c.in-Ok.ensures) in
     let same : keys c.in-Ok-place_columns.by.items given ≡ keys by mine
-    = (λ i. keys (by_there i) (map (key_of (used i)) (filter keep (c.rows.ensures.rows i)))) ∙ keys_of_placed by mine c.requires.some in
+    = (λ i. keys (by_there i) (map (cells_in (used i)) (filter keep (c.rows.ensures.rows i)))) ∙ keys_of_placed by mine c.requires.some in
     let pushed = c.in_ok-distinct.ensures.keys h given refl [] (sym c.new-sink.ensures) in
     let found : c.into_vec.result.items ≡ pushed.0 = c.into_vec.ensures ∙ sym pushed.2 in
     subst (IsPermutation (bare_keys by mine)) (sym found) (subst (λ ks. IsPermutation (map (λ key. (key, [])) ks) pushed.0) same pushed.1)

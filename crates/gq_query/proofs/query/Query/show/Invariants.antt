@@ -1,6 +1,6 @@
 use Rattle.std.proofs.Common.{IsTrue}
 use Rattle.gq_group.specs.Access.{LeavesOthers}
-use Rattle.gq_query.specs.Asking.{no_runs}
+use Rattle.gq_query.specs.Sources.{no_runs}
 use Rattle.gq_query.specs.Joining.{AreShown, so_far}
 use Rattle.gq_query.specs.Keeping.{kept_rows}
 use Rattle.gq_query.proofs.query.Query.show.Given as goal

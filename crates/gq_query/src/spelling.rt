@@ -1,0 +1,235 @@
+//! Result rows with their keys as the rows of a table spell them.
+//!
+//! Rows are grouped and sorted by keys whose texts without case stand by their folds. Where a key's
+//! columns have such texts, the least value in each of them is asked of the groups too, behind what is
+//! shown, and takes the key's place in the result row. Where none has, a key has the rows' own values,
+//! and nothing more is asked.
+ghost use Rattle.std.specs.Prelude.{◌≡◌, ◌<◌, ◌++◌, All, IsTrue, IfOk, IfErr, IsErrOf, false, length, map, None, Some};
+ghost use Rattle.std.specs.List.{list_all};
+ghost use Rattle.gq_row.specs.Fitting.{fits_columns};
+ghost use Rattle.gq_group.specs.Access.{LeavesOthers, HasCause, GroupCause};
+ghost use Rattle.gq_group.specs.Phases.{blamed_as};
+ghost use Rattle.gq_select.specs.Asking.{can_show};
+ghost use Rattle.gq_query.specs.Answers.{answer, distinct_keys};
+ghost use Rattle.gq_query.specs.Keeping.{HasColumns, kept_rows};
+ghost use Rattle.gq_query.specs.Sources.{no_runs};
+ghost use Rattle.gq_query.specs.Spelling.{has_spellings as may_differ, least_shown, spelled_row as row_spelled};
+ghost use Rattle.gq_query.specs.Work.{IsSpentOn};
+
+use crate::group_list::{GroupValues, rows_of};
+use crate::ordering::sort_groups;
+use crate::query::Query;
+use gq_agg::AggKind;
+use gq_group::{Refusal, Spent};
+use gq_row::{Column, Key, Kind, Row};
+use gq_select::Shown;
+use gq_spill::RunStore;
+use std::alloc::{AllocError, Global};
+use sw_probe::KeyHash;
+
+// Whether a key in these columns may be spelled in more than one way.
+fn has_spellings(columns: &[Column], by: &[usize]) -> bool
+    requires { All (λ column. column < length columns.now) by.now }
+    ensures { result ≡ may_differ columns.now by.now }
+{
+    for column in by {
+        if matches!(columns[*column].kind, Kind::NoCase) {
+            return true;
+        }
+    }
+    false
+}
+
+// What is shown, and behind it the least value in each column of the key.
+fn with_least(alloc: Global, shown: &[Shown], by: &[usize]) -> Result<Vec<Shown>, AllocError>
+    ensures { IfOk result (λ all. all.items ≡ shown.now ++ least_shown by.now) }
+{
+    let mut all = Vec::from_slice(alloc, shown)?;
+    for column in by {
+        all.push(Shown::Aggregate(AggKind::Min, *column))?;
+    }
+    Ok(all)
+}
+
+// The result row of a group that has so many values before those of its key's columns.
+fn spelled_row(group: GroupValues, shown: usize) -> Result<Row, AllocError>
+    ensures { IfOk result (λ row. row ≡ row_spelled shown group) }
+{
+    let mut values = group.into_values()?;
+    if shown < values.len() {
+        values.rotate_left(shown);
+    }
+    Ok(Row::new(values))
+}
+
+fn spelled_rows(
+    alloc: Global,
+    groups: Vec<GroupValues>,
+    shown: usize,
+) -> Result<Vec<Row>, AllocError>
+    ensures { IfOk result (λ rows. rows.items ≡ map (row_spelled shown) groups.items) }
+{
+    let mut rows = Vec::with_capacity(alloc, groups.len())?;
+    for group in groups {
+        rows.push(spelled_row(group, shown)?)?;
+    }
+    Ok(rows)
+}
+
+// No least value is out of range: a store that does not read back what was written is to blame.
+fn blamed(refusal: Refusal) -> Refusal
+    ensures { result ≡ blamed_as refusal }
+{
+    match refusal {
+        Refusal::SumRange => Refusal::Damaged,
+        Refusal::Memory => Refusal::Memory,
+        Refusal::StoreFault => Refusal::StoreFault,
+        Refusal::Damaged => Refusal::Damaged,
+    }
+}
+
+impl<'a, H: KeyHash<Key> + Copy> Query<'a, H> {
+    /// The result rows of the groups, in the order of their keys, and what grouping them took.
+    pub fn rows<S: RunStore>(
+        &self,
+        shown: &[Shown],
+        store: &mut S,
+    ) -> Result<(Vec<Row>, Spent), Refusal>
+        requires columns { HasColumns self.now }
+        requires shown { IsTrue
+            (list_all (can_show self.now.table.now.heading.columns) shown.now) }
+        ensures rows { IsTrue (S.runs store.old).honest →
+            IfOk result (λ found. answer self.now.by.now shown.now
+            (kept_rows self.now) ≡ Some found.0.items) }
+        ensures spent { IsTrue (S.runs store.old).honest →
+            IfOk result (λ found. IsSpentOn self.now.budget.entries self.now.by.now
+            (kept_rows self.now) found.1) }
+        ensures overflow { IsTrue (S.runs store.old).honest → IsErrOf result Refusal.SumRange →
+            answer self.now.by.now shown.now (kept_rows self.now) ≡ None }
+        ensures others { LeavesOthers no_runs no_runs (S.runs store.old) (S.runs store.new) }
+        ensures cause { IfErr result (λ e. GroupCause e (S.runs store.old) (S.runs store.new)) }
+    {
+        let _standing = self.table.rows();
+        if has_spellings(self.table.schema().columns(), self.by) {
+            self.rows_spelled(shown, store)
+        } else {
+            self.rows_alone(shown, store)
+        }
+    }
+
+    // The same, where keys have the rows' own values.
+    fn rows_alone<S: RunStore>(
+        &self,
+        shown: &[Shown],
+        store: &mut S,
+    ) -> Result<(Vec<Row>, Spent), Refusal>
+        requires columns { HasColumns self.now }
+        requires shown { IsTrue
+            (list_all (can_show self.now.table.now.heading.columns) shown.now) }
+        requires alone { may_differ self.now.table.now.heading.columns self.now.by.now ≡ false }
+        requires fitting { IsTrue (list_all (fits_columns self.now.table.now.heading.columns)
+            self.now.table.now.rows) }
+        ensures rows { IsTrue (S.runs store.old).honest →
+            IfOk result (λ found. answer self.now.by.now shown.now
+            (kept_rows self.now) ≡ Some found.0.items) }
+        ensures spent { IsTrue (S.runs store.old).honest →
+            IfOk result (λ found. IsSpentOn self.now.budget.entries self.now.by.now
+            (kept_rows self.now) found.1) }
+        ensures overflow { IsTrue (S.runs store.old).honest → IsErrOf result Refusal.SumRange →
+            answer self.now.by.now shown.now (kept_rows self.now) ≡ None }
+        ensures others { LeavesOthers no_runs no_runs (S.runs store.old) (S.runs store.new) }
+        ensures cause { IfErr result (λ e. GroupCause e (S.runs store.old) (S.runs store.new)) }
+    {
+        let (groups, spent) = self.show(shown, store)?;
+        match rows_of(self.alloc, groups) {
+            Ok(rows) => Ok((rows, spent)),
+            Err(_) => Err(Refusal::Memory),
+        }
+    }
+
+    // The same, with the least value in each of their columns.
+    fn rows_spelled<S: RunStore>(
+        &self,
+        shown: &[Shown],
+        store: &mut S,
+    ) -> Result<(Vec<Row>, Spent), Refusal>
+        requires columns { HasColumns self.now }
+        requires shown { IsTrue
+            (list_all (can_show self.now.table.now.heading.columns) shown.now) }
+        ensures rows { IsTrue (S.runs store.old).honest →
+            IfOk result (λ found. answer self.now.by.now shown.now
+            (kept_rows self.now) ≡ Some found.0.items) }
+        ensures spent { IsTrue (S.runs store.old).honest →
+            IfOk result (λ found. IsSpentOn self.now.budget.entries self.now.by.now
+            (kept_rows self.now) found.1) }
+        ensures overflow { IsTrue (S.runs store.old).honest → IsErrOf result Refusal.SumRange →
+            answer self.now.by.now shown.now (kept_rows self.now) ≡ None }
+        ensures others { LeavesOthers no_runs no_runs (S.runs store.old) (S.runs store.new) }
+        ensures cause { IfErr result (λ e. GroupCause e (S.runs store.old) (S.runs store.new)) }
+    {
+        let Ok(all) = with_least(self.alloc, shown, self.by) else {
+            return Err(Refusal::Memory);
+        };
+        let (groups, spent) = self.show(all.as_slice(), store)?;
+        match spelled_rows(self.alloc, groups, shown.len()) {
+            Ok(rows) => Ok((rows, spent)),
+            Err(_) => Err(Refusal::Memory),
+        }
+    }
+
+    /// The different keys of the rows that are kept, in order, each as it is shown.
+    pub fn different<S: RunStore>(&self, store: &mut S) -> Result<Vec<Row>, Refusal>
+        requires columns { HasColumns self.now }
+        requires some { 0 < length self.now.by.now }
+        ensures rows { IsTrue (S.runs store.old).honest →
+            IfOk result (λ rows. rows.items ≡ distinct_keys self.now.by.now
+            (kept_rows self.now)) }
+        ensures others { LeavesOthers no_runs no_runs (S.runs store.old) (S.runs store.new) }
+        ensures cause { IfErr result (λ e. HasCause e (S.runs store.old) (S.runs store.new)) }
+    {
+        let _standing = self.table.rows();
+        if has_spellings(self.table.schema().columns(), self.by) {
+            self.different_spelled(store)
+        } else {
+            self.different_alone(store)
+        }
+    }
+
+    fn different_alone<S: RunStore>(&self, store: &mut S) -> Result<Vec<Row>, Refusal>
+        requires columns { HasColumns self.now }
+        requires some { 0 < length self.now.by.now }
+        requires alone { may_differ self.now.table.now.heading.columns self.now.by.now ≡ false }
+        requires fitting { IsTrue (list_all (fits_columns self.now.table.now.heading.columns)
+            self.now.table.now.rows) }
+        ensures rows { IsTrue (S.runs store.old).honest →
+            IfOk result (λ rows. rows.items ≡ distinct_keys self.now.by.now
+            (kept_rows self.now)) }
+        ensures others { LeavesOthers no_runs no_runs (S.runs store.old) (S.runs store.new) }
+        ensures cause { IfErr result (λ e. HasCause e (S.runs store.old) (S.runs store.new)) }
+    {
+        let mut groups = self.keys(store)?;
+        let Ok(()) = sort_groups(&mut groups) else {
+            return Err(Refusal::Memory);
+        };
+        match rows_of(self.alloc, groups) {
+            Ok(rows) => Ok(rows),
+            Err(_) => Err(Refusal::Memory),
+        }
+    }
+
+    // They are groups of which nothing but the key is shown.
+    fn different_spelled<S: RunStore>(&self, store: &mut S) -> Result<Vec<Row>, Refusal>
+        requires columns { HasColumns self.now }
+        requires some { 0 < length self.now.by.now }
+        ensures rows { IsTrue (S.runs store.old).honest →
+            IfOk result (λ rows. rows.items ≡ distinct_keys self.now.by.now
+            (kept_rows self.now)) }
+        ensures others { LeavesOthers no_runs no_runs (S.runs store.old) (S.runs store.new) }
+        ensures cause { IfErr result (λ e. HasCause e (S.runs store.old) (S.runs store.new)) }
+    {
+        match self.rows_spelled(&[], store) {
+            Ok((rows, _)) => Ok(rows),
+            Err(why) => Err(blamed(why)),
+        }
+    }
+}

@@ -1,0 +1,15 @@
+use Rattle.std.proofs.Common.{arith}
+use Rattle.std.proofs.lemmas.Grind.{common_steps}
+use Rattle.gq_row.specs.Order.{plain_order}
+use Rattle.gq_row.specs.declared.value.Value.TheVariants.{Null}
+use Rattle.gq_row.proofs.ListOrderLemmas.{longer, shorter}
+use Rattle.gq_row.proofs.key.compare_bytes.Goals as goal
+
+pub returns-then-i-b : goal.returns-then-i-b
+returns-then-i-b c = longer plain_order Null c.args.a.now c.args.b.now c.loop-i.i (omega arith) (omega arith) c.loop-i.invariant.rest
+
+pub returns-then-a-b : goal.returns-then-a-b
+returns-then-a-b c = shorter plain_order Null c.args.a.now c.args.b.now c.loop-i.i (omega arith) (omega arith) c.loop-i.invariant.rest
+
+pub loop-i-preserved : goal.loop-i-preserved
+loop-i-preserved c = grind (arith, common_steps)

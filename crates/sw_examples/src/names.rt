@@ -1,0 +1,49 @@
+//! A key type of one's own: names that are the same in capitals.
+ghost use Rattle.std.specs.Prelude.{◌≡◌, map, fold, string_bytes};
+ghost use Rattle.std.specs.Char.{to_ascii_lowercase};
+
+use sw_probe::{Keyed, Names, Step};
+
+/// A name, which is the same name where only the case of ASCII letters differs.
+#[derive(Debug, Drop)]
+pub struct Name(pub String);
+
+impl Keyed for Name {
+    ghost class = { λ name. map to_ascii_lowercase (string_bytes name.0) };
+
+    ghost bytes = { λ class. class };
+
+    fn same_key(&self, key: &Name) -> bool {
+        self.0.eq_ignore_ascii_case(key.0.as_str())
+    }
+
+    fn fold_key<F: Step>(&self, start: u64, f: &F) -> u64 {
+        fold_lowercase(self.0.as_bytes(), start, f)
+    }
+}
+
+/// A name, borrowed.
+#[derive(Clone, Copy)]
+pub struct NameRef<'a>(pub &'a str);
+
+impl Names<Name> for NameRef<'_> {
+    ghost named = { λ name. map to_ascii_lowercase name.0.now };
+
+    fn same(&self, key: &Name) -> bool {
+        self.0.eq_ignore_ascii_case(key.0.as_str())
+    }
+
+    fn fold<F: Step>(&self, start: u64, f: &F) -> u64 {
+        fold_lowercase(self.0.as_bytes(), start, f)
+    }
+}
+
+fn fold_lowercase<F: Step>(bytes: &[u8], start: u64, f: &F) -> u64
+    ensures { result ≡ fold (F.next f.now) start (map to_ascii_lowercase bytes.now) }
+{
+    let mut acc = start;
+    for byte in bytes {
+        acc = f.step(acc, byte.to_ascii_lowercase());
+    }
+    acc
+}

@@ -1,0 +1,20 @@
+# Completion of groupsh for bash: `source` this file, or put it into ~/.local/share/bash-completion/completions as
+# `groupsh`. ./test holds its options to those of --help.
+
+_groupsh() {
+  local word=${COMP_WORDS[COMP_CWORD]} before=
+  ((COMP_CWORD > 0)) && before=${COMP_WORDS[COMP_CWORD - 1]}
+  case $before in
+    --budget) COMPREPLY=() ;;
+    --seed) mapfile -t COMPREPLY < <(compgen -W "random" -- "$word") ;;
+    --spill) mapfile -t COMPREPLY < <(compgen -d -- "$word") ;;
+    *)
+      case $word in
+        -*) mapfile -t COMPREPLY < <(compgen -W "--budget --seed --spill --stats --help -h --version -V" -- "$word") ;;
+        *) mapfile -t COMPREPLY < <(compgen -f -- "$word") ;;
+      esac
+      ;;
+  esac
+}
+
+complete -o filenames -F _groupsh groupsh ./groupsh

@@ -1,0 +1,116 @@
+"""Groups tables by groupsh and by other programs, and prints what each takes, one line for each shape of table.
+
+    bench.py GROUPSH [ROWS]
+
+A table has a number of its own for each row, a key, and a number from 0 to 999. Few (a hundred), many (a tenth) or all of the
+keys differ, and they are numbers or texts. Each program reads the same CSV file, counts, sums and takes the least and the
+greatest number of each key, and writes its answer in the order of the keys. The programs take turns, three rounds, and
+the least processor time of each counts, with the greatest memory of it. Answers are compared: where one differs from
+groupsh's, that is said, and the status is 1.
+"""
+
+import os
+import random
+import shutil
+import subprocess
+import sys
+import tempfile
+
+ROUNDS = 3
+QUERY = "count(*), sum(x), min(x), max(x)"
+
+
+def shapes(rows):
+    """The name of each shape, and the key of a row by its number."""
+    for name, keys in (("few", min(100, rows)), ("many", max(1, rows // 10)), ("all", rows)):
+        yield f"{name} numbers", "int", lambda n, keys=keys: str((n * 2654435761 + 12345) % keys)
+        yield f"{name} texts", "text", lambda n, keys=keys: f"city {(n * 2654435761 + 12345) % keys:07d}"
+
+
+def write_rows(path, rows, key):
+    """The rows of a shape as a CSV file."""
+    chance = random.Random(1)
+    with open(path, "w") as file:
+        file.write("id,city,x\n")
+        for n in range(rows):
+            file.write(f"{n},{key(n)},{chance.randrange(1000)}\n")
+
+
+def groupsh(program, folder, kind, rows):
+    script = os.path.join(folder, "script.gq")
+    with open(script, "w") as file, open(os.path.join(folder, "rows.csv")) as table:
+        file.write(f"create s (id int, city {kind}, x int)\nload s\n")
+        shutil.copyfileobj(table, file)
+        file.write(f"\\.\ngroup s by city show {QUERY}\n")
+    return [program, script]
+
+
+def sqlite3(program, folder, kind, rows):
+    script = os.path.join(folder, "script.sql")
+    with open(script, "w") as file:
+        file.write(f"create table s (id int, city {kind}, x int);\n.mode csv\n.import --skip 1 {folder}/rows.csv s\n")
+        file.write(f"select city, {QUERY} from s group by city order by city;\n")
+    return ["sh", "-c", f"{program} :memory: <{script}"]
+
+
+def mawk(program, folder, kind, rows):
+    text = (
+        'NR > 1 { n = ++count[$2]; sum[$2] += $3; if (n == 1 || $3 < least[$2]) least[$2] = $3;'
+        ' if (n == 1 || $3 > most[$2]) most[$2] = $3 }'
+        ' END { for (k in count) printf "%s,%d,%d,%d,%d\\n", k, count[k], sum[k], least[k], most[k] }'
+    )
+    order = "-n" if kind == "int" else ""
+    return ["sh", "-c", f"{program} -F, '{text}' {folder}/rows.csv | LC_ALL=C sort -t, -k1,1{order[1:]}"]
+
+
+def lines_of(name, output):
+    """The rows of an answer: groupsh's come behind four replies' lines, and sqlite3 puts texts with spaces in quotes."""
+    with open(output, "rb") as file:
+        lines = file.read().replace(b"\r\n", b"\n").replace(b'"', b"").splitlines()
+    return lines[4:] if name == "groupsh" else lines
+
+
+def run(command, output):
+    """Processor seconds and greatest memory, in MB, of a command and all that it starts."""
+    with open(output, "wb") as file:
+        child = subprocess.Popen(command, stdout=file, stdin=subprocess.DEVNULL)
+        _, status, usage = os.wait4(child.pid, 0)
+        child.returncode = os.waitstatus_to_exitcode(status)
+    if child.returncode:
+        sys.exit(f"bench: {command[0]} ended with status {child.returncode}")
+    return usage.ru_utime + usage.ru_stime, usage.ru_maxrss / 1024
+
+
+def main():
+    rows = int(sys.argv[2]) if len(sys.argv) > 2 else 1_000_000
+    programs = {"groupsh": (groupsh, sys.argv[1])}
+    for name, makes in (("sqlite3", sqlite3), ("mawk", mawk)):
+        where = shutil.which(name)
+        if where:
+            programs[name] = (makes, where)
+    print(f"{rows} rows; group by city: {QUERY}; processor seconds (and MB), the least of {ROUNDS} rounds")
+    others = [name for name in programs if name != "groupsh"]
+    print(f"{'keys':14}" + "".join(f"{name:>18}" for name in programs) + "".join(f"{name + '/groupsh':>18}" for name in others))
+    differ = False
+    for shape, kind, key in shapes(rows):
+        with tempfile.TemporaryDirectory() as folder:
+            write_rows(os.path.join(folder, "rows.csv"), rows, key)
+            commands = {name: makes(where, folder, kind, rows) for name, (makes, where) in programs.items()}
+            least = {name: (float("inf"), 0.0) for name in programs}
+            answers = {}
+            for _ in range(ROUNDS):
+                for name, command in commands.items():
+                    output = os.path.join(folder, "answer")
+                    least[name] = min(least[name], run(command, output))
+                    answers[name] = lines_of(name, output)
+            cells = "".join(f"{seconds:10.2f} ({memory:5.0f})" for seconds, memory in least.values())
+            ratios = "".join(f"{least[name][0] / least['groupsh'][0]:18.1f}" for name in others)
+            print(f"{shape:14}{cells}{ratios}", flush=True)
+            for name in others:
+                if answers[name] != answers["groupsh"]:
+                    print(f"the answer of {name} differs")
+                    differ = True
+    sys.exit(differ)
+
+
+main()
