@@ -229,7 +229,7 @@ def longest_texts(example):
 
 def longest_names(example):
     """Bytes of a name, of a table and of columns, and of a payload's header and an answer's."""
-    names = ['"' * (LONGEST_NAME - 2) + f"{i:02}" for i in range(MOST_COLUMNS)]
+    names = ['"' * (LONGEST_NAME - 2) + f"{i:02x}" for i in range(MOST_COLUMNS)]
     table = "é" * (LONGEST_NAME // 2) + "t"
     example.create(table, [(name, "int") for name in names], names)
     example.upsert(table, *range(MOST_COLUMNS))
