@@ -189,7 +189,7 @@ def spellings(example):
 def rollups(example):
     """Levels of a rollup, one more than a table has columns; rows of a level; what is shown of each."""
     names = [f"c{i}" for i in range(MOST_COLUMNS)]
-    rows = [tuple(i // 3 ** (j % 5) % 3 or None for j in range(MOST_COLUMNS)) for i in range(200)]
+    rows = [tuple(i // 3 ** (j % 5) % 3 or None for j in range(MOST_COLUMNS)) for i in range(60)]
     example.create("w", [(name, "int") for name in names])
     example.load("w", names, rows)
     example.group("w", names, [COUNT, ("sum", "c0")], rollup=True)
