@@ -103,9 +103,7 @@ impl GroupValues {
         ensures { IfOk result (λ values. values.items ≡ self.1) }
     {
         let width = self.width;
-        let Ok(mut cells) = self.cells.into_vec() else {
-            return Err(AllocError);
-        };
+        let mut cells = self.into_row()?.into_cells();
         cells.rotate_left(width);
         cells.truncate(cells.len() - width);
         Ok(cells)
