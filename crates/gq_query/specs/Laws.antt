@@ -6,7 +6,7 @@ use Rattle.gq_select.specs.declared.condition.Test.{Test}
 use Rattle.gq_select.specs.declared.matching.Matching.{Matching}
 use Rattle.gq_select.specs.declared.shown.Shown.{Shown}
 use Rattle.gq_query.specs.Answers.{answer, distinct_keys, rows_kept, rows_shown}
-use Rattle.gq_query.specs.Rollups.{group_answer, level_rows, levels}
+use Rattle.gq_query.specs.Rollups.{group_answer, level_rows}
 
 -- Tables that differ only in the order of their rows give the same answers: to a `group` and a `distinct` in any case, whichever of two tables it is, and to a `show` where no two rows have the same key.
 pub record OrderIsUnseen : Type 0 where
