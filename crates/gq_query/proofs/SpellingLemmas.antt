@@ -33,14 +33,14 @@ use Rattle.gq_select.specs.Asking.{all_of, kind_at, can_show}
 use Rattle.gq_select.specs.declared.shown.Shown.{Shown}
 use Rattle.gq_select.specs.declared.shown.Shown.TheVariants.{Aggregate}
 use Rattle.gq_query.specs.Answers.{shown_value, shown_key, result_row, answer, distinct_keys}
-use Rattle.gq_query.specs.Joining.{shown_of, AreShown, folded_row, folded_answer, folded_keys}
-use Rattle.gq_query.specs.Spelling.{is_nocase, has_spellings, least_shown, spelled_row}
+use Rattle.gq_query.specs.Joining.{row_of, shown_of, AreShown, folded_row, folded_answer, folded_keys}
+use Rattle.gq_query.specs.Spelling.{is_nocase, has_spellings, least_shown}
 use Rattle.gq_query.proofs.Joined.{cons_head, cons_tail, all_some, rest_none, nothing_behind}
 
 abbrev Told : Type 0
 Told = List Value × List (Option Value)
 
--- ---- the least values behind what is shown
+-- ---- the least values before what is shown
 
 -- what is shown of some rows
 abbrev values_of : List (List Value) → List Shown → List (Option Value)
@@ -50,40 +50,39 @@ least_told : (by : List ℕ) (rows : List (List Value)) → values_of rows (leas
 least_told [] rows = refl
 least_told (c ∷ by) rows = ap (λ l. Some (least (column_of c rows)) ∷ l) (least_told by rows)
 
--- two lists one behind the other, and what is told of each
-module _ (rows : List (List Value)) (behind : List Shown) where
-  told_first : (shown : List Shown) (xs : List Value) → map Some xs ≡ values_of rows (shown ++ behind) → map Some (take (length shown) xs) ≡ values_of rows shown
-  told_first [] xs h = refl
-  told_first (s ∷ shown) [] h = let none : ⊥ = cc in absurd none
-  told_first (s ∷ shown) (x ∷ xs) h = λ i.
-      cons_head (Some x) (shown_value s rows) (map Some xs) (values_of rows (shown ++ behind)) h i
-      ∷ told_first shown xs (cons_tail (Some x) (shown_value s rows) (map Some xs) (values_of rows (shown ++ behind)) h) i
+-- values before others
+before_some : (ys : List Value) (xs : List (Option Value)) → all_of (map Some ys ++ xs) ≡ option_map (λ vs. ys ++ vs) (all_of xs)
+before_some [] xs = sym (itself (all_of xs))
+  where
+    itself : (o : Option (List Value)) → option_map (λ vs. vs) o ≡ o
+    itself None = refl
+    itself (Some vs) = refl
+before_some (y ∷ ys) xs = ap (option_map (λ vs. y ∷ vs)) (before_some ys xs) ∙ told (all_of xs)
+  where
+    told : (o : Option (List Value)) → option_map (λ vs. y ∷ vs) (option_map (λ vs. ys ++ vs) o) ≡ option_map (λ vs. (y ∷ ys) ++ vs) o
+    told None = refl
+    told (Some vs) = refl
 
-  told_behind : (shown : List Shown) (xs : List Value) → map Some xs ≡ values_of rows (shown ++ behind) → map Some (drop (length shown) xs) ≡ values_of rows behind
-  told_behind [] xs h = h
-  told_behind (s ∷ shown) [] h = let none : ⊥ = cc in absurd none
-  told_behind (s ∷ shown) (x ∷ xs) h = told_behind shown xs (cons_tail (Some x) (shown_value s rows) (map Some xs) (values_of rows (shown ++ behind)) h)
-
-some_same : {X : Type 0} (x y : X) → Some x ≡ Some y → x ≡ y
-some_same x y h = cc
-
-all_same : (xs ys : List Value) → map Some xs ≡ map Some ys → xs ≡ ys
-all_same xs ys h = some_same xs ys (sym (all_some xs) ∙ ap all_of h ∙ all_some ys)
+values_append : (mine : List (List Value)) (firsts others : List Shown) → values_of mine (firsts ++ others) ≡ values_of mine firsts ++ values_of mine others
+values_append mine [] others = refl
+values_append mine (a ∷ firsts) others = ap (λ l. shown_value a mine ∷ l) (values_append mine firsts others)
 
 module _ (by : List ℕ) (shown : List Shown) (rows : List (List Value)) where
   abbrev with_least : List Shown
-  with_least = shown ++ least_shown by
+  with_least = least_shown by ++ shown
 
-  spelled_one : (k : List Value) (g : Group) → answered g ≡ shown_of by with_least rows k → result_row by shown rows k ≡ Some (spelled_row (length shown) g)
-  spelled_one k g h =
+  -- the least values and what is shown are the result row of a key
+  told_row : (k : List Value) → all_of (values_of (of_key by rows k) with_least) ≡ result_row by shown rows k
+  told_row k =
       let mine = of_key by rows k in
-      let values : map Some g.1 ≡ values_of mine with_least = ap (λ (p : Told). p.1) h in
-      let first = told_first mine (least_shown by) shown g.1 values in
-      let key : drop (length shown) g.1 ≡ shown_key by mine = all_same (drop (length shown) g.1) (shown_key by mine) (told_behind mine (least_shown by) shown g.1 values ∙ least_told by mine) in
-      ap (option_map (λ vs. shown_key by mine ++ vs)) (sym (ap all_of first) ∙ all_some (take (length shown) g.1))
-      ∙ ap (λ l. Some (l ++ take (length shown) g.1)) (sym key)
+      ap all_of (values_append mine (least_shown by) shown ∙ ap (λ l. l ++ values_of mine shown) (least_told by mine))
+      ∙ before_some (shown_key by mine) (values_of mine shown)
 
-  spelled_all : (ks : List (List Value)) (gs : List Group) → map answered gs ≡ map (shown_of by with_least rows) ks → all_of (map (result_row by shown rows) ks) ≡ Some (map (spelled_row (length shown)) gs)
+  spelled_one : (k : List Value) (g : Group) → answered g ≡ shown_of by with_least rows k → result_row by shown rows k ≡ Some g.1
+  spelled_one k g h = sym (told_row k) ∙ ap all_of (sym (ap (λ (p : Told). p.1) h)) ∙ all_some g.1
+
+  spelled_all : (ks : List (List Value)) (gs : List Group) → map answered gs ≡ map (shown_of by with_least rows) ks
+      → all_of (map (result_row by shown rows) ks) ≡ Some (map row_of (map (λ g. ([], g.1)) gs))
   spelled_all [] [] h = refl
   spelled_all [] (g ∷ gs) h = let none : ⊥ = cc in absurd none
   spelled_all (k ∷ ks) [] h = let none : ⊥ = cc in absurd none
@@ -92,35 +91,18 @@ module _ (by : List ℕ) (shown : List Shown) (rows : List (List Value)) where
       let rest = spelled_all ks gs (cons_tail (answered g) (shown_of by with_least rows k) (map answered gs) (map (shown_of by with_least rows) ks) h) in
       λ i. option_and_then (λ x. option_map (λ xs. x ∷ xs) (rest i)) (first i)
 
-  -- the rows of groups that have the least values behind what is shown are the answer
-  pub spelled_answer : (gs : List Group) → AreShown by with_least rows gs → answer by shown rows ≡ Some (map (spelled_row (length shown)) gs)
+  -- groups that have the least values before what is shown are the answer, without their keys
+  pub spelled_answer : (gs : List Group) → AreShown by with_least rows gs → answer by shown rows ≡ Some (map row_of (map (λ g. ([], g.1)) gs))
   spelled_answer gs h = spelled_all (in_order (λ key. key) (keys_of by rows)) gs h
 
   -- ---- where some sum is out of range there is no answer, whether keys are asked for or not
 
-  behind_some : (xs : List (Option Value)) (ys : List Value) → all_of (xs ++ map Some ys) ≡ option_map (λ vs. vs ++ ys) (all_of xs)
-  behind_some [] ys = all_some ys
-  behind_some (x ∷ xs) ys = ap (λ o. option_and_then (λ v. option_map (λ vs. v ∷ vs) o) x) (behind_some xs ys) ∙ told x (all_of xs)
-    where
-      told : (o : Option Value) (p : Option (List Value)) → option_and_then (λ v. option_map (λ vs. v ∷ vs) (option_map (λ vs. vs ++ ys) p)) o ≡ option_map (λ vs. vs ++ ys) (option_and_then (λ v. option_map (λ vs. v ∷ vs) p) o)
-      told None p = refl
-      told (Some v) None = refl
-      told (Some v) (Some vs) = refl
-
-  values_append : (mine : List (List Value)) (firsts others : List Shown) → values_of mine (firsts ++ others) ≡ values_of mine firsts ++ values_of mine others
-  values_append mine [] others = refl
-  values_append mine (a ∷ firsts) others = ap (λ l. shown_value a mine ∷ l) (values_append mine firsts others)
-
   row_none : (k : List Value) → folded_row by with_least rows k ≡ None → result_row by shown rows k ≡ None
-  row_none k h =
-      let mine = of_key by rows k in
-      let values : all_of (values_of mine with_least) ≡ option_map (λ vs. vs ++ shown_key by mine) (all_of (values_of mine shown))
-      = ap all_of (values_append mine shown (least_shown by) ∙ ap (λ l. values_of mine shown ++ l) (least_told by mine)) ∙ behind_some (values_of mine shown) (shown_key by mine) in
-      told (all_of (values_of mine shown)) (shown_key by mine) (sym (ap (option_map (λ vs. k ++ vs)) values) ∙ h)
+  row_none k h = sym (told_row k) ∙ told (all_of (values_of (of_key by rows k) with_least)) h
     where
-      told : (o : Option (List Value)) (key : List Value) → option_map (λ vs. k ++ vs) (option_map (λ vs. vs ++ key) o) ≡ None → option_map (λ vs. key ++ vs) o ≡ None
-      told None key e = refl
-      told (Some vs) key e = let none : ⊥ = cc in absurd none
+      told : (o : Option (List Value)) → option_map (λ vs. k ++ vs) o ≡ None → o ≡ None
+      told None e = refl
+      told (Some vs) e = let none : ⊥ = cc in absurd none
 
   rows_none : (ks : List (List Value)) → all_of (map (folded_row by with_least rows) ks) ≡ None → all_of (map (result_row by shown rows) ks) ≡ None
   rows_none [] h = let none : ⊥ = cc in absurd none
@@ -287,18 +269,12 @@ plain_rows columns by (row ∷ rows) fits alone =
 
 -- ---- what may be shown
 
-least_may : (columns : List Column) (by : List ℕ) → All (λ column. column < length columns) by → list_all (can_show columns) (least_shown by) ≡ true
-least_may columns [] h = refl
-least_may columns (c ∷ by) h =
-    and_from (can_show columns (Aggregate Min c)) (list_all (can_show columns) (least_shown by))
+pub all_may : (columns : List Column) (shown : List Shown) (by : List ℕ) → list_all (can_show columns) shown ≡ true → All (λ column. column < length columns) by → list_all (can_show columns) (least_shown by ++ shown) ≡ true
+all_may columns shown [] may h = may
+all_may columns shown (c ∷ by) may h =
+    and_from (can_show columns (Aggregate Min c)) (list_all (can_show columns) (least_shown by ++ shown))
     (and_from (nat_lt c (length columns)) true (lt-ltb c (length columns) (All-head (λ column. column < length columns) c by h)) refl)
-    (least_may columns by (All-tail (λ column. column < length columns) c by h))
-
-pub all_may : (columns : List Column) (shown : List Shown) (by : List ℕ) → list_all (can_show columns) shown ≡ true → All (λ column. column < length columns) by → list_all (can_show columns) (shown ++ least_shown by) ≡ true
-all_may columns [] by may h = least_may columns by h
-all_may columns (s ∷ shown) by may h =
-    let parts = and_parts (can_show columns s) (list_all (can_show columns) shown) may in
-    and_from (can_show columns s) (list_all (can_show columns) (shown ++ least_shown by)) parts.0 (all_may columns shown by parts.1 h)
+    (all_may columns shown by may (All-tail (λ column. column < length columns) c by h))
 
 -- ---- a store is to blame where a least value is told as out of range
 

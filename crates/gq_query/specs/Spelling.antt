@@ -1,12 +1,10 @@
 -- How keys are shown as their rows spell them.
-use Rattle.std.specs.Prelude.{ℕ, Bool, true, false, List, ◌++◌, map, take, drop}
+use Rattle.std.specs.Prelude.{ℕ, Bool, true, false, List, map}
 use Rattle.std.specs.List.{list_any}
-use Rattle.gq_row.specs.declared.value.Value.{Value}
 use Rattle.gq_row.specs.declared.schema.Column.{Column}
 use Rattle.gq_row.specs.declared.schema.Kind.{Kind}
 use Rattle.gq_row.specs.declared.schema.Kind.TheVariants as kind
 use Rattle.gq_agg.specs.declared.kind.AggKind.TheVariants.{Min}
-use Rattle.gq_group.specs.Groups.{Group}
 use Rattle.gq_select.specs.Asking.{kind_at}
 use Rattle.gq_select.specs.declared.shown.Shown.{Shown}
 use Rattle.gq_select.specs.declared.shown.Shown.TheVariants.{Aggregate}
@@ -23,7 +21,3 @@ has_spellings columns by = list_any (λ column. is_nocase (kind_at columns colum
 -- the least value in each column of a key
 abbrev pub least_shown : List ℕ → List Shown
 least_shown by = map (λ column. Aggregate Min column) by
-
--- the result row of a group behind whose first n values those stand: they take the place of its key
-abbrev pub spelled_row : ℕ → Group → List Value
-spelled_row n g = drop n g.1 ++ take n g.1

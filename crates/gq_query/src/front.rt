@@ -5,7 +5,7 @@ ghost use Rattle.gq_row.specs.Folding.{fold_case};
 ghost use Rattle.gq_query.specs.Answers.{ordered_by};
 ghost use Rattle.gq_query.specs.Fronts.{IsFrontOf, IsValueFront, front_of, leading};
 
-use gq_row::Value;
+use gq_row::{Value, fold_eight};
 
 /// The front of a value, sixteen bytes in two words: nothing of null, a number behind a byte of 1,
 /// the first fifteen bytes of a text behind a byte of 2, and those of the fold of a text without case
@@ -113,8 +113,18 @@ fn byte(text: &[u8], place: usize) -> u8
     }
 }
 
-// The first eight bytes of a text's fold, the first of them highest, with zeros behind its end.
+// The first eight bytes of a text's fold, the first of them highest.
 fn first_folded(text: &[u8]) -> u64
+    ensures { result ≡ leading 8 (fold_case text.now) }
+{
+    match text.first_chunk::<8>() {
+        Some(bytes) => u64::from_be_bytes(fold_eight(*bytes)),
+        None => padded_folded(text),
+    }
+}
+
+// The same, of a text that may end before them.
+fn padded_folded(text: &[u8]) -> u64
     ensures { result ≡ leading 8 (fold_case text.now) }
 {
     u64::from_be_bytes([

@@ -1,5 +1,5 @@
 //! A list of groups as a sink.
-ghost use Rattle.std.specs.Prelude.{◌≡◌, ◌++◌, ◌∷◌, [], OnOk, IfOk, insert, map};
+ghost use Rattle.std.specs.Prelude.{◌≡◌, ◌≤◌, ◌++◌, ◌∷◌, [], OnOk, IfOk, insert, length, map, drop};
 ghost use Rattle.gq_row.specs.Order.{compare_keys};
 ghost use Rattle.gq_query.specs.Fronts.{IsFrontOf};
 ghost use Rattle.gq_query.specs.Joining.{first_of, row_of};
@@ -98,15 +98,13 @@ impl GroupValues {
         Ok(())
     }
 
-    /// Its values behind the key. They move.
-    pub fn into_values(self) -> Result<Vec<Value>, AllocError>
-        ensures { IfOk result (λ values. values.items ≡ self.1) }
+    /// Leaves its key out, so that the other values stand alone.
+    pub fn leave_key(&mut self)
+        ensures { self.new ≡ ([], self.old.1) }
     {
-        let width = self.width;
-        let mut cells = self.into_row()?.into_cells();
-        cells.rotate_left(width);
-        cells.truncate(cells.len() - width);
-        Ok(cells)
+        drop_first(&mut self.cells, self.width);
+        self.width = 0;
+        self.front = front_in(&[], &[]);
     }
 
     /// The result row: the key's values, and then the others. All of them move.
@@ -118,6 +116,25 @@ impl GroupValues {
             Ok(cells) => Ok(Row::new(cells)),
             Err(_) => Err(AllocError),
         }
+    }
+}
+
+// Drops the first of some values, so many.
+fn drop_first(cells: &mut SmallVec<Value, 2>, count: usize)
+    requires { count ≤ length cells.old.items }
+    ensures { cells.new.items ≡ drop count cells.old.items }
+{
+    for _ in 0..count {
+        let _ = cells.remove(0);
+    }
+}
+
+/// Leaves the key of each group out.
+pub fn leave_keys(groups: &mut [GroupValues])
+    ensures { groups.new ≡ map (λ group. ([], group.1)) groups.old }
+{
+    for group in groups {
+        group.leave_key();
     }
 }
 

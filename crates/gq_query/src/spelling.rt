@@ -1,10 +1,10 @@
 //! Result rows with their keys as the rows of a table spell them.
 //!
 //! Rows are grouped and sorted by keys whose texts without case stand by their folds. Where a key's
-//! columns have such texts, the least value in each of them is asked of the groups too, behind what is
-//! shown, and takes the key's place in the result row. Where none has, a key has the rows' own values,
-//! and nothing more is asked.
-ghost use Rattle.std.specs.Prelude.{◌≡◌, ◌<◌, ◌++◌, All, IsTrue, IfOk, IfErr, IsErrOf, false, length, map, None, Some};
+//! columns have such texts, the least value in each of them is asked of the groups too, before what is
+//! shown, and stands in the result row in the key's place. Where none has, a key has the rows' own
+//! values, and nothing more is asked.
+ghost use Rattle.std.specs.Prelude.{◌≡◌, ◌<◌, ◌++◌, All, IsTrue, IfOk, IfErr, IsErrOf, false, length, None, Some};
 ghost use Rattle.std.specs.List.{list_all};
 ghost use Rattle.gq_row.specs.Fitting.{fits_columns};
 ghost use Rattle.gq_group.specs.Access.{LeavesOthers, HasCause, GroupCause};
@@ -13,10 +13,10 @@ ghost use Rattle.gq_select.specs.Asking.{can_show};
 ghost use Rattle.gq_query.specs.Answers.{answer, distinct_keys};
 ghost use Rattle.gq_query.specs.Keeping.{HasColumns, kept_rows};
 ghost use Rattle.gq_query.specs.Sources.{no_runs};
-ghost use Rattle.gq_query.specs.Spelling.{has_spellings as may_differ, least_shown, spelled_row as row_spelled};
+ghost use Rattle.gq_query.specs.Spelling.{has_spellings as may_differ, least_shown};
 ghost use Rattle.gq_query.specs.Work.{IsSpentOn};
 
-use crate::group_list::{GroupValues, rows_of};
+use crate::group_list::{leave_keys, rows_of};
 use crate::ordering::sort_groups;
 use crate::query::Query;
 use gq_agg::AggKind;
@@ -40,40 +40,16 @@ fn has_spellings(columns: &[Column], by: &[usize]) -> bool
     false
 }
 
-// What is shown, and behind it the least value in each column of the key.
+// The least value in each column of the key, and behind them what is shown.
 fn with_least(alloc: Global, shown: &[Shown], by: &[usize]) -> Result<Vec<Shown>, AllocError>
-    ensures { IfOk result (λ all. all.items ≡ shown.now ++ least_shown by.now) }
+    ensures { IfOk result (λ all. all.items ≡ least_shown by.now ++ shown.now) }
 {
-    let mut all = Vec::from_slice(alloc, shown)?;
+    let mut all = Vec::new(alloc);
     for column in by {
         all.push(Shown::Aggregate(AggKind::Min, *column))?;
     }
+    all.extend_from_slice(shown)?;
     Ok(all)
-}
-
-// The result row of a group that has so many values before those of its key's columns.
-fn spelled_row(group: GroupValues, shown: usize) -> Result<Row, AllocError>
-    ensures { IfOk result (λ row. row ≡ row_spelled shown group) }
-{
-    let mut values = group.into_values()?;
-    if shown < values.len() {
-        values.rotate_left(shown);
-    }
-    Ok(Row::new(values))
-}
-
-fn spelled_rows(
-    alloc: Global,
-    groups: Vec<GroupValues>,
-    shown: usize,
-) -> Result<Vec<Row>, AllocError>
-    ensures { IfOk result (λ rows. rows.items ≡ map (row_spelled shown) groups.items) }
-{
-    let mut rows = Vec::with_capacity(alloc, groups.len())?;
-    for group in groups {
-        rows.push(spelled_row(group, shown)?)?;
-    }
-    Ok(rows)
 }
 
 // No least value is out of range: a store that does not read back what was written is to blame.
@@ -170,8 +146,9 @@ impl<'a, H: KeyHash<Key> + Copy> Query<'a, H> {
         let Ok(all) = with_least(self.alloc, shown, self.by) else {
             return Err(Refusal::Memory);
         };
-        let (groups, spent) = self.show(all.as_slice(), store)?;
-        match spelled_rows(self.alloc, groups, shown.len()) {
+        let (mut groups, spent) = self.show(all.as_slice(), store)?;
+        leave_keys(groups.as_mut_slice());
+        match rows_of(self.alloc, groups) {
             Ok(rows) => Ok((rows, spent)),
             Err(_) => Err(Refusal::Memory),
         }

@@ -6,6 +6,7 @@ ghost use Rattle.gq_row.specs.Classes.{class_of, bytes_of, spelling, spelled};
 ghost use Rattle.gq_row.specs.Order.{same_key};
 ghost use Rattle.gq_row.specs.Rows.{key_of};
 
+use crate::folding::fold_byte;
 use crate::key::Key;
 use crate::row::Row;
 use crate::text::Text;
@@ -207,7 +208,7 @@ fn fold_lowered<F: Step>(bytes: &[u8], start: u64, f: &F) -> u64
 {
     let mut acc = start;
     for byte in bytes {
-        acc = f.step(acc, byte.to_ascii_lowercase());
+        acc = f.step(acc, fold_byte(*byte));
     }
     acc
 }

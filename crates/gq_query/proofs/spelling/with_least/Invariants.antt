@@ -3,4 +3,4 @@ use Rattle.gq_query.specs.Spelling.{least_shown}
 use Rattle.gq_query.proofs.spelling.with_least.Given as goal
 
 abbrev pub invariant-loop-column : goal.invariant-loop-column
-invariant-loop-column l = l.all.items ++ least_shown (drop l.column-index l.by) ≡ l.shown ++ least_shown l.by
+invariant-loop-column l = l.all.items ++ least_shown (drop l.column-index l.by) ≡ least_shown l.by

@@ -1,7 +1,7 @@
-use Rattle.std.proofs.Common.{sym, ap, ◌∙◌}
-use Rattle.std.specs.Ordering.{is_eq}
+use Rattle.std.proofs.Common.{sym, ◌∙◌}
+use Rattle.std.proofs.lemmas.Slice.Eq.{bytes_eq-Decides}
 use Rattle.gq_row.proofs.OrderLemmas.{alike_tie}
 use Rattle.gq_row.proofs.value.compare_spellings.Goals as goal
 
-pub returns-then-is_eq : goal.returns-then-is_eq
-returns-then-is_eq c = alike_tie c.args.a.now c.args.b.now (ap is_eq (sym c.cmp-bytes.ensures) ∙ sym c.is_eq.ensures ∙ c.if-is_eq.true)
+pub returns-then-eq : goal.returns-then-eq
+returns-then-eq c = alike_tie c.args.a.now c.args.b.now ((bytes_eq-Decides c.args.a.now c.args.b.now).0 (sym c.eq.ensures ∙ c.if-eq.true))
