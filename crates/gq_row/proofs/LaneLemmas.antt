@@ -1,10 +1,10 @@
 -- The fold of eight bytes at once, and texts of which eight bytes are compared at a time.
-use Rattle.std.proofs.Common.{◌≡◌, ◌+◌, ◌-◌, ◌*◌, ◌%◌, ◌^◌, ◌≤◌, ◌<◌, ◌&&◌, ℕ, zero, suc, Bool, true, false, cond, not, eqb, nat_lt, List, [], ◌∷◌, ◌++◌, map, length, take, drop, replicate, get_or, bytes_eq, w8, inl, inr, refl, sym, ap, ◌∙◌, arith}
+use Rattle.std.proofs.Common.{◌≡◌, ◌+◌, ◌*◌, ◌%◌, ◌^◌, ◌≤◌, ◌<◌, ◌&&◌, ℕ, Bool, true, false, cond, not, eqb, nat_lt, List, [], ◌∷◌, ◌++◌, map, length, take, drop, replicate, get_or, bytes_eq, w8, inl, inr, refl, sym, ap, ◌∙◌, arith}
 use lib.Lanes.{zip2, mask_l, top, sel_l}
 use Rattle.std.specs.Char.{to_ascii_lowercase}
 use Rattle.std.proofs.lemmas.Bool.{ltb-true, cases_eq, eq-eqb, ne_eqb, false≢true}
-use Rattle.std.proofs.lemmas.List.{take-append-drop, take-map, drop-map, length-map, length-take, length-drop, take_all, take-take}
-use Rattle.std.proofs.lemmas.Simd.{tops_compared, zip2_splat, mask_l-mod, map-map}
+use Rattle.std.proofs.lemmas.List.{take-append-drop, take-map, drop-map, length-map, length-drop, take_all, take-take}
+use Rattle.std.proofs.lemmas.Simd.{tops_compared, zip2_splat, mask_l-mod}
 use Rattle.std.proofs.lemmas.Slice.Eq.{bytes_eq-Decides}
 use Rattle.std.proofs.Math.Seq.{take-add}
 use Rattle.std.proofs.lemmas.List.FromFn.{get_or-map-range_with_len}

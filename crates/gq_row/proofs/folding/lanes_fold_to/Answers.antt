@@ -1,4 +1,4 @@
-use Rattle.std.proofs.Common.{◌%◌, ◌^◌, ◌∙◌, cond, not, eqb, map, take, drop, length, ap}
+use Rattle.std.proofs.Common.{◌%◌, ◌^◌, ◌∙◌, cond, not, eqb, map, take, drop, ap}
 use lib.Lanes.{zip2, mask_l, top}
 use Rattle.std.specs.Char.{to_ascii_lowercase}
 use Rattle.std.proofs.lemmas.List.{length-map}

@@ -1,4 +1,4 @@
-use Rattle.std.proofs.Common.{◌∙◌, length, sym, arith}
+use Rattle.std.proofs.Common.{◌∙◌, sym, arith}
 use Rattle.gq_row.proofs.LaneLemmas.{eight_differ, eight_more, last_eight}
 use Rattle.gq_row.proofs.folding.long_folds_to.Goals as goal
 

@@ -1,4 +1,4 @@
-use Rattle.std.proofs.Common.{◌≡◌, ◌-◌, ◌≤◌, take, length}
+use Rattle.std.proofs.Common.{◌≡◌, ◌-◌, take}
 use Rattle.gq_row.specs.Folding.{fold_case}
 use Rattle.gq_row.proofs.folding.long_folds_to.Given as goal
 
