@@ -3,8 +3,8 @@ use Rattle.std.proofs.Common.{◌≡◌, ◌+◌, ◌*◌, ◌%◌, ◌^◌, ◌
 use lib.Lanes.{zip2, mask_l, top, sel_l}
 use Rattle.std.specs.Char.{to_ascii_lowercase}
 use Rattle.std.proofs.lemmas.Bool.{ltb-true, cases_eq, eq-eqb, ne_eqb, false≢true}
-use Rattle.std.proofs.lemmas.List.{take-append-drop, take-map, drop-map, length-map, length-drop, take_all, take-take}
-use Rattle.std.proofs.lemmas.Simd.{tops_compared, zip2_splat, mask_l-mod}
+use Rattle.std.proofs.lemmas.List.{map-id, take-append-drop, take-map, drop-map, length-map, length-drop, take_all, take-take}
+use Rattle.std.proofs.lemmas.Simd.{tops_compared, zip2_splat, length-zip2, mask_l-mod}
 use Rattle.std.proofs.lemmas.Slice.Eq.{bytes_eq-Decides}
 use Rattle.std.proofs.Math.Seq.{take-add}
 use Rattle.std.proofs.lemmas.List.FromFn.{get_or-map-range_with_len}
@@ -17,10 +17,6 @@ use Rattle.gq_row.specs.declared.folding.TheConstants.{FOLDS}
 picked : (p : ℕ → Bool) (f g : ℕ → ℕ) (xs : List ℕ) → sel_l (map p xs) (map f xs) (map g xs) ≡ map (λ x. cond (p x) (f x) (g x)) xs
 picked p f g [] = refl
 picked p f g (x ∷ xs) = ap (λ l. cond (p x) (f x) (g x) ∷ l) (picked p f g xs)
-
-itself : (xs : List ℕ) → xs ≡ map (λ x. x) xs
-itself [] = refl
-itself (x ∷ xs) = ap (λ l. x ∷ l) (itself xs)
 
 small : (x : ℕ) (b : Bool) → nat_lt x 91 ≡ b → cond b ((x + 32) % 256) x ≡ cond b (x + 32) x
 small x true e = omega (arith, ltb-true x 91 e)
@@ -42,11 +38,6 @@ none_differs [] (y ∷ ys) e = absurd (omega arith)
 none_differs (x ∷ xs) [] e = absurd (omega arith)
 none_differs (x ∷ xs) (y ∷ ys) e = no_bit (eqb x y) (mask_l (zip2 (λ a b. not (eqb a b)) xs ys)) (bytes_eq xs ys) (none_differs xs ys (omega arith))
 
-length-zip2 : (t : ℕ → ℕ → Bool) (xs ys : List ℕ) → length (zip2 t xs ys) ≤ length xs
-length-zip2 t [] ys = omega arith
-length-zip2 t (x ∷ xs) [] = omega arith
-length-zip2 t (x ∷ xs) (y ∷ ys) = omega (arith, length-zip2 t xs ys)
-
 module _ (xs : List ℕ) (eight : length xs ≡ 8) where
   below : (y : ℕ) → map (top 7) (zip2 (λ a b. cond (nat_lt a b) 255 0) xs (replicate 8 y)) ≡ map (λ x. nat_lt x y) xs
   below y = tops_compared w8 nat_lt xs (replicate 8 y) ∙ zip2_splat nat_lt xs 8 y eight
@@ -55,11 +46,11 @@ module _ (xs : List ℕ) (eight : length xs ≡ 8) where
   raised = zip2_splat (λ a b. (a + b) % 256) xs 8 32 eight
 
   up_to_z : sel_l (map (top 7) (zip2 (λ a b. cond (nat_lt a b) 255 0) xs (replicate 8 91))) (zip2 (λ a b. (a + b) % 256) xs (replicate 8 32)) xs ≡ map (λ x. cond (nat_lt x 91) ((x + 32) % 256) x) xs
-  up_to_z = (λ i. sel_l (below 91 i) (raised i) (itself xs i)) ∙ picked (λ x. nat_lt x 91) (λ x. (x + 32) % 256) (λ x. x) xs
+  up_to_z = (λ i. sel_l (below 91 i) (raised i) (sym (map-id xs) i)) ∙ picked (λ x. nat_lt x 91) (λ x. (x + 32) % 256) (λ x. x) xs
 
   pub folds_is : sel_l (map (top 7) (zip2 (λ a b. cond (nat_lt a b) 255 0) xs (replicate 8 65))) xs
       (sel_l (map (top 7) (zip2 (λ a b. cond (nat_lt a b) 255 0) xs (replicate 8 91))) (zip2 (λ a b. (a + b) % 256) xs (replicate 8 32)) xs) ≡ fold_case xs
-  folds_is = (λ i. sel_l (below 65 i) (itself xs i) (up_to_z i))
+  folds_is = (λ i. sel_l (below 65 i) (sym (map-id xs) i) (up_to_z i))
       ∙ picked (λ x. nat_lt x 65) (λ x. x) (λ x. cond (nat_lt x 91) ((x + 32) % 256) x) xs ∙ (λ i. map (λ x. lane_is x i) xs)
 
 -- a comparison of eight lanes
@@ -67,7 +58,7 @@ pub same_lanes : (xs ys : List ℕ) → length xs ≡ 8 → length ys ≡ 8
     → eqb (mask_l (map (top 7) (zip2 (λ a b. cond (not (eqb a b)) 255 0) xs ys)) % 2 ^ 64) 0 ≡ bytes_eq xs ys
 same_lanes xs ys a b =
     ap (λ ms. eqb (mask_l ms % 2 ^ 64) 0) (tops_compared w8 (λ a b. not (eqb a b)) xs ys)
-    ∙ ap (λ m. eqb m 0) (mask_l-mod (zip2 (λ a b. not (eqb a b)) xs ys) 64 (omega (arith, length-zip2 (λ a b. not (eqb a b)) xs ys)))
+    ∙ ap (λ m. eqb m 0) (mask_l-mod (zip2 (λ a b. not (eqb a b)) xs ys) 64 (omega (arith, length-zip2 (λ a b. not (eqb a b)) xs ys (omega arith))))
     ∙ none_differs xs ys (omega arith)
 
 -- ---- texts, eight bytes at a time
