@@ -12,7 +12,7 @@ pub enum Plain {
 }
 
 pub fn text(alloc: Global, chars: &str) -> Result<Text, AllocError> {
-    Ok(Text::new(String::from_str(alloc, chars)?))
+    Text::of(alloc, chars)
 }
 
 pub fn value_of(alloc: Global, plain: Plain) -> Result<Value, AllocError> {

@@ -21,7 +21,7 @@ fn aggregate(alloc: Global, kind: AggKind, values: &[Value]) -> Result<String, A
 }
 
 fn text(alloc: Global, chars: &str) -> Result<Value, AllocError> {
-    Ok(Value::Text(Text::new(String::from_str(alloc, chars)?)))
+    Ok(Value::Text(Text::of(alloc, chars)?))
 }
 
 #[test]

@@ -15,7 +15,7 @@ enum Side<'a> {
 }
 
 fn text(alloc: Global, chars: &str) -> Result<Value, AllocError> {
-    Ok(Value::Text(Text::new(String::from_str(alloc, chars)?)))
+    Ok(Value::Text(Text::of(alloc, chars)?))
 }
 
 fn operand(alloc: Global, side: Side) -> Result<Operand, AllocError> {

@@ -132,14 +132,14 @@ pub(crate) fn row(alloc: Global, values: &[Option<i64>]) -> Result<Row, AllocErr
 
 fn named(alloc: Global, n: i64, name: Option<&str>) -> Result<Row, AllocError> {
     let name = match name {
-        Some(chars) => Value::Text(Text::new(String::from_str(alloc, chars)?)),
+        Some(chars) => Value::Text(Text::of(alloc, chars)?),
         None => Value::Null,
     };
     Ok(Row::new(vec![in alloc; Value::Int(n), name]?))
 }
 
 pub(crate) fn spelling(alloc: Global, n: i64, chars: &str) -> Result<Row, AllocError> {
-    let name = Value::NoCase(Text::new(String::from_str(alloc, chars)?));
+    let name = Value::NoCase(Text::of(alloc, chars)?);
     Ok(Row::new(vec![in alloc; Value::Int(n), name]?))
 }
 

@@ -83,8 +83,8 @@ fn write_text(alloc: Global, text: &str, value: &mut Value) -> Result<(), LoadRe
     ensures err { IfErr result (λ why. why ≡ Memory) }
 {
     match value {
-        Value::Text(old) => old.write(text)?,
-        _ => *value = Value::Text(Text::new(String::from_str(alloc, text)?)),
+        Value::Text(old) => old.write(alloc, text)?,
+        _ => *value = Value::Text(Text::of(alloc, text)?),
     }
     Ok(())
 }
@@ -95,8 +95,8 @@ fn write_no_case(alloc: Global, text: &str, value: &mut Value) -> Result<(), Loa
     ensures err { IfErr result (λ why. why ≡ Memory) }
 {
     match value {
-        Value::NoCase(old) => old.write(text)?,
-        _ => *value = Value::NoCase(Text::new(String::from_str(alloc, text)?)),
+        Value::NoCase(old) => old.write(alloc, text)?,
+        _ => *value = Value::NoCase(Text::of(alloc, text)?),
     }
     Ok(())
 }

@@ -18,7 +18,7 @@ pub(crate) enum Table {
 }
 
 fn column(alloc: Global, name: &str, kind: Kind) -> Option<Column> {
-    let name = Text::new(String::from_str(alloc, name).ok()?);
+    let name = Text::of(alloc, name).ok()?;
     Some(Column { name, kind })
 }
 

@@ -30,7 +30,7 @@ pub fn header_of(
 {
     let mut names = by.columns.into_vec();
     if by.rollup {
-        names.insert(0, Text::new(String::from_str(alloc, "level")?))?;
+        names.insert(0, Text::of(alloc, "level")?)?;
     }
     for aggregate in aggregates {
         names.push(text_of(alloc, aggregate)?)?;
@@ -42,7 +42,7 @@ fn text_of(alloc: Global, aggregate: &Aggregate) -> Result<Text, AllocError>
     ensures { IfOk result (λ text. text ≡ text_of aggregate.now) }
 {
     match aggregate {
-        Aggregate::CountAll => Ok(Text::new(String::from_str(alloc, "count(*)")?)),
+        Aggregate::CountAll => Text::of(alloc, "count(*)"),
         Aggregate::Count(column) => called(alloc, "count(", column),
         Aggregate::CountDistinct(column) => called(alloc, "count(distinct ", column),
         Aggregate::Sum(column) => called(alloc, "sum(", column),
@@ -58,5 +58,5 @@ fn called(alloc: Global, word: &str, column: &Text) -> Result<Text, AllocError>
     let mut text = String::from_str(alloc, word)?;
     text.push_str(column.as_str())?;
     text.push(')')?;
-    Ok(Text::new(text))
+    Text::from_string(alloc, text)
 }

@@ -86,7 +86,7 @@ fn write_text(alloc: Global, text: &Text, over: &mut Value) -> Result<(), AllocE
     ensures { OnOk result (over.new ≡ variant.Text text.now) }
 {
     match over {
-        Value::Text(old) => old.write(text.as_str())?,
+        Value::Text(old) => old.write(alloc, text.as_str())?,
         _ => *over = Value::Text(text.copy(alloc)?),
     }
     Ok(())
@@ -96,7 +96,7 @@ fn write_without_case(alloc: Global, text: &Text, over: &mut Value) -> Result<()
     ensures { OnOk result (over.new ≡ variant.NoCase text.now) }
 {
     match over {
-        Value::NoCase(old) => old.write(text.as_str())?,
+        Value::NoCase(old) => old.write(alloc, text.as_str())?,
         _ => *over = Value::NoCase(text.copy(alloc)?),
     }
     Ok(())

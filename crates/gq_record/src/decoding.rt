@@ -61,7 +61,7 @@ fn take_text(alloc: Global, bytes: &[u8]) -> Result<Option<(Text, &[u8])>, Alloc
         return Ok(None);
     };
     match str::from_utf8(block) {
-        Ok(chars) => Ok(Some((Text::new(String::from_str(alloc, chars)?), rest))),
+        Ok(chars) => Ok(Some((Text::of(alloc, chars)?, rest))),
         Err(_) => Ok(None),
     }
 }

@@ -3,12 +3,12 @@ use gq_row::{Row, Text, Value};
 use std::alloc::{AllocError, Global};
 
 pub(crate) fn text(alloc: Global, chars: &str) -> Result<Value, AllocError> {
-    Ok(Value::Text(Text::new(String::from_str(alloc, chars)?)))
+    Ok(Value::Text(Text::of(alloc, chars)?))
 }
 
 /// A text without case.
 pub(crate) fn no_case(alloc: Global, chars: &str) -> Result<Value, AllocError> {
-    Ok(Value::NoCase(Text::new(String::from_str(alloc, chars)?)))
+    Ok(Value::NoCase(Text::of(alloc, chars)?))
 }
 
 /// A row of one number.

@@ -146,7 +146,7 @@ fn word_token(alloc: Global, word: &str) -> Result<Token, ParseError>
 {
     match reserved(word) {
         Some(terminal) => Ok(Token::Fixed(terminal)),
-        None => Ok(Token::Name(Text::new(String::from_str(alloc, word)?))),
+        None => Ok(Token::Name(Text::of(alloc, word)?)),
     }
 }
 
@@ -205,7 +205,7 @@ fn quoted_name(alloc: Global, text: &str) -> Result<(Token, &str), ParseError>
     if name.is_empty() {
         return Err(ParseError::Syntax);
     }
-    Ok((Token::Name(Text::new(name)), rest))
+    Ok((Token::Name(Text::from_string(alloc, name)?), rest))
 }
 
 #[tactic(auto, unfolding(crate::specs::Lexing::text_in_quotes))]
@@ -213,7 +213,7 @@ fn quoted_text(alloc: Global, text: &str) -> Result<(Token, &str), ParseError>
     ensures { Gives (λ x. (x.0, x.1.now)) result (text_in_quotes text.now) }
 {
     let (value, rest) = quoted(alloc, '\'', text)?;
-    Ok((Token::Text(Text::new(value)), rest))
+    Ok((Token::Text(Text::from_string(alloc, value)?), rest))
 }
 
 /// Without the spaces and tabs at its front.

@@ -1,0 +1,46 @@
+-- Texts that stand in 22 bytes: how they are made, and when two are equal.
+use Rattle.std.proofs.Common.{◌≡◌, ◌-◌, ◌≤◌, ℕ, Bool, true, false, List, [], ◌∷◌, ◌++◌, length, take, drop, map, replicate, bytes_eq, refl, sym, ap, subst, ◌∙◌, arith, length-append, length-drop}
+use Rattle.std.specs.Prelude.{IsUtf8}
+use Rattle.std.proofs.lemmas.List.{drop-replicate, length-replicate, take-append-drop}
+use Rattle.std.proofs.Math.Seq.{take-append_seam, drop-append_seam}
+use Rattle.std.proofs.lemmas.Slice.Eq.{bytes_eq-Decides}
+use Rattle.gq_row.specs.ShortTexts.{IsShort, whole_again}
+
+-- as many zeros
+abbrev blank : ℕ → List ℕ
+blank n = replicate n 0
+
+pub made : (text : List ℕ) → length text ≤ 22 → IsUtf8 text → IsShort (length text) (text ++ drop (length text) (blank 22))
+made text fits utf8 =
+    let rest : drop (length text) (blank 22) ≡ blank (22 - length text) = drop-replicate (length text) 22 0 in
+    let long : length (drop (length text) (blank 22)) ≡ 22 - length text = ap length rest ∙ length-replicate (22 - length text) 0 in
+    record {
+      fits = fits;
+      whole = omega (arith, length-append text (drop (length text) (blank 22)), long);
+      text = ∣ subst IsUtf8 (sym (take-append_seam text (drop (length text) (blank 22)))) utf8 ∣₁;
+      zeros = drop-append_seam text (drop (length text) (blank 22)) ∙ rest;
+    }
+
+agree : (p q : Bool) → (p ≡ true → q ≡ true) → (q ≡ true → p ≡ true) → p ≡ q
+agree true true f g = refl
+agree true false f g = sym (f refl)
+agree false true f g = g refl
+agree false false f g = refl
+
+module _ (m n : ℕ) (a b : List ℕ) (here : IsShort m a) (there : IsShort n b) where
+  whole : m ≡ n → take m a ≡ take n b → a ≡ b
+  whole e front = sym (take-append-drop m a) ∙ (λ i. front i ++ (here.zeros ∙ ap (λ k. replicate (22 - k) 0) e ∙ sym there.zeros) i) ∙ take-append-drop n b
+
+  -- of one length: where all bytes are equal, so are the texts, and the other way round
+  pub same_whole : m ≡ n → bytes_eq a b ≡ bytes_eq (take m a) (take n b)
+  same_whole e = agree (bytes_eq a b) (bytes_eq (take m a) (take n b))
+      (λ same. (bytes_eq-Decides _ _).1 (λ i. take (e i) ((bytes_eq-Decides a b).0 same i)))
+      (λ same. (bytes_eq-Decides a b).1 (whole e ((bytes_eq-Decides _ _).0 same)))
+
+  -- of two lengths no texts are equal
+  pub other_length : (m ≡ n → ⊥) → false ≡ bytes_eq (take m a) (take n b)
+  other_length ne = agree false (bytes_eq (take m a) (take n b)) (λ no. absurd (no_path no))
+      (λ same. absurd (ne (sym ((whole_again m a here).0) ∙ ap length ((bytes_eq-Decides _ _).0 same) ∙ (whole_again n b there).0)))
+    where
+      no_path : false ≡ true → ⊥
+      no_path h = cc

@@ -1,0 +1,84 @@
+//! Texts of up to 22 bytes, which take no memory.
+ghost use Rattle.std.specs.Prelude.{◌≡◌, ◌≤◌, [], length, bytes_eq};
+
+use std::marker::Model;
+use std::str;
+
+/// The most bytes that stand in the value itself.
+pub(crate) const MOST: usize = 22;
+
+/// A UTF-8 text of at most 22 bytes, seen as its bytes. Those behind them are 0, so that two texts are
+/// equal where all 22 and their lengths are.
+#[derive(Clone, Copy)]
+pub(crate) struct ShortText {
+    len: u8,
+    bytes: [u8; MOST],
+}
+
+impl Model for ShortText {
+    ghost use Rattle.std.specs.Prelude.{◌-◌, ◌++◌, List, ℕ, length, take, replicate};
+
+    ghost Value = { List ℕ };
+
+    ghost use Rattle.gq_row.specs.ShortTexts.{IsShort, whole_again};
+
+    ghost view = { λ t. take t.len t.bytes };
+
+    ghost invariant = { λ t. IsShort t.len t.bytes };
+
+    ghost inverse = { λ text. record { len = length text; bytes = text ++ replicate (22 - length text) 0 } };
+
+    ghost inverse_ok = { λ t h i. record {
+      len = (whole_again t.len t.bytes h).0 i;
+      bytes = (whole_again t.len t.bytes h).1 i;
+    } };
+}
+
+impl ShortText {
+    /// The text without a byte.
+    #[inline]
+    pub(crate) fn empty() -> ShortText
+        ensures { result ≡ [] }
+    {
+        ShortText {
+            len: 0,
+            bytes: [0; MOST],
+        }
+    }
+
+    /// A copy of a text.
+    #[inline]
+    pub(crate) fn of(chars: &str) -> ShortText
+        requires { length chars.now ≤ MOST }
+        ensures { result ≡ chars.now }
+    {
+        let mut bytes = [0; MOST];
+        bytes[..chars.len()].copy_from_slice(chars.as_bytes());
+        ShortText {
+            len: chars.len() as u8,
+            bytes,
+        }
+    }
+
+    #[inline]
+    pub(crate) fn len(&self) -> usize
+        ensures { result ≡ length self.now }
+    {
+        self.len as usize
+    }
+
+    #[inline]
+    pub(crate) fn as_str(&self) -> &str
+        ensures { result.now ≡ self.now }
+    {
+        unsafe { str::from_utf8_unchecked(&self.bytes[..self.len as usize]) }
+    }
+
+    /// Whether two texts are equal, by their lengths and all 22 bytes of both.
+    #[inline]
+    pub(crate) fn equals(&self, other: &ShortText) -> bool
+        ensures { result ≡ bytes_eq self.now other.now }
+    {
+        self.len == other.len && self.bytes == other.bytes
+    }
+}
