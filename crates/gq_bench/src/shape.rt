@@ -130,6 +130,9 @@ impl Shape {
         let mut digits = itoa::Buffer::new();
         let mut text = String::from_str(alloc, "station-")?;
         text.push_str(digits.format(key))?;
-        Ok(self.kind.stored(Value::Text(Text::from_string(alloc, text)?)))
+        Ok(
+            self.kind
+                .stored(Value::Text(Text::from_string(alloc, text)?)),
+        )
     }
 }

@@ -53,13 +53,18 @@ module _ (xs : List ℕ) (eight : length xs ≡ 8) where
   folds_is = (λ i. sel_l (below 65 i) (sym (map-id xs) i) (up_to_z i))
       ∙ picked (λ x. nat_lt x 65) (λ x. x) (λ x. cond (nat_lt x 91) ((x + 32) % 256) x) xs ∙ (λ i. map (λ x. lane_is x i) xs)
 
--- a comparison of eight lanes
-pub same_lanes : (xs ys : List ℕ) → length xs ≡ 8 → length ys ≡ 8
+-- a comparison of up to 64 lanes
+pub same_lanes_of : (n : ℕ) (xs ys : List ℕ) → n ≤ 64 → length xs ≡ n → length ys ≡ n
     → eqb (mask_l (map (top 7) (zip2 (λ a b. cond (not (eqb a b)) 255 0) xs ys)) % 2 ^ 64) 0 ≡ bytes_eq xs ys
-same_lanes xs ys a b =
+same_lanes_of n xs ys few a b =
     ap (λ ms. eqb (mask_l ms % 2 ^ 64) 0) (tops_compared w8 (λ a b. not (eqb a b)) xs ys)
     ∙ ap (λ m. eqb m 0) (mask_l-mod (zip2 (λ a b. not (eqb a b)) xs ys) 64 (omega (arith, length-zip2 (λ a b. not (eqb a b)) xs ys (omega arith))))
     ∙ none_differs xs ys (omega arith)
+
+-- one of eight
+pub same_lanes : (xs ys : List ℕ) → length xs ≡ 8 → length ys ≡ 8
+    → eqb (mask_l (map (top 7) (zip2 (λ a b. cond (not (eqb a b)) 255 0) xs ys)) % 2 ^ 64) 0 ≡ bytes_eq xs ys
+same_lanes xs ys a b = same_lanes_of 8 xs ys (omega arith) a b
 
 -- ---- texts, eight bytes at a time
 

@@ -1,8 +1,9 @@
 -- Texts that stand in 22 bytes: how they are made, and when two are equal.
-use Rattle.std.proofs.Common.{◌≡◌, ◌-◌, ◌≤◌, ℕ, Bool, true, false, List, [], ◌∷◌, ◌++◌, length, take, drop, map, replicate, bytes_eq, refl, sym, ap, subst, ◌∙◌, arith, length-append, length-drop}
+use Rattle.std.proofs.Common.{◌≡◌, ◌-◌, ◌≤◌, ℕ, Bool, true, false, List, ◌++◌, length, take, drop, replicate, bytes_eq, ◌&&◌, refl, sym, ap, subst, ◌∙◌, arith, length-append, length-drop}
 use Rattle.std.specs.Prelude.{IsUtf8}
-use Rattle.std.proofs.lemmas.List.{drop-replicate, length-replicate, take-append-drop}
+use Rattle.std.proofs.lemmas.List.{drop-replicate, take_all, drop-drop, length-replicate, take-append-drop}
 use Rattle.std.proofs.Math.Seq.{take-append_seam, drop-append_seam}
+use Rattle.std.proofs.lemmas.Bool.{and_parts}
 use Rattle.std.proofs.lemmas.Slice.Eq.{bytes_eq-Decides}
 use Rattle.gq_row.specs.ShortTexts.{IsShort, whole_again}
 
@@ -44,3 +45,26 @@ module _ (m n : ℕ) (a b : List ℕ) (here : IsShort m a) (there : IsShort n b)
     where
       no_path : false ≡ true → ⊥
       no_path h = cc
+
+-- ---- 22 bytes, sixteen at once
+
+module _ (a b : List ℕ) (here : length a ≡ 22) (there : length b ≡ 22) where
+  back_is : (xs : List ℕ) → length xs ≡ 22 → take 16 (drop 6 xs) ≡ drop 6 xs
+  back_is xs long = take_all 16 (drop 6 xs) (omega (arith, length-drop 6 xs))
+
+  joined : (xs : List ℕ) → take 16 xs ++ drop 10 (drop 6 xs) ≡ xs
+  joined xs = ap (λ rest. take 16 xs ++ rest) (drop-drop 10 6 xs) ∙ take-append-drop 16 xs
+
+  both : take 16 a ≡ take 16 b → drop 6 a ≡ drop 6 b → a ≡ b
+  both front back = sym (joined a) ∙ (λ i. front i ++ drop 10 (back i)) ∙ joined b
+
+  and_is : (p q : Bool) → p ≡ true → q ≡ true → (p && q) ≡ true
+  and_is true q e f = f
+  and_is false q e f = e
+
+  pub two_halves : (bytes_eq (take 16 a) (take 16 b) && bytes_eq (take 16 (drop 6 a)) (take 16 (drop 6 b))) ≡ bytes_eq a b
+  two_halves = agree _ (bytes_eq a b)
+      (λ same. let parts = and_parts (bytes_eq (take 16 a) (take 16 b)) (bytes_eq (take 16 (drop 6 a)) (take 16 (drop 6 b))) same in
+      (bytes_eq-Decides a b).1 (both ((bytes_eq-Decides _ _).0 parts.0) (sym (back_is a here) ∙ (bytes_eq-Decides _ _).0 parts.1 ∙ back_is b there)))
+      (λ same. let e = (bytes_eq-Decides a b).0 same in
+      and_is _ _ ((bytes_eq-Decides (take 16 a) (take 16 b)).1 (λ i. take 16 (e i))) ((bytes_eq-Decides (take 16 (drop 6 a)) (take 16 (drop 6 b))).1 (λ i. take 16 (drop 6 (e i)))))

@@ -1,11 +1,15 @@
 //! Texts of up to 22 bytes, which take no memory.
-ghost use Rattle.std.specs.Prelude.{◌≡◌, ◌≤◌, [], length, bytes_eq};
+ghost use Rattle.std.specs.Prelude.{◌≡◌, ◌+◌, ◌≤◌, [], length, take, drop, bytes_eq};
 
 use std::marker::Model;
+use std::simd::prelude::*;
 use std::str;
 
 /// The most bytes that stand in the value itself.
 pub(crate) const MOST: usize = 22;
+
+// How many bytes are compared at once.
+const LANES: usize = 16;
 
 /// A UTF-8 text of at most 22 bytes, seen as its bytes. Those behind them are 0, so that two texts are
 /// equal where all 22 and their lengths are.
@@ -79,6 +83,25 @@ impl ShortText {
     pub(crate) fn equals(&self, other: &ShortText) -> bool
         ensures { result ≡ bytes_eq self.now other.now }
     {
-        self.len == other.len && self.bytes == other.bytes
+        self.len == other.len && same_bytes(&self.bytes, &other.bytes)
     }
+}
+
+// Whether all 22 bytes are equal, sixteen at a time. The last sixteen begin within the first.
+#[inline(always)]
+fn same_bytes(a: &[u8; MOST], b: &[u8; MOST]) -> bool
+    ensures { result ≡ bytes_eq a.now b.now }
+{
+    same_lanes(a, b, 0) && same_lanes(a, b, MOST - LANES)
+}
+
+// Whether the sixteen bytes at a place are equal.
+#[inline(always)]
+fn same_lanes(a: &[u8], b: &[u8], at: usize) -> bool
+    requires a { at + LANES ≤ length a.now }
+    requires b { at + LANES ≤ length b.now }
+    ensures { result ≡ bytes_eq (take LANES (drop at a.now)) (take LANES (drop at b.now)) }
+{
+    let lanes = u8x16::from_slice(&a[at..]);
+    lanes.simd_ne(u8x16::from_slice(&b[at..])).to_bitmask() == 0
 }

@@ -7,4 +7,4 @@ pub invariant_of-result : goal.invariant_of-result
 invariant_of-result c =
     let text = c.args.chars.now in
     subst (λ (front : List ℕ). IsShort (length text) (front ++ drop (length text) (replicate 22 0)))
-      (sym (c.copy_from_slice.ensures.after ∙ c.as_bytes.ensures.value)) (made text c.requires c.utf8.chars)
+    (sym (c.copy_from_slice.ensures.after ∙ c.as_bytes.ensures.value)) (made text c.requires c.utf8.chars)
