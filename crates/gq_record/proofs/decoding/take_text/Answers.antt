@@ -13,14 +13,14 @@ returns-in-Err-clause-none c = λ text rest fits e.
 pub returns-in_default-clause-none : goal.returns-in_default-clause-none
 returns-in_default-clause-none c = grind (arith, common_steps)
 
-pub from_str-requires-text-s : goal.from_str-requires-text-s
-from_str-requires-text-s c = grind (arith, common_steps)
+pub of-requires-text-chars : goal.of-requires-text-chars
+of-requires-text-chars c = grind (arith, common_steps)
 
-pub returns-in_err-from_str-in-Ok-clause-found : goal.returns-in_err-from_str-in-Ok-clause-found
-returns-in_err-from_str-in-Ok-clause-found c = IfOk-from_err c.from_residual.result _ c.from_residual.ensures.0
+pub returns-in_err-of-in-Ok-clause-found : goal.returns-in_err-of-in-Ok-clause-found
+returns-in_err-of-in-Ok-clause-found c = IfOk-from_err c.from_residual.result _ c.from_residual.ensures.0
 
-pub returns-in_err-from_str-in-Ok-clause-none : goal.returns-in_err-from_str-in-Ok-clause-none
-returns-in_err-from_str-in-Ok-clause-none c = IfOk-from_err c.from_residual.result _ c.from_residual.ensures.0
+pub returns-in_err-of-in-Ok-clause-none : goal.returns-in_err-of-in-Ok-clause-none
+returns-in_err-of-in-Ok-clause-none c = IfOk-from_err c.from_residual.result _ c.from_residual.ensures.0
 
-pub returns-in_ok-from_str-in-Ok-clause-found : goal.returns-in_ok-from_str-in-Ok-clause-found
-returns-in_ok-from_str-in-Ok-clause-found c = grind (arith, common_steps)
+pub returns-in_ok-of-in-Ok-clause-found : goal.returns-in_ok-of-in-Ok-clause-found
+returns-in_ok-of-in-Ok-clause-found c = grind (arith, common_steps)
