@@ -10,7 +10,7 @@ use Rattle.gq_agg.specs.declared.kind.AggKind.TheVariants as kind
 use Rattle.gq_agg.specs.Aggregates.{aggregate}
 use Rattle.gq_agg.specs.Running.{Running, tally, kept, kind_of}
 use Rattle.gq_group.specs.Entries.{tallies}
-use Rattle.gq_group.specs.Groups.{answers, column_of, fits_cell}
+use Rattle.gq_group.specs.Groups.{answers, column_of, fits_cell, is_none}
 
 pub kind_kept : (k : AggKind) (values : List Value) → kind_of (kept k values) ≡ k
 kind_kept kind.CountAll values = refl
@@ -51,37 +51,61 @@ next_fits row asked rows more i aggs d e less is fits =
     = ap (λ l. kind_of (slice_index_or l i d).state) is ∙ ap (λ t. kind_of t.state) (next_tally asked rows more i d e less) ∙ kind_kept (slice_index_or asked i e).0 (column_of (slice_index_or asked i e).1 rows) in
     ap (λ k. fits_cell row (k, (slice_index_or asked i e).1)) kind_is ∙ passes_at (fits_cell row) asked i e less fits
 
--- ---- from the last to the first
+-- ---- the values, from the first to the last
 
 cons_head : {X : Type 0} (x y : X) (xs ys : List X) → x ∷ xs ≡ y ∷ ys → x ≡ y
 cons_head x y xs ys h = cc
 
-cons_tail : {X : Type 0} (x y : X) (xs ys : List X) → x ∷ xs ≡ y ∷ ys → xs ≡ ys
-cons_tail x y xs ys h = cc
+or_true : (b : Bool) → (b || true) ≡ true
+or_true true = refl
+or_true false = refl
 
-pub shorter_front : {X : Type 0} (all xs : List X) (x : X) → xs ++ x ∷ [] ≡ take (length (xs ++ x ∷ [])) all → xs ≡ take (length xs) all
-shorter_front all [] x h = refl
-shorter_front [] (y ∷ xs) x h = cc
-shorter_front (a ∷ all) (y ∷ xs) x h = (λ i. cons_head y a (xs ++ x ∷ []) (take (length (xs ++ x ∷ [])) all) h i ∷ shorter_front all xs x (cons_tail y a (xs ++ x ∷ []) (take (length (xs ++ x ∷ [])) all) h) i)
+-- what stands behind a place, once its element is another
+pub behind_set : {X : Type 0} (xs ys : List X) (i : ℕ) (x : X) → drop i xs ≡ drop i ys → drop (suc i) (slice_set xs i x) ≡ drop (suc i) ys
+behind_set xs ys i x h = set xs i x ∙ behind xs i ∙ ap (drop 1) h ∙ sym (behind ys i)
+  where
+    set : {X : Type 0} (xs : List X) (i : ℕ) (x : X) → drop (suc i) (slice_set xs i x) ≡ drop (suc i) xs
+    set [] i x = refl
+    set (y ∷ xs) zero x = refl
+    set (y ∷ xs) (suc i) x = set xs i x
 
-pub record LastOf (asked : List (AggKind × ℕ)) (rows : List (List Value)) (front : List Running) (x : Running) : Type 0 where
+    behind : {X : Type 0} (xs : List X) (i : ℕ) → drop (suc i) xs ≡ drop 1 (drop i xs)
+    behind [] zero = refl
+    behind [] (suc i) = refl
+    behind (y ∷ xs) zero = refl
+    behind (y ∷ xs) (suc i) = behind xs i
+
+-- the first that is left stands at that place
+pub first_at : {X : Type 0} (xs : List X) (i : ℕ) (d : X) → i < length xs → drop i xs ≡ slice_index_or xs i d ∷ drop (suc i) xs
+first_at [] i d less = absurd (omega arith)
+first_at (x ∷ xs) zero d less = refl
+first_at (x ∷ xs) (suc i) d less = first_at xs i d (omega arith)
+
+-- an aggregate of a group's rows, and its value among theirs
+pub record NextOf (asked : List (AggKind × ℕ)) (rows : List (List Value)) (i : ℕ) (x : Running) : Type 0 where
   pub asked_for : AggKind × ℕ
   pub tallied : x ≡ tally asked_for.0 (column_of asked_for.1 rows)
-  pub answer : drop (length front) (answers asked rows) ≡ aggregate asked_for.0 (column_of asked_for.1 rows) ∷ drop (length (front ++ x ∷ [])) (answers asked rows)
+  pub answer : take (suc i) (answers asked rows) ≡ take i (answers asked rows) ++ aggregate asked_for.0 (column_of asked_for.1 rows) ∷ []
+  pub refused : is_none (aggregate asked_for.0 (column_of asked_for.1 rows)) ≡ true → list_any is_none (answers asked rows) ≡ true
 
-pub last_of : (asked : List (AggKind × ℕ)) (rows : List (List Value)) (front : List Running) (x : Running) → front ++ x ∷ [] ≡ take (length (front ++ x ∷ [])) (tallies asked rows) → LastOf asked rows front x
-last_of [] rows [] x h = let none : ⊥ = cc in absurd none
-last_of [] rows (y ∷ front) x h = let none : ⊥ = cc in absurd none
-last_of (a ∷ asked) rows [] x h = record { asked_for = a; tallied = cons_head x (tally a.0 (column_of a.1 rows)) [] [] h; answer = refl }
-last_of (a ∷ asked) rows (y ∷ front) x h =
-    let rest = last_of asked rows front x (cons_tail y (tally a.0 (column_of a.1 rows)) (front ++ x ∷ []) (take (length (front ++ x ∷ [])) (tallies asked rows)) h) in
-    record { asked_for = rest.asked_for; tallied = rest.tallied; answer = rest.answer }
+pub next_of : (asked : List (AggKind × ℕ)) (rows : List (List Value)) (i : ℕ) (x : Running) (rest : List Running) → drop i (tallies asked rows) ≡ x ∷ rest → NextOf asked rows i x
+next_of [] rows zero x rest h = let none : ⊥ = cc in absurd none
+next_of [] rows (suc i) x rest h = let none : ⊥ = cc in absurd none
+next_of (a ∷ asked) rows zero x rest h = record {
+  asked_for = a;
+  tallied = sym (cons_head (tally a.0 (column_of a.1 rows)) x (tallies asked rows) rest h);
+  answer = refl;
+  refused = λ none. ap (λ b. b || list_any is_none (answers asked rows)) none;
+}
+next_of (a ∷ asked) rows (suc i) x rest h =
+    let it = next_of asked rows i x rest h in
+    record {
+      asked_for = it.asked_for;
+      tallied = it.tallied;
+      answer = ap (λ l. aggregate a.0 (column_of a.1 rows) ∷ l) it.answer;
+      refused = λ none. ap (λ b. is_none (aggregate a.0 (column_of a.1 rows)) || b) (it.refused none) ∙ or_true (is_none (aggregate a.0 (column_of a.1 rows)));
+    }
 
-pub any_dropped : {X : Type 0} (p : X → Bool) (n : ℕ) (xs : List X) (x : X) (rest : List X) → drop n xs ≡ x ∷ rest → p x ≡ true → list_any p xs ≡ true
-any_dropped p zero xs x rest e h = ap (list_any p) e ∙ ap (λ b. b || list_any p rest) h
-any_dropped p (suc n) [] x rest e h = let none : ⊥ = cc in absurd none
-any_dropped p (suc n) (y ∷ xs) x rest e h = ap (λ b. p y || b) (any_dropped p n xs x rest e h) ∙ or_true (p y)
-  where
-    or_true : (b : Bool) → (b || true) ≡ true
-    or_true true = refl
-    or_true false = refl
+pub all_taken : (asked : List (AggKind × ℕ)) (rows : List (List Value)) → take (length (tallies asked rows)) (answers asked rows) ≡ answers asked rows
+all_taken [] rows = refl
+all_taken (a ∷ asked) rows = ap (λ l. aggregate a.0 (column_of a.1 rows) ∷ l) (all_taken asked rows)

@@ -54,30 +54,41 @@ impl Aggs {
         add_cells(self.running.as_mut_slice(), asked, row)
     }
 
-    // Their values.
-    pub(crate) fn finish(self, alloc: Global) -> Result<Vec<Value>, Refusal>
-        ensures ok { IfOk result (λ values. (asked : List (Kind × ℕ)) (rows : List (List Cell))
-            → self ≡ tallies asked rows → answers asked rows ≡ map Some values.items) }
+    // Their values, to a list that is lent.
+    pub(crate) fn finish_into(self, alloc: Global, values: &mut Vec<Value>) -> Result<(), Refusal>
+        requires none { values.old.items ≡ [] }
+        ensures ok { OnOk result ((asked : List (Kind × ℕ)) (rows : List (List Cell))
+            → self ≡ tallies asked rows → answers asked rows ≡ map Some values.new.items) }
         ensures overflow { IsErrOf result Refusal.SumRange →
             (asked : List (Kind × ℕ)) (rows : List (List Cell)) → self ≡ tallies asked rows →
             list_any is_none (answers asked rows) ≡ true }
         ensures cause { IfErr result (λ e. (e ≡ Refusal.SumRange) ⊎ (e ≡ Refusal.Memory)) }
     {
-        let mut left = self.running;
-        let Ok(mut values) = Vec::with_capacity(alloc, left.len()) else {
+        let mut running = self.running;
+        take_values(alloc, running.as_mut_slice(), values)
+    }
+}
+
+// Takes the values of aggregates, from the first to the last. What is left of these is of no value.
+fn take_values(alloc: Global, aggs: &mut [Agg], values: &mut Vec<Value>) -> Result<(), Refusal>
+    requires none { values.old.items ≡ [] }
+    ensures ok { OnOk result ((asked : List (Kind × ℕ)) (rows : List (List Cell))
+        → aggs.old ≡ tallies asked rows → answers asked rows ≡ map Some values.new.items) }
+    ensures overflow { IsErrOf result Refusal.SumRange →
+        (asked : List (Kind × ℕ)) (rows : List (List Cell)) → aggs.old ≡ tallies asked rows →
+        list_any is_none (answers asked rows) ≡ true }
+    ensures cause { IfErr result (λ e. (e ≡ Refusal.SumRange) ⊎ (e ≡ Refusal.Memory)) }
+{
+    'aggs: for i in 0..aggs.len() {
+        let agg = std::mem::replace(&mut aggs[i], Agg::start(alloc, AggKind::CountAll));
+        let Ok(value) = agg.finish() else {
+            return Err(Refusal::SumRange);
+        };
+        let Ok(()) = values.push(value) else {
             return Err(Refusal::Memory);
         };
-        'aggs: while let Some(agg) = left.pop() {
-            let Ok(value) = agg.finish() else {
-                return Err(Refusal::SumRange);
-            };
-            let Ok(()) = values.push(value) else {
-                return Err(Refusal::Memory);
-            };
-        }
-        values.reverse();
-        Ok(values)
     }
+    Ok(())
 }
 
 // Adds a row's cells, each to its aggregate.

@@ -27,13 +27,14 @@ pub trait GroupSink<S: RunStore> {
     fn make_room(&mut self, groups: usize)
         ensures { self.new ≡ self.old };
 
-    /// Takes a group: its key, which is folded, and the values of its aggregates. After a refusal
-    /// nothing is said of it.
-    fn push(&mut self, store: &mut S, key: Key, values: Vec<Value>) -> Result<(), Refusal>
+    /// Takes a group: its key, which is folded, and the values of its aggregates. These are lent: it
+    /// may take them out, and whatever it leaves there is dropped. After a refusal nothing is said
+    /// of it.
+    fn push(&mut self, store: &mut S, key: Key, values: &mut Vec<Value>) -> Result<(), Refusal>
         requires { is_ready self.old (S.runs store.old) }
         ensures groups { IsTrue (S.runs store.old).honest →
             OnOk result ((groups : List Group) → holds self.old (S.runs store.old) groups →
-            holds self.new (S.runs store.new) (groups ++ (key, values.items) ∷ [])) }
+            holds self.new (S.runs store.new) (groups ++ (key, values.old.items) ∷ [])) }
         ensures ready { OnOk result (is_ready self.new (S.runs store.new)) }
         ensures cause { IfErr result (λ e. HasCause e (S.runs store.old) (S.runs store.new)) }
         ensures others { LeavesOthers (owns self.old) (owns self.new) (S.runs store.old)

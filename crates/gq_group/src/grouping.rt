@@ -67,9 +67,11 @@ pub(crate) fn push_all<H: KeyHash<Key> + Copy, S: RunStore, K: GroupSink<S>>(
     sink.make_room(left.len());
     let _ = left.keys();
     let mut walk = left.walk();
+    let mut values = Vec::new(alloc);
     'entries: while let Some((key, aggs)) = left.drain_next(&mut walk) {
-        let values = aggs.finish(alloc)?;
-        sink.push(store, key, values)?;
+        values.clear();
+        aggs.finish_into(alloc, &mut values)?;
+        sink.push(store, key, &mut values)?;
     }
     Ok(groups)
 }

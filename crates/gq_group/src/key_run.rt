@@ -73,7 +73,7 @@ impl<S: RunStore> GroupSink<S> for KeyRun {
         let _ = groups;
     }
 
-    fn push(&mut self, store: &mut S, key: Key, values: Vec<Value>) -> Result<(), Refusal> {
+    fn push(&mut self, store: &mut S, key: Key, values: &mut Vec<Value>) -> Result<(), Refusal> {
         let _ = values;
         let Ok(row) = key.into_row() else {
             return Err(Refusal::Memory);

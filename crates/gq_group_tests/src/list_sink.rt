@@ -28,7 +28,7 @@ impl<S: RunStore> GroupSink<S> for ListSink {
         let _ = groups;
     }
 
-    fn push(&mut self, store: &mut S, key: Key, values: Vec<Value>) -> Result<(), Refusal> {
+    fn push(&mut self, store: &mut S, key: Key, values: &mut Vec<Value>) -> Result<(), Refusal> {
         let _ = store;
         let Ok(group) = spelled_group(self.alloc, &key, values.as_slice()) else {
             return Err(Refusal::Memory);

@@ -17,3 +17,5 @@ mod spelled;
 mod starved;
 #[cfg(test)]
 mod tables;
+#[cfg(test)]
+mod texts;

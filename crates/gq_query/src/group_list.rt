@@ -39,13 +39,14 @@ impl Model for GroupValues {
 }
 
 impl GroupValues {
-    fn new(key: Key, values: Vec<Value>) -> Result<GroupValues, AllocError>
-        ensures { IfOk result (λ group. group ≡ (key, values.items)) }
+    fn new(key: Key, values: &mut Vec<Value>) -> Result<GroupValues, AllocError>
+        ensures { IfOk result (λ group. group ≡ (key, values.old.items)) }
     {
         let width = key.len();
         let mut cells = key.into_cells();
         let front = front_in(&[], cells.as_slice());
-        for value in values {
+        cells.reserve_exact(values.len())?;
+        for value in values.drain(..) {
             cells.push(value)?;
         }
         Ok(GroupValues {
@@ -174,8 +175,8 @@ impl GroupList {
         }
     }
 
-    fn add(&mut self, key: Key, values: Vec<Value>) -> Result<(), AllocError>
-        ensures { OnOk result (self.new ≡ self.old ++ (key, values.items) ∷ []) }
+    fn add(&mut self, key: Key, values: &mut Vec<Value>) -> Result<(), AllocError>
+        ensures { OnOk result (self.new ≡ self.old ++ (key, values.old.items) ∷ []) }
     {
         self.groups.push(GroupValues::new(key, values)?)?;
         Ok(())
@@ -205,7 +206,7 @@ impl<S: RunStore> GroupSink<S> for GroupList {
         let _ = self.groups.reserve(groups);
     }
 
-    fn push(&mut self, store: &mut S, key: Key, values: Vec<Value>) -> Result<(), Refusal> {
+    fn push(&mut self, store: &mut S, key: Key, values: &mut Vec<Value>) -> Result<(), Refusal> {
         let _ = store;
         match self.add(key, values) {
             Ok(()) => Ok(()),

@@ -20,19 +20,19 @@ entries-init g c =
       made = λ none. refl;
     }
 
-pub returns-in_err-values-clause-overflow : goal.returns-in_err-values-clause-overflow
-returns-in_err-values-clause-overflow g c = λ e spec rows grouped.
+pub returns-in_err-finish_into-clause-overflow : goal.returns-in_err-finish_into-clause-overflow
+returns-in_err-finish_into-clause-overflow g c = λ e spec rows grouped.
     refused_one _ _ _ (filled c.args.map.places) (filled c.entries.left.places) (filled c.drain_next.new.self.places) (c.in-Some.key, c.in-Some.aggs) c.args.map spec rows
-    c.entries.invariant.sent c.in-Some.ensures.entry c.keys.ensures.all grouped (c.in_err-values.ensures.overflow (search rules))
+    c.entries.invariant.sent c.in-Some.ensures.entry c.keys.ensures.all grouped (c.in_err-finish_into.ensures.overflow (search rules))
 
 pub entries-preserved : goal.entries-preserved
 entries-preserved g c = record {
   ready = c.in_ok-push.ensures.ready;
   draining = c.in-Some.ensures.draining;
-  sent = sent-step _ _ _ _ (filled c.args.map.places) (filled c.entries.left.places) (filled c.drain_next.new.self.places) (c.in-Some.key, c.in-Some.aggs) c.in_ok-values.values.items
+  sent = sent-step _ _ _ _ (filled c.args.map.places) (filled c.entries.left.places) (filled c.drain_next.new.self.places) (c.in-Some.key, c.in-Some.aggs) c.finish_into.new.values.items
       c.entries.invariant.sent
       c.in-Some.ensures.entry
-      c.in_ok-values.ensures.ok
+      c.in_ok-finish_into.ensures.ok
       (λ h. c.in_ok-push.ensures.groups (c.entries.invariant.others.same_honest ∙ h));
   others = leaves-trans _ _ _ _ _ _ c.entries.invariant.others c.in_ok-push.ensures.others;
   made = λ none. c.in_ok-push.ensures.made none ∙ c.entries.invariant.made none;
