@@ -10,7 +10,7 @@ _groupsh() {
     --spill) mapfile -t COMPREPLY < <(compgen -d -- "$word") ;;
     *)
       case $word in
-        -*) mapfile -t COMPREPLY < <(compgen -W "--budget --seed --spill --stats --help -h --version -V" -- "$word") ;;
+        -*) mapfile -t COMPREPLY < <(compgen -W "--budget --seed --spill --stats --check --help -h --version -V" -- "$word") ;;
         *) mapfile -t COMPREPLY < <(compgen -f -- "$word") ;;
       esac
       ;;

@@ -3,7 +3,8 @@
     mistakes.py GROUPSH PAGE
 
 The part "Mistakes by example" has a script, set in by four spaces, and a table of a line, its reply and a right line. Each
-line is tried by itself behind the script. The last line counts; the status is 0 where all are as the page says.
+line is tried by itself behind the script, and `--check` tells it exactly where its refusal rests on no table. The last line
+counts; the status is 0 where all are as the page says.
 """
 import re
 import subprocess
@@ -23,8 +24,22 @@ def reply(line):
     return run.stdout.decode().splitlines()[len(script.splitlines())]
 
 
+def told(line):
+    """What `--check` tells of a script and a line behind it, each by the number of its line."""
+    text = script + line.replace("⏎", "\n") + "\n"
+    run = subprocess.run([program, "--check"], input=text.encode(), stdout=subprocess.PIPE, timeout=60)
+    return [int(report.split(":")[1]) for report in run.stdout.decode().splitlines()]
+
+
 wrong = 0
+behind = [len(script.splitlines()) + 1]
+# Refusals that rest on no table.
+READING = {"err 1 Syntax", "err 2 LineTooLong", "err 14 Limit", "err 18 LoadOpen"}
 for line, refusal, meant in rows:
+    for tried, wanted in ((line, behind if refusal in READING else []), (meant, [])):
+        if told(tried) != wanted:
+            print(f"{tried!r} is told at {told(tried)}")
+            wrong += 1
     for tried, is_right in ((line, lambda got: got == refusal), (meant, lambda got: got.startswith("ok "))):
         got = reply(tried)
         if not is_right(got):

@@ -25,14 +25,14 @@ use Rattle.clap.specs.declared.parser.matches.MatchedArg.{MatchedArg}
 use Rattle.clap.proofs.CallerLemmas.{entry_by_id, same_rules_by_id}
 use Rattle.clap.proofs.SimpleLemmas.{all_simple, plain_fields, simple_groups}
 use Rattle.clap.proofs.ValueTestLemmas.{Accepts-accepts, accepts-Accepts}
-use Rattle.gq_options.specs.CommandLine.{Asked, BUDGET, LINE, SCRIPT, SEED, SPILL, STATS, is_budget, is_set, number_of}
+use Rattle.gq_options.specs.CommandLine.{Asked, BUDGET, CHECK, LINE, SCRIPT, SEED, SPILL, STATS, is_budget, is_set, number_of}
 use Rattle.gq_options.specs.Words.{IsReadAs, IsReadAsFlag, is_flag}
 use Rattle.clap.specs.ValueTests.{accepts, is_unsigned_in}
 use Rattle.gq_options.proofs.BudgetLemmas.{same-test as budget-test}
 
 -- the rules of the line, in their places
 abbrev RULES : List Rule
-RULES = BUDGET ∷ SEED ∷ SPILL ∷ STATS ∷ SCRIPT ∷ []
+RULES = BUDGET ∷ SEED ∷ SPILL ∷ STATS ∷ CHECK ∷ SCRIPT ∷ []
 
 abbrev name_at : ℕ → Text
 name_at k = (slice_index_or RULES k SEED).id
@@ -50,37 +50,48 @@ rule-at (x ∷ xs) zero d r lt = refl
 rule-at (x ∷ xs) (suc k) d r lt = rule-at xs k d r (omega arith)
 
 -- an option of the line, where no other has its name
-option-at : (k : ℕ) (name : Text) (parser : ValueParser) → k < 5 → name_at k ≡ name → (slice_index_or RULES k SEED).parser ≡ Some parser
-    → ((j : ℕ) → j < 5 → bytes_eq (name_at j) name ≡ true → j ≡ k)
+option-at : (k : ℕ) (name : Text) (parser : ValueParser) → k < 6 → name_at k ≡ name → (slice_index_or RULES k SEED).parser ≡ Some parser
+    → ((j : ℕ) → j < 6 → bytes_eq (name_at j) name ≡ true → j ≡ k)
     → (xs : List Arg) (d : Arg) → map rule_of xs ≡ RULES → OnlyAt xs d k name parser
 option-at k name parser lt named reads only xs d rules =
-    let count : length xs ≡ 5 = sym (length-map xs rule_of) ∙ ap length rules in
-    let is : (j : ℕ) (e : Arg) → j < 5 → rule_of (slice_index_or xs j e) ≡ slice_index_or RULES j SEED =
+    let count : length xs ≡ 6 = sym (length-map xs rule_of) ∙ ap length rules in
+    let is : (j : ℕ) (e : Arg) → j < 6 → rule_of (slice_index_or xs j e) ≡ slice_index_or RULES j SEED =
     λ j e low. rule-at xs j e SEED (omega arith) ∙ ap (λ rs. slice_index_or rs j SEED) rules in
     let own_name : (slice_index_or xs k d).id.now ≡ name = ap (λ (r : Rule). r.id) (is k d lt) ∙ named in
     record {
       there = omega arith;
       id = own_name;
       reads = ap (λ (r : Rule). r.parser) (is k d lt) ∙ reads;
-      unique = λ j e low same. let below : j < 5 = omega arith in
+      unique = λ j e low same. let below : j < 6 = omega arith in
           only j below (sym (ap₂ bytes_eq (ap (λ (r : Rule). r.id) (is j e below)) own_name) ∙ same);
     }
 
-only-budget : (j : ℕ) → j < 5 → bytes_eq (name_at j) (codes "budget") ≡ true → j ≡ 0
+only-budget : (j : ℕ) → j < 6 → bytes_eq (name_at j) (codes "budget") ≡ true → j ≡ 0
 only-budget zero lt same = refl
 only-budget (suc zero) lt same = absurd (true≢false (sym same))
 only-budget (suc (suc zero)) lt same = absurd (true≢false (sym same))
 only-budget (suc (suc (suc zero))) lt same = absurd (true≢false (sym same))
 only-budget (suc (suc (suc (suc zero)))) lt same = absurd (true≢false (sym same))
-only-budget (suc (suc (suc (suc (suc n))))) lt same = absurd (omega arith)
+only-budget (suc (suc (suc (suc (suc zero))))) lt same = absurd (true≢false (sym same))
+only-budget (suc (suc (suc (suc (suc (suc n)))))) lt same = absurd (omega arith)
 
-only-stats : (j : ℕ) → j < 5 → bytes_eq (name_at j) (codes "stats") ≡ true → j ≡ 3
+only-stats : (j : ℕ) → j < 6 → bytes_eq (name_at j) (codes "stats") ≡ true → j ≡ 3
 only-stats zero lt same = absurd (true≢false (sym same))
 only-stats (suc zero) lt same = absurd (true≢false (sym same))
 only-stats (suc (suc zero)) lt same = absurd (true≢false (sym same))
 only-stats (suc (suc (suc zero))) lt same = refl
 only-stats (suc (suc (suc (suc zero)))) lt same = absurd (true≢false (sym same))
-only-stats (suc (suc (suc (suc (suc n))))) lt same = absurd (omega arith)
+only-stats (suc (suc (suc (suc (suc zero))))) lt same = absurd (true≢false (sym same))
+only-stats (suc (suc (suc (suc (suc (suc n)))))) lt same = absurd (omega arith)
+
+only-check : (j : ℕ) → j < 6 → bytes_eq (name_at j) (codes "check") ≡ true → j ≡ 4
+only-check zero lt same = absurd (true≢false (sym same))
+only-check (suc zero) lt same = absurd (true≢false (sym same))
+only-check (suc (suc zero)) lt same = absurd (true≢false (sym same))
+only-check (suc (suc (suc zero))) lt same = absurd (true≢false (sym same))
+only-check (suc (suc (suc (suc zero)))) lt same = refl
+only-check (suc (suc (suc (suc (suc zero))))) lt same = absurd (true≢false (sym same))
+only-check (suc (suc (suc (suc (suc (suc n)))))) lt same = absurd (omega arith)
 
 no-groups : (line : Command) (m : ArgMatches) (p : IsParsedFrom line m) → app_of line ≡ LINE → groups_of p.built ≡ []
 no-groups line m p line_is =
@@ -199,17 +210,26 @@ budget-own t id = not-own t 98 (ap (λ t. slice_index t 0) id) (λ bad. omega ar
 stats-own : (t : Text) → t ≡ codes "stats" → (t ≡ codes "help") ⊎ (t ≡ codes "version") → ⊥
 stats-own t id = not-own t 115 (ap (λ t. slice_index t 0) id) (λ bad. omega arith) (λ bad. omega arith)
 
+check-own : (t : Text) → t ≡ codes "check" → (t ≡ codes "help") ⊎ (t ≡ codes "version") → ⊥
+check-own t id = not-own t 99 (ap (λ t. slice_index t 0) id) (λ bad. omega arith) (λ bad. omega arith)
+
 budget-word : codes "budget" ≡ [] → ⊥
 budget-word e = let bad : ◌≡◌ {A = ℕ} 6 0 = ap length e in absurd (omega arith)
 
 stats-word : codes "stats" ≡ [] → ⊥
 stats-word e = let bad : ◌≡◌ {A = ℕ} 5 0 = ap length e in absurd (omega arith)
 
+check-word : codes "check" ≡ [] → ⊥
+check-word e = let bad : ◌≡◌ {A = ℕ} 5 0 = ap length e in absurd (omega arith)
+
 budget-at : (xs : List Arg) (d : Arg) → map rule_of xs ≡ RULES → OnlyAt xs d 0 (codes "budget") (Unsigned 1 1048576)
 budget-at = option-at 0 (codes "budget") (Unsigned 1 1048576) (omega arith) refl refl only-budget
 
 stats-at : (xs : List Arg) (d : Arg) → map rule_of xs ≡ RULES → OnlyAt xs d 3 (codes "stats") vp.Bool
 stats-at = option-at 3 (codes "stats") vp.Bool (omega arith) refl refl only-stats
+
+check-at : (xs : List Arg) (d : Arg) → map rule_of xs ≡ RULES → OnlyAt xs d 4 (codes "check") vp.Bool
+check-at = option-at 4 (codes "check") vp.Bool (omega arith) refl refl only-check
 
 pub given-budget : (line : Command) (m : ArgMatches) → app_of line ≡ LINE → IsParsedFrom line m
     → (t : Text) → one_text (found_of m) (codes "budget") ≡ Some t → is_budget t ≡ true
@@ -219,14 +239,19 @@ pub given-stats : (line : Command) (m : ArgMatches) → app_of line ≡ LINE →
     → (t : Text) → one_text (found_of m) (codes "stats") ≡ Some t → is_flag t ≡ true
 given-stats = option-given 3 (codes "stats") vp.Bool is_flag stats-at stats-own stats-word refl (λ ignore_case text. refl)
 
+pub given-check : (line : Command) (m : ArgMatches) → app_of line ≡ LINE → IsParsedFrom line m
+    → (t : Text) → one_text (found_of m) (codes "check") ≡ Some t → is_flag t ≡ true
+given-check = option-given 4 (codes "check") vp.Bool is_flag check-at check-own check-word refl (λ ignore_case text. refl)
+
 pub budget-read : (E : Type 0) (G : Text → Result ℕ E → Type 0) (o : Option Text) (r : Option ℕ) (n : ℕ) → n ≡ unwrap_or r 65536
     → (o ≡ None → r ≡ None) → ((t : Text) → o ≡ Some t → ReadsOne G t r)
     → ((t : Text) (x : Result ℕ E) → G t x → ParsesUnsigned 64 10 t x) → IsReadAs is_budget 65536 o n
 budget-read = number-read 1 1048576 is_budget budget-test 65536
 
 -- what is asked for, part by part
-pub same-asked : (a b : Asked) → a.script ≡ b.script → a.seed ≡ b.seed → a.budget ≡ b.budget → a.spill ≡ b.spill → a.stats ≡ b.stats → a ≡ b
-same-asked a b script seed budget spill stats =
+pub same-asked : (a b : Asked) → a.script ≡ b.script → a.seed ≡ b.seed → a.budget ≡ b.budget → a.spill ≡ b.spill → a.stats ≡ b.stats → a.check ≡ b.check → a ≡ b
+same-asked a b script seed budget spill stats check =
     ap (λ x. record a { script = x }) script ∙ ap (λ x. record a { script = b.script; seed = x }) seed
     ∙ ap (λ x. record a { script = b.script; seed = b.seed; budget = x }) budget
-    ∙ ap (λ x. record b { spill = x; stats = a.stats }) spill ∙ ap (λ x. record b { stats = x }) stats
+    ∙ ap (λ x. record b { spill = x; stats = a.stats; check = a.check }) spill ∙ ap (λ x. record b { stats = x; check = a.check }) stats
+    ∙ ap (λ x. record b { check = x }) check

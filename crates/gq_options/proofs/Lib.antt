@@ -1,4 +1,5 @@
 mod BudgetLemmas
+mod CheckLemmas
 mod FolderLemmas
 mod GivenLemmas
 mod KeptLemmas

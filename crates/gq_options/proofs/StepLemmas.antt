@@ -54,6 +54,7 @@ asked-by rows = record {
   budget = option_map_or number_of (one_of (codes "budget") rows) 65536;
   spill = first_of (codes "spill") rows;
   stats = option_map_or is_set (one_of (codes "stats") rows) false;
+  check = option_map_or is_set (one_of (codes "check") rows) false;
 }
 
 -- what the words that are left ask for, with what is held

@@ -45,6 +45,14 @@ STATS = record (new_rule (codes "stats")) {
   parser = Some vp.Bool;
 }
 
+-- a flag too
+abbrev pub CHECK : Rule
+CHECK = record (new_rule (codes "check")) {
+  long = Some (codes "check");
+  action = Some SetTrue;
+  parser = Some vp.Bool;
+}
+
 -- a word by its place
 abbrev pub SCRIPT : Rule
 SCRIPT = new_rule (codes "SCRIPT")
@@ -53,21 +61,22 @@ SCRIPT = new_rule (codes "SCRIPT")
 abbrev pub with_version : App → App
 with_version app = record app { top = record app.top { has_version = true } }
 
--- the options `--budget N`, `--seed N`, `--spill DIR` and `--stats`, at most one word, which is the script's path, the version, and the help that each command line has
+-- the options `--budget N`, `--seed N`, `--spill DIR`, `--stats` and `--check`, at most one word, which is the script's path, the version, and the help that each command line has
 abbrev pub LINE : App
-LINE = with_rule (with_rule (with_rule (with_rule (with_rule (with_version (new_app (codes "groupsh"))) BUDGET) SEED) SPILL) STATS) SCRIPT
+LINE = with_rule (with_rule (with_rule (with_rule (with_rule (with_rule (with_version (new_app (codes "groupsh"))) BUDGET) SEED) SPILL) STATS) CHECK) SCRIPT
 
--- what a command line may ask for: a script by its path, or else the standard input; a seed, by its number or from the system; a budget; a folder for runs, or else memory; and whether the work is reported
+-- what a command line may ask for: a script by its path, or else the standard input; a seed, by its number or from the system; a budget; a folder for runs, or else memory; whether the work is reported; and whether the script is only checked
 pub record Asked : Type 0 where
   pub script : Option Text
   pub seed : Seed
   pub budget : ℕ
   pub spill : Option Text
   pub stats : Bool
+  pub check : Bool
 
 -- what a command line without words asks for
 abbrev pub DEFAULTS : Asked
-DEFAULTS = record { script = None; seed = Number 0; budget = 65536; spill = None; stats = false }
+DEFAULTS = record { script = None; seed = Number 0; budget = 65536; spill = None; stats = false; check = false }
 
 -- the script that the words name
 abbrev pub script_of : List Text → Option Text
@@ -105,6 +114,10 @@ is_set text = bytes_eq text (codes "true")
 abbrev pub stats_of : List Text → Bool
 stats_of words = option_map_or is_set (one_of (codes "stats") (matches_of LINE words)) false
 
+-- whether the words ask for the script to be checked alone
+abbrev pub check_of : List Text → Bool
+check_of words = option_map_or is_set (one_of (codes "check") (matches_of LINE words)) false
+
 -- what the words ask for
 abbrev pub asked_of : List Text → Asked
 asked_of words = record {
@@ -113,6 +126,7 @@ asked_of words = record {
   budget = budget_of words;
   spill = spill_of words;
   stats = stats_of words;
+  check = check_of words;
 }
 
 -- a word that may be an option
@@ -191,7 +205,7 @@ pub record TakesRandom : Type 0 where
   pub capital : (name : Text) → faults_of (name ∷ codes "--seed" ∷ codes "Random" ∷ []) ≡ ValueValidation ∷ []
   pub longer : (name : Text) → faults_of (name ∷ codes "--seed=random1" ∷ []) ≡ ValueValidation ∷ []
   -- beside a budget, a folder and the flag for the report
-  pub all : (name budget folder : Text) → is_budget budget ≡ true → Names (name ∷ codes "--seed=random" ∷ (codes "--budget=" ++ budget) ∷ (codes "--spill=" ++ folder) ∷ codes "--stats" ∷ []) (record { script = None; seed = Random; budget = number_of budget; spill = Some folder; stats = true })
+  pub all : (name budget folder : Text) → is_budget budget ≡ true → Names (name ∷ codes "--seed=random" ∷ (codes "--budget=" ++ budget) ∷ (codes "--spill=" ++ folder) ∷ codes "--stats" ∷ []) (record { script = None; seed = Random; budget = number_of budget; spill = Some folder; stats = true; check = false })
 
 -- And of `--budget N` and `--budget=N`, alike, with a number of 1 to 1,048,576.
 pub record TakesOneBudget : Type 0 where
@@ -241,9 +255,21 @@ pub record TakesStats : Type 0 where
   pub before_seed : (name seed : Text) → is_seed seed ≡ true → Names (name ∷ codes "--stats" ∷ (codes "--seed=" ++ seed) ∷ []) (record DEFAULTS { seed = Number (number_of seed); stats = true })
   pub budget_first : (name budget : Text) → is_budget budget ≡ true → Names (name ∷ (codes "--budget=" ++ budget) ∷ codes "--stats" ∷ []) (record DEFAULTS { budget = number_of budget; stats = true })
   pub before_budget : (name budget : Text) → is_budget budget ≡ true → Names (name ∷ codes "--stats" ∷ (codes "--budget=" ++ budget) ∷ []) (record DEFAULTS { budget = number_of budget; stats = true })
-  pub folder_first : (name folder : Text) → Names (name ∷ (codes "--spill=" ++ folder) ∷ codes "--stats" ∷ []) (record DEFAULTS { spill = Some folder; stats = true })
-  pub before_folder : (name folder : Text) → Names (name ∷ codes "--stats" ∷ (codes "--spill=" ++ folder) ∷ []) (record DEFAULTS { spill = Some folder; stats = true })
-  pub all : (name seed budget folder : Text) → is_seed seed ≡ true → is_budget budget ≡ true → Names (name ∷ (codes "--seed=" ++ seed) ∷ (codes "--budget=" ++ budget) ∷ (codes "--spill=" ++ folder) ∷ codes "--stats" ∷ []) (record { script = None; seed = Number (number_of seed); budget = number_of budget; spill = Some folder; stats = true })
+  pub folder_first : (name folder : Text) → Names (name ∷ (codes "--spill=" ++ folder) ∷ codes "--stats" ∷ []) (record DEFAULTS { spill = Some folder; stats = true; check = false })
+  pub before_folder : (name folder : Text) → Names (name ∷ codes "--stats" ∷ (codes "--spill=" ++ folder) ∷ []) (record DEFAULTS { spill = Some folder; stats = true; check = false })
+  pub all : (name seed budget folder : Text) → is_seed seed ≡ true → is_budget budget ≡ true → Names (name ∷ (codes "--seed=" ++ seed) ∷ (codes "--budget=" ++ budget) ∷ (codes "--spill=" ++ folder) ∷ codes "--stats" ∷ []) (record { script = None; seed = Number (number_of seed); budget = number_of budget; spill = Some folder; stats = true; check = false })
+
+-- And of `--check`, alike.
+pub record TakesCheck : Type 0 where
+  pub alone : (name : Text) → Names (name ∷ codes "--check" ∷ []) (record DEFAULTS { check = true })
+  pub before : (name path : Text) → has_dash path ≡ false → Names (name ∷ codes "--check" ∷ path ∷ []) (record DEFAULTS { script = Some path; check = true })
+  pub behind : (name path : Text) → has_dash path ≡ false → Names (name ∷ path ∷ codes "--check" ∷ []) (record DEFAULTS { script = Some path; check = true })
+  pub with_value : (name text : Text) (more : List Text) → faults_of (name ∷ (codes "--check=" ++ text) ∷ more) ≡ TooManyValues ∷ []
+  pub twice : (name : Text) (more : List Text) → faults_of (name ∷ codes "--check" ∷ codes "--check" ∷ more) ≡ ArgumentConflict ∷ []
+  -- beside the flag for the report, in either order, and beside all others
+  pub stats_first : (name : Text) → Names (name ∷ codes "--stats" ∷ codes "--check" ∷ []) (record DEFAULTS { stats = true; check = true })
+  pub before_stats : (name : Text) → Names (name ∷ codes "--check" ∷ codes "--stats" ∷ []) (record DEFAULTS { stats = true; check = true })
+  pub all : (name seed budget folder : Text) → is_seed seed ≡ true → is_budget budget ≡ true → Names (name ∷ (codes "--seed=" ++ seed) ∷ (codes "--budget=" ++ budget) ∷ (codes "--spill=" ++ folder) ∷ codes "--stats" ∷ codes "--check" ∷ []) (record { script = None; seed = Number (number_of seed); budget = number_of budget; spill = Some folder; stats = true; check = true })
 
 -- Worked examples.
 pub record SeedsWorked : Type 0 where
@@ -269,4 +295,4 @@ pub record FoldersWorked : Type 0 where
   pub empty : (name : Text) → Names (name ∷ codes "--spill=" ∷ []) (record DEFAULTS { spill = Some [] })
   pub dashed : (name : Text) → Names (name ∷ codes "--spill=-x" ∷ []) (record DEFAULTS { spill = Some (codes "-x") })
   pub flag_behind : (name : Text) → faults_of (name ∷ codes "--spill" ∷ codes "--stats" ∷ []) ≡ InvalidValue ∷ []
-  pub all : (name : Text) → Names (name ∷ codes "--stats" ∷ codes "--budget" ∷ codes "1" ∷ codes "--spill" ∷ codes "runs" ∷ codes "--seed" ∷ codes "7" ∷ codes "a.gq" ∷ []) (record { script = Some (codes "a.gq"); seed = Number 7; budget = 1; spill = Some (codes "runs"); stats = true })
+  pub all : (name : Text) → Names (name ∷ codes "--stats" ∷ codes "--budget" ∷ codes "1" ∷ codes "--spill" ∷ codes "runs" ∷ codes "--seed" ∷ codes "7" ∷ codes "a.gq" ∷ []) (record { script = Some (codes "a.gq"); seed = Number 7; budget = 1; spill = Some (codes "runs"); stats = true; check = false })

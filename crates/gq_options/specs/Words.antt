@@ -64,6 +64,7 @@ asked_by options = record {
   budget = options.budget;
   spill = option_map (λ s. s.now) options.spill;
   stats = options.stats;
+  check = options.check;
 }
 
 -- options come only of words without a fault, and ask for what these ask for

@@ -1,6 +1,6 @@
 //! Laws: what the definitions come to. Each is the contract of a function that does nothing.
 ghost use Rattle.gq_options.specs.CommandLine.{BudgetsWorked, FoldersWorked, SeedsWorked};
-ghost use Rattle.gq_options.specs.CommandLine.{TakesOneBudget, TakesOneFolder, TakesOnePath, TakesOneSeed, TakesRandom, TakesStats};
+ghost use Rattle.gq_options.specs.CommandLine.{TakesCheck, TakesOneBudget, TakesOneFolder, TakesOnePath, TakesOneSeed, TakesRandom, TakesStats};
 
 /// The program takes one path, or none, and tells help and the version from mistakes.
 pub fn takes_one_path()
@@ -33,4 +33,9 @@ pub fn takes_one_folder()
 /// Besides these it takes the flag for the report, once.
 pub fn takes_stats()
     ensures { TakesStats }
+{}
+
+/// Besides these it takes the flag for a check, once.
+pub fn takes_check()
+    ensures { TakesCheck }
 {}

@@ -1,7 +1,7 @@
 //! The program's command line.
 ghost use Rattle.std.specs.Prelude.{◌≡◌, false, IfOk, codes, map, string_bytes};
 ghost use Rattle.clap.specs.Words.{app_of, first_value, found_of, kind_of, one_text, rule_of};
-ghost use Rattle.gq_options.specs.CommandLine.{BUDGET, LINE, SCRIPT, SEED, SPILL, STATS, is_budget};
+ghost use Rattle.gq_options.specs.CommandLine.{BUDGET, CHECK, LINE, SCRIPT, SEED, SPILL, STATS, is_budget};
 ghost use Rattle.gq_options.specs.Words.{IsReadAs, IsReadAsFlag, IsToldAs, IsToldAsMistake, Reads, ReadsSeed};
 
 use clap::error::ErrorKind;
@@ -31,6 +31,8 @@ pub struct Options<'a> {
     pub spill: Option<&'a str>,
     /// Whether the work of the groupings is reported.
     pub stats: bool,
+    /// Whether the script is only read, and nothing is run.
+    pub check: bool,
 }
 
 /// Why a command line asks for no run.
@@ -78,8 +80,8 @@ A command that is refused is answered `err CODE NAME` and changes nothing.
 docs/LANGUAGE.md has all commands, values, replies and refusals.
 
 Exit status:
-  0  all commands were accepted
-  1  some command was refused
+  0  all commands were accepted; with --check, each line is a command
+  1  some command was refused; with --check, some line is none
   2  the command line is wrong
   3  the script can't be read, a reply can't be written, or there was no memory, or no random seed, to
      begin with";
@@ -132,6 +134,17 @@ fn stats_option<'a>(alloc: Global) -> Arg<'a>
         )
 }
 
+fn check_option<'a>(alloc: Global) -> Arg<'a>
+    ensures rule { rule_of result ≡ CHECK }
+    ensures local { result.global ≡ false }
+{
+    Arg::new(alloc, "check")
+        .long("check")
+        .action(ArgAction::SetTrue)
+        .value_parser(value_parser!(bool))
+        .help("Run nothing: tell each line that is no command, as FILE:LINE:COLUMN: MESSAGE")
+}
+
 fn script_word<'a>(alloc: Global) -> Arg<'a>
     ensures rule { rule_of result ≡ SCRIPT }
     ensures local { result.global ≡ false }
@@ -152,6 +165,7 @@ fn command_line<'a>(alloc: Global) -> Result<Command<'a>, AllocError>
         .arg(seed_option(alloc))?
         .arg(spill_option(alloc))?
         .arg(stats_option(alloc))?
+        .arg(check_option(alloc))?
         .arg(script_word(alloc))
 }
 
@@ -198,6 +212,13 @@ fn stats_in(matches: &ArgMatches) -> bool
     matches.get_flag("stats")
 }
 
+// Whether the matches have the flag for a check.
+fn check_in(matches: &ArgMatches) -> bool
+    ensures { IsReadAsFlag (one_text (found_of matches.now) (codes "check")) result }
+{
+    matches.get_flag("check")
+}
+
 // What clap answers in place of matches.
 fn bad_line(alloc: Global, error: &Error) -> BadLine
     ensures { IsToldAs (kind_of error.now) result }
@@ -228,6 +249,7 @@ pub fn read_words<'a>(alloc: Global, words: &'a [String]) -> Result<Options<'a>,
             budget: budget_in(&matches),
             spill: matches.get_str("spill"),
             stats: stats_in(&matches),
+            check: check_in(&matches),
         }),
         Err(error) => Err(bad_line(alloc, &error)),
     }

@@ -18,5 +18,5 @@ mod source;
 
 pub use first_word::FirstWord;
 pub use gather::{OpenLine, Opening, take_line};
-pub use payload::{Kept, take_payload};
+pub use payload::{Kept, take_payload, take_payload_line};
 pub use source::{ReadFault, Source};

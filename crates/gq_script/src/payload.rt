@@ -135,9 +135,9 @@ fn line_piece(bytes: &[u8]) -> (usize, bool)
     }
 }
 
-/// Takes a line, and tells whether it ends the payload. `None` comes where the script ends before
+/// Takes a line of a payload, and tells whether it ends that. `None` comes where the script ends before
 /// a line does.
-fn take_payload_line<R: Read>(
+pub fn take_payload_line<R: Read>(
     source: &mut Source<R>,
     kept: &mut Kept,
     bounds: &Bounds,

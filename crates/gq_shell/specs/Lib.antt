@@ -1,4 +1,6 @@
+pub mod Checking
 pub mod Program
 pub mod Session
+pub mod Sources
 pub mod Statuses
 pub mod Streams

@@ -1,8 +1,6 @@
 -- What the program did, told by the words of its command line, what opening a path gives, its two streams and its exit status.
-use Rattle.std.specs.Prelude.{◌≡◌, ◌≢◌, ◌⊎◌, ℕ, IsTrue, not, List, [], codes, string_bytes, is_some, Option, Some, None, Result, Ok, Err}
-use Rattle.std.specs.IoError.{error_kind}
+use Rattle.std.specs.Prelude.{◌≡◌, ◌⊎◌, ℕ, Bool, true, false, IsTrue, not, List, [], codes, string_bytes, is_some, Option, Some, None, Result, Ok, Err}
 use Rattle.std.specs.declared.io.Error.{Error}
-use Rattle.std.specs.declared.io.ErrorKind.TheVariants as kind
 use Rattle.gq_row.specs.Limits.{GREATEST}
 use Rattle.gq_command.specs.Commands.{Bytes}
 use Rattle.gq_group.specs.declared.grouping.Spent.{Spent}
@@ -10,7 +8,9 @@ use Rattle.gq_engine.specs.Headline.{State}
 use Rattle.gq_engine.specs.Runs.{Setting}
 use Rattle.gq_options.specs.CommandLine.{Asked, Text}
 use Rattle.gq_shell.specs.Session.{EndedWith, report_of}
+use Rattle.gq_shell.specs.Checking.{CheckedNamed}
 use Rattle.gq_shell.specs.Streams.{Stream, IsUntouched, Got, GotFront}
+pub use Rattle.gq_shell.specs.Sources.{Sources, Stopped, StoppedBy, StoppedForMemory}
 use Rattle.gq_options.specs.Words.{Reads, asked_by}
 use Rattle.gq_options.specs.declared.options.BadLine.{BadLine}
 use Rattle.gq_options.specs.declared.options.BadLine.TheVariants.{Help, Version, Mistake, Memory}
@@ -19,20 +19,6 @@ use Rattle.gq_options.specs.declared.options.Seed.{Seed}
 use Rattle.gq_options.specs.declared.options.Seed.TheVariants.{Number, Random}
 use Rattle.gq_shell.specs.declared.seeding.RunSeed.{RunSeed}
 use Rattle.gq_shell.specs.declared.seeding.RunSeed.TheVariants.{Given, Drawn}
-
--- The standard error got this text, as far as it took it, and this is the status.
-pub record Stopped (errors : Stream) (text : Bytes) (wanted status : ℕ) : Type 0 where
-  pub told : GotFront errors text
-  pub is : status ≡ wanted
-
-abbrev pub StoppedForMemory : Stream → ℕ → Type 0
-StoppedForMemory errors status = Stopped errors (codes "groupsh: out of memory\n") 3 status
-
--- by an error: for want of memory as such, and else by this text and status
-abbrev pub StoppedBy : Error → Bytes → ℕ → Stream → ℕ → Type 0
-StoppedBy e text wanted errors status =
-    (error_kind e ≡ kind.OutOfMemory → StoppedForMemory errors status)
-    × (error_kind e ≢ kind.OutOfMemory → Stopped errors text wanted status)
 
 -- the whole of this text went to the standard output; or it was cut short, and that is told as a write fault
 abbrev pub Printed : Bytes → Stream → Stream → ℕ → Type 0
@@ -72,12 +58,6 @@ pub record RanScript (asked : Asked) (seed : RunSeed) (script : Option Bytes) (r
   pub spent : Spent
   pub ended : EndedWith (setting_by asked.spill) NOTHING script new (report_of asked.stats seed spent) replies errors status
 
--- Where scripts come from: the bytes of the standard input, and what opening a path may give.
-pub record Sources (S : Type 0) : Type 1 where
-  pub input : Option Bytes
-  pub remaining : S → Option Bytes
-  pub opens : Text → Result S Error → Type 0
-
 -- what opening a path gave was run; or it could not be opened
 abbrev pub RanOpened : {S : Type 0} → Sources S → Asked → RunSeed → Result S Error → Stream → Stream → ℕ → Type 0
 RanOpened sources asked seed (Ok script) replies errors status = RanScript asked seed (sources.remaining script) replies errors status
@@ -101,9 +81,14 @@ RanAsked sources asked replies errors status =
     ⊎ (HadNoSeed asked replies errors status
     ⊎ (IsTrue (is_some asked.spill) × IsUntouched replies × StoppedForMemory errors status))
 
+-- a script was checked where that was asked for, and otherwise run
+abbrev pub DidAsked : {S : Type 0} → Bool → Sources S → Asked → Stream → Stream → ℕ → Type 0
+DidAsked true sources asked replies errors status = CheckedNamed sources asked.script replies errors status
+DidAsked false sources asked replies errors status = RanAsked sources asked replies errors status
+
 -- what was done about a command line as it was read
 abbrev pub Did : {S : Type 0} → Sources S → Result Options BadLine → Stream → Stream → ℕ → Type 0
-Did sources (Ok options) replies errors status = RanAsked sources (asked_by options) replies errors status
+Did sources (Ok options) replies errors status = DidAsked options.check sources (asked_by options) replies errors status
 Did sources (Err bad) replies errors status = AnsweredBadLine bad replies errors status
 
 -- The command line was read, and what it asks for was done.

@@ -20,6 +20,7 @@ const DEFAULTS: Options<'static> = Options {
     budget: 65_536,
     spill: None,
     stats: false,
+    check: false,
 };
 
 fn scripted(script: &str) -> Options {
@@ -181,6 +182,7 @@ fn command_lines_with_folders_and_reports(rt: HostRuntime) -> Result<(), Fail> {
             &[
                 "groupsh",
                 "--stats",
+                "--check",
                 "--spill",
                 "d",
                 "--budget=1",
@@ -194,6 +196,7 @@ fn command_lines_with_folders_and_reports(rt: HostRuntime) -> Result<(), Fail> {
                 budget: 1,
                 spill: Some("d"),
                 stats: true,
+                check: true,
             },
         ),
     ];

@@ -13,6 +13,7 @@
 //! run. The law in [`laws`] says what a status tells.
 #![tactic(auto)]
 
+mod checking;
 #[cfg(test)]
 mod command_lines;
 pub mod laws;

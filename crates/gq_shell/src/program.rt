@@ -5,6 +5,7 @@ ghost use Rattle.std.specs.Result.{result_map_both};
 ghost use Rattle.gq_shell.specs.Program.{RanProgram};
 ghost use Rattle.gq_shell.specs.Streams.{stream};
 
+use crate::checking::check_script;
 use crate::script::run_script;
 use crate::stopping::{answer_bad_line, answer_error};
 use gq_options::read_words;
@@ -13,7 +14,7 @@ use std::fs::Files;
 use std::io::{self, Read, Write};
 use std::random::RandomSource;
 
-/// Reads the command line, opens the script and runs it, and answers the exit status.
+/// Reads the command line, opens the script and runs or checks it, and answers the exit status.
 ///
 /// `words` begin with the program's name, or are the error in reading them; `files` has the folder
 /// of a run store, `source` gives the bytes of a random seed, and `opener` opens a script's path;
@@ -55,6 +56,9 @@ where
         }
     };
     match read_words(alloc, words.as_slice()) {
+        Ok(options) if options.check => {
+            check_script(alloc, options, opener, input, replies, errors)
+        }
         Ok(options) => run_script(
             alloc, options, files, source, opener, input, replies, errors,
         ),

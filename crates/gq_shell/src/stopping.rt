@@ -40,8 +40,8 @@ pub fn stop_for_memory<E: Write>(errors: &mut E) -> u8
     stop("groupsh: out of memory\n", 3, errors)
 }
 
-// Tells why nothing is run, and answers the status. A fault in telling it is passed over.
-fn stop<E: Write>(text: &str, status: u8, errors: &mut E) -> u8
+/// Tells why the program stops, and answers the status. A fault in telling it is passed over.
+pub fn stop<E: Write>(text: &str, status: u8, errors: &mut E) -> u8
     ensures { Stopped (stream E.contents errors.old errors.new) text.now status result }
 {
     let _told = tell(text, errors);

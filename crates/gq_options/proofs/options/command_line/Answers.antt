@@ -14,4 +14,5 @@ returns c =
     let with_seed = c.in_ok-arg-2.ensures.shape c.seed_option.ensures.local ∙ ap₂ with_rule with_budget c.seed_option.ensures.rule in
     let with_spill = c.in_ok-arg-3.ensures.shape c.spill_option.ensures.local ∙ ap₂ with_rule with_seed c.spill_option.ensures.rule in
     let with_stats = c.in_ok-arg-4.ensures.shape c.stats_option.ensures.local ∙ ap₂ with_rule with_spill c.stats_option.ensures.rule in
-    IfOk-weaker c.arg-5.result _ _ (λ r h. h.shape c.script_word.ensures.local ∙ ap₂ with_rule with_stats c.script_word.ensures.rule) c.arg-5.ensures
+    let with_check = c.in_ok-arg-5.ensures.shape c.check_option.ensures.local ∙ ap₂ with_rule with_stats c.check_option.ensures.rule in
+    IfOk-weaker c.arg-6.result _ _ (λ r h. h.shape c.script_word.ensures.local ∙ ap₂ with_rule with_check c.script_word.ensures.rule) c.arg-6.ensures

@@ -7,7 +7,7 @@ use Rattle.gq_options.specs.CommandLine.{LINE, is_budget, is_set, number_of, see
 use Rattle.gq_options.specs.Words.{IsBad, ReadsSeed}
 use Rattle.gq_options.specs.declared.options.Seed.TheVariants.{Number}
 use Rattle.std.specs.Option.{option_map_or}
-use Rattle.gq_options.proofs.GivenLemmas.{flag-named, given-budget, given-stats, number-named, same-asked}
+use Rattle.gq_options.proofs.GivenLemmas.{flag-named, given-budget, given-check, given-stats, number-named, same-asked}
 use Rattle.gq_options.proofs.WordsLemmas.{passed-on, seed-bad, told-bad}
 use Rattle.gq_options.proofs.options.read_words.Goals as goal
 
@@ -39,7 +39,9 @@ returns-in_ok-seed_in-in-Ok-try_get_matches_from c =
           ∙ number-named is_budget 65536 _ c.budget_in.result c.budget_in.ensures (given-budget c.in-Ok.line found line_is parsed))
           (sym (c.get_str-in-Ok-try_get_matches_from.ensures ∙ named (codes "spill")))
           (ap (λ o. option_map_or is_set o false) (sym (shown (codes "stats")))
-          ∙ flag-named _ c.stats_in.result c.stats_in.ensures (given-stats c.in-Ok.line found line_is parsed));
+          ∙ flag-named _ c.stats_in.result c.stats_in.ensures (given-stats c.in-Ok.line found line_is parsed))
+          (ap (λ o. option_map_or is_set o false) (sym (shown (codes "check")))
+          ∙ flag-named _ c.check_in.result c.check_in.ensures (given-check c.in-Ok.line found line_is parsed));
     }
 
 pub returns-in_err-seed_in-in-Ok-try_get_matches_from : goal.returns-in_err-seed_in-in-Ok-try_get_matches_from

@@ -1,0 +1,5 @@
+mod Faults
+mod NumberLemmas
+mod Passed
+mod Plain
+pub mod Steps

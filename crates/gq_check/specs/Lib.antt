@@ -1,0 +1,5 @@
+pub mod Findings
+pub mod Numbering
+pub mod Passing
+pub mod Reports
+pub mod Stepping

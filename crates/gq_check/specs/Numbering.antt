@@ -1,0 +1,52 @@
+-- The items of a script, each with the number of its line.
+use Rattle.std.specs.Prelude.{◌≡◌, ℕ, suc, Bool, List, [], ◌∷◌, ◌++◌, length, map, Option, Some, None, if◌then◌else◌}
+use Rattle.std.specs.List.{All}
+use Rattle.gq_row.specs.declared.limits.Bounds.{Bounds}
+use Rattle.gq_token.specs.Texts.{Bytes}
+use Rattle.gq_script.specs.Script.{Entry, Plain, Loading, raw_lines, content, is_skipped, is_end_mark, line_of, takes_payload, without_mark, items}
+
+-- an item and the number of its line, of which the first has the number 1
+pub record Numbered : Type 0 where
+  pub number : ℕ
+  pub entry : Entry
+
+-- a load, by the number of its line, its line, and what its payload has so far
+pub record Begun : Type 0 where
+  pub number : ℕ
+  pub line : Bytes
+  pub payload : Bytes
+
+-- the items of lines that stand behind n others, each with its line's number: outside of a payload, or in that of a load
+unfoldable pub numbered_by : (Bytes → Bool) → ℕ → Option Begun → List Bytes → List Numbered
+numbered_by loads n None [] = []
+numbered_by loads n (Some begun) [] = (record { number = begun.number; entry = Loading begun.line None }) ∷ []
+numbered_by loads n None (l ∷ ls) =
+    let line = content l in
+    if is_skipped line then numbered_by loads (suc n) None ls
+    else (if loads line then numbered_by loads (suc n) (Some (record { number = suc n; line = line; payload = [] })) ls
+    else (record { number = suc n; entry = Plain line }) ∷ numbered_by loads (suc n) None ls)
+numbered_by loads n (Some begun) (l ∷ ls) =
+    if is_end_mark (content l) then (record { number = begun.number; entry = Loading begun.line (Some begun.payload) }) ∷ numbered_by loads (suc n) None ls
+    else numbered_by loads (suc n) (Some (record begun { payload = begun.payload ++ l })) ls
+
+-- the items of what is left of a script behind so many lines, and any byte-order mark
+abbrev pub numbered_left : Bounds → ℕ → Bytes → List Numbered
+numbered_left b n bytes = numbered_by (takes_payload b) n None (raw_lines bytes)
+
+-- the items of a script, in order
+abbrev pub numbered : Bounds → Bytes → List Numbered
+numbered b script = numbered_left b 0 (without_mark script)
+
+-- the item's line stands among these lines, behind as many as its number says but one
+pub record StandsAt (lines : List Bytes) (x : Numbered) : Type 0 where
+  pub front : List Bytes
+  pub raw : Bytes
+  pub rest : List Bytes
+  pub lines_are : lines ≡ front ++ raw ∷ rest
+  pub number : x.number ≡ suc (length front)
+  pub line : line_of x.entry ≡ content raw
+
+-- without their numbers they are the items of the script; each stands at the line of its number
+pub record NumbersTell : Type 0 where
+  pub items : (b : Bounds) (script : Bytes) → map (λ (x : Numbered). x.entry) (numbered b script) ≡ items b script
+  pub lines : (b : Bounds) (script : Bytes) → All (StandsAt (raw_lines (without_mark script))) (numbered b script)

@@ -1,0 +1,193 @@
+//! A script, read item by item for what reading refuses.
+ghost use Rattle.std.specs.Prelude.{◌≡◌, ◌≢◌, ◌≤◌, ◌+◌, false, IfOk, OnOk, length, string_bytes};
+ghost use Rattle.gq_token.specs.Texts.{Bytes};
+ghost use Rattle.gq_script.specs.Gathering.{Gathers};
+ghost use Rattle.gq_script.specs.Script.{Plain, is_skipped};
+ghost use Rattle.gq_check.specs.Findings.{IsFaultOf};
+ghost use Rattle.gq_check.specs.Reports.{IsOneLine, limit_message};
+ghost use Rattle.gq_check.specs.Stepping.{TookItem};
+ghost use Rattle.gq_check.specs.declared.fault.Fault.TheVariants as why;
+
+use crate::fault::{CheckFault, Fault};
+use crate::message::told_of;
+use crate::payload::pass_payload;
+use crate::report::Report;
+use gq_command::{LineRefusal, parse_line};
+use gq_row::Limits;
+use gq_script::{OpenLine, Opening, Source, take_line};
+use std::alloc::{AllocError, Global};
+use std::io::Read;
+use std::marker::Model;
+
+/// What is wrong with a line that is no blank line and no comment, where something is.
+fn fault_of(alloc: Global, line: &OpenLine, limits: &Limits) -> Result<Option<Fault>, AllocError>
+    ensures { (text : Bytes) → Gathers limits.now.bounds.line line.now text → is_skipped text ≡ false → IfOk result (IsFaultOf limits.now.bounds (Plain text)) }
+{
+    if line.too_long {
+        return Ok(Some(Fault::LineTooLong));
+    }
+    if line.lost {
+        return Err(AllocError);
+    }
+    // A dash alone is no token.
+    if matches!(line.opening, Opening::Dash) {
+        return Ok(Some(Fault::Syntax));
+    }
+    match parse_line(alloc, line.kept.as_slice(), limits) {
+        Ok(_command) => Ok(None),
+        Err(LineRefusal::Syntax) => Ok(Some(Fault::Syntax)),
+        Err(LineRefusal::LineTooLong) => Ok(Some(Fault::LineTooLong)),
+        Err(LineRefusal::Limit) => Ok(Some(Fault::Limit)),
+        Err(LineRefusal::Memory) => Err(AllocError),
+    }
+}
+
+/// The column of a byte of a line, by how many bytes of what was kept stand before it: blanks before
+/// those count too.
+fn column_of(line: &OpenLine, at: usize, most: usize) -> u64
+    ensures { (text : Bytes) → Gathers most line.now text → (1 ≤ result) × (result ≤ length text + 1) }
+{
+    let width = most.saturating_sub(line.room);
+    // A dash alone is not kept.
+    let kept = if matches!(line.opening, Opening::Dash) {
+        1
+    } else {
+        line.kept.len()
+    };
+    let blanks = width.saturating_sub(kept);
+    (blanks.saturating_add(at).min(width) as u64).saturating_add(1)
+}
+
+/// The report of a line with this fault.
+fn report_of(
+    alloc: Global,
+    number: u64,
+    fault: Fault,
+    line: &OpenLine,
+    limits: &Limits,
+) -> Result<Report, AllocError>
+    ensures is { IfOk result (λ r. (r.line ≡ number) × (r.fault ≡ fault)) }
+    ensures column { IfOk result (λ r. (text : Bytes) → Gathers limits.now.bounds.line line.now text → (1 ≤ r.column) × (r.column ≤ length text + 1)) }
+    ensures one_line { IfOk result (λ r. IsOneLine (string_bytes r.message)) }
+    ensures limit { IfOk result (λ r. fault ≢ why.Syntax → string_bytes r.message ≡ limit_message fault) }
+{
+    let text: &[u8] = if matches!(line.opening, Opening::Dash) {
+        b"-"
+    } else {
+        line.kept.as_slice()
+    };
+    let told = told_of(alloc, fault, text, limits)?;
+    Ok(Report {
+        line: number,
+        fault,
+        column: column_of(line, told.at, limits.bounds.line),
+        message: told.message,
+    })
+}
+
+/// What is wrong with an item, where something is, behind whose line the reader stands; and how many
+/// lines came up to its end, where that line has this number.
+fn take_item<R: Read>(
+    alloc: Global,
+    source: &mut Source<R>,
+    number: u64,
+    line: &OpenLine,
+    limits: &Limits,
+) -> Result<(Option<Fault>, u64), CheckFault>
+    ensures item { (text : Bytes) → Gathers limits.now.bounds.line line.now text → is_skipped text ≡ false → IfOk result (λ x. TookItem limits.now.bounds number text source.old source.new x.0 x.1) }
+    ensures within { OnOk result (source.old.given ≤ limits.now.bounds.script → source.new.given ≤ limits.now.bounds.script) }
+{
+    let fault = fault_of(alloc, line, limits)?;
+    if !line.takes_payload() {
+        return Ok((fault, number));
+    }
+    let (payload, lines) = pass_payload(alloc, source, number, &limits.bounds)?;
+    match fault {
+        Some(fault) => Ok((Some(fault), lines)),
+        None => Ok((payload, lines)),
+    }
+}
+
+/// What the next line of a script comes to.
+#[derive(Drop)]
+enum Step {
+    /// There is none.
+    End,
+    /// Nothing is wrong with its item, or it has none.
+    Clean,
+    Found(Report),
+}
+
+/// The reports of a script, one after the other, in whatever pieces its bytes come.
+#[derive(Drop)]
+pub struct Checker<R: Read> {
+    source: Source<R>,
+    /// How many lines came.
+    lines: u64,
+}
+
+impl<R: Read> Model for Checker<R> {
+    ghost use Rattle.gq_check.specs.Reports.{Place};
+
+    ghost Value = { Place };
+
+    ghost view = { λ c. record { left = c.source.left; lines = c.lines } };
+}
+
+impl<R: Read> Checker<R> {
+    ghost use Rattle.std.specs.Prelude.{◌≡◌, [], ◌∷◌, Some, IfOk, IfSome, IfNone};
+    ghost use Rattle.gq_script.specs.Script.{without_mark};
+    ghost use Rattle.gq_check.specs.Numbering.{numbered_left};
+    ghost use Rattle.gq_check.specs.Reports.{Between, Reports};
+    ghost use Rattle.gq_check.specs.Stepping.{Stepped};
+
+    /// A checker of a whole script.
+    pub fn new(reader: R) -> Checker<R>
+        ensures left { IfSome (R.remaining reader) (λ bytes. result.left ≡ Some (without_mark bytes)) }
+        ensures lines { result.lines ≡ 0 }
+    {
+        Checker {
+            source: Source::new(reader),
+            lines: 0,
+        }
+    }
+
+    /// The next report, or `None` at the script's end. After a fault there is nothing more to learn.
+    pub fn next(&mut self, alloc: Global, limits: &Limits) -> Result<Option<Report>, CheckFault>
+        // It is that of the first item that is left and that reading refuses.
+        ensures report { IfOk result (λ x. IfSome x (λ report. Between limits.now.bounds self.old self.new (report ∷ []))) }
+        // None comes only where reading refuses none of what is left.
+        ensures end { IfOk result (λ x. IfNone x (IfSome self.old.left (λ bytes. Reports limits.now.bounds (numbered_left limits.now.bounds self.old.lines bytes) []))) }
+    {
+        for _ in 0..u64::MAX {
+            match self.step(alloc, limits)? {
+                Step::End => return Ok(None),
+                Step::Clean => {}
+                Step::Found(report) => return Ok(Some(report)),
+            }
+        }
+        Err(CheckFault::Read)
+    }
+
+    /// Takes a line, and the payload behind it where it has one.
+    fn step(&mut self, alloc: Global, limits: &Limits) -> Result<Step, CheckFault>
+        ensures { IfOk result (Stepped limits.now.bounds self.old self.new) }
+    {
+        let Some(line) = take_line(alloc, &mut self.source, &limits.bounds)? else {
+            return Ok(Step::End);
+        };
+        let Some(number) = self.lines.checked_add(1) else {
+            return Err(CheckFault::Read);
+        };
+        if line.is_skipped() {
+            self.lines = number;
+            return Ok(Step::Clean);
+        }
+        let (fault, lines) = take_item(alloc, &mut self.source, number, &line, limits)?;
+        self.lines = lines;
+        match fault {
+            None => Ok(Step::Clean),
+            Some(fault) => Ok(Step::Found(report_of(alloc, number, fault, &line, limits)?)),
+        }
+    }
+}

@@ -1,0 +1,226 @@
+//! Where a line stops being the front of a command, and what could stand there, as the parser says.
+ghost use Rattle.std.specs.Prelude.{◌≡◌, ◌++◌, ℕ, List, true, take, IfOk};
+ghost use Rattle.std.specs.List.{All};
+ghost use Rattle.gq_command.specs.Commands.{Bytes};
+ghost use Rattle.gq_command.specs.Lines.{Says};
+ghost use Rattle.gq_command.specs.declared.command.Command.{Command};
+ghost use Rattle.gq_check.specs.Reports.{Leads};
+
+use crate::ends::{BEFORE_LISTS, WORDS, ends_of};
+use crate::pieces::{Piece, pieces_of};
+use gq_command::{LineRefusal, parse_line};
+use gq_row::Limits;
+use std::alloc::{AllocError, Global};
+
+/// Whether a line says a command, within the limits or past them.
+fn says_command(alloc: Global, line: &[u8], limits: &Limits) -> Result<bool, AllocError>
+    ensures { IfOk result (λ b. b ≡ true → (c : Command) × Says line.now c) }
+{
+    match parse_line(alloc, line, limits) {
+        Ok(_command) => Ok(true),
+        Err(LineRefusal::Limit) => Ok(true),
+        Err(LineRefusal::Memory) => Err(AllocError),
+        Err(LineRefusal::Syntax | LineRefusal::LineTooLong) => Ok(false),
+    }
+}
+
+/// Whether a front says a command with this behind it.
+fn leads_with(alloc: Global, front: &[u8], end: &[u8], limits: &Limits) -> Result<bool, AllocError>
+    ensures { IfOk result (λ b. b ≡ true → Leads front.now) }
+{
+    let mut line = Vec::from_slice(alloc, front)?;
+    line.extend_from_slice(end)?;
+    says_command(alloc, line.as_slice(), limits)
+}
+
+/// Whether a front says a command with one of these ends behind it.
+fn leads_with_any(
+    alloc: Global,
+    front: &[u8],
+    ends: &[&str],
+    limits: &Limits,
+) -> Result<bool, AllocError>
+    ensures { IfOk result (λ b. b ≡ true → Leads front.now) }
+{
+    for end in ends {
+        if leads_with(alloc, front, end.as_bytes(), limits)? {
+            return Ok(true);
+        }
+    }
+    Ok(false)
+}
+
+/// So many names in a list, behind what begins it, and what closes it.
+fn names_behind(alloc: Global, begin: &str, count: usize) -> Result<String, AllocError> {
+    let mut list = String::from_str(alloc, begin)?;
+    list.push_str("\"\u{2}\"")?;
+    for _ in 1..count {
+        list.push_str(",\"\u{2}\"")?;
+    }
+    list.push_str(")")?;
+    Ok(list)
+}
+
+/// Whether a front says a command with one of so many names behind it, as one does that lacks names
+/// in the lists of an `exists`.
+fn leads_with_names(
+    alloc: Global,
+    front: &[u8],
+    count: usize,
+    limits: &Limits,
+) -> Result<bool, AllocError>
+    ensures { IfOk result (λ b. b ≡ true → Leads front.now) }
+{
+    for begin in &BEFORE_LISTS {
+        let list = names_behind(alloc, begin, count)?;
+        if leads_with(alloc, front, list.as_bytes(), limits)? {
+            return Ok(true);
+        }
+    }
+    Ok(false)
+}
+
+/// What is known of a line whose fronts are looked at.
+#[derive(Clone, Copy)]
+struct Search<'a> {
+    /// What a front of its form may lack.
+    ends: &'static [&'static str],
+    /// How many names the lists of an `exists` may lack.
+    names: usize,
+    limits: &'a Limits,
+}
+
+/// Whether a front is that of a command, as far as the tables go.
+fn leads(alloc: Global, front: &[u8], search: &Search) -> Result<bool, AllocError>
+    ensures { IfOk result (λ b. b ≡ true → Leads front.now) }
+{
+    if leads_with_any(alloc, front, search.ends, search.limits)? {
+        return Ok(true);
+    }
+    for count in 1..search.names {
+        if leads_with_names(alloc, front, count, search.limits)? {
+            return Ok(true);
+        }
+    }
+    Ok(false)
+}
+
+/// How many of the pieces are the longest front of a command.
+fn front_len(
+    alloc: Global,
+    line: &[u8],
+    pieces: &[Piece],
+    search: &Search,
+) -> Result<usize, AllocError> {
+    let mut low = 0;
+    let mut high = pieces.len();
+    for _ in 0..pieces.len() {
+        if high <= low {
+            break;
+        }
+        let middle = low + (high - low) / 2;
+        let leads = match pieces.get(middle).and_then(|piece| line.get(..piece.end)) {
+            Some(front) => leads(alloc, front, search)?,
+            None => false,
+        };
+        if leads {
+            low = middle + 1;
+        } else {
+            high = middle;
+        }
+    }
+    Ok(low)
+}
+
+/// The words that can stand behind a front, as messages show them.
+fn words_behind(
+    alloc: Global,
+    front: &[u8],
+    search: &Search,
+) -> Result<Vec<(&'static str, &'static str)>, AllocError> {
+    let mut words = Vec::new(alloc);
+    for (shown, spelled) in WORDS {
+        let mut longer = Vec::from_slice(alloc, front)?;
+        longer.extend_from_slice(spelled.as_bytes())?;
+        let word = Search {
+            ends: if front.is_empty() {
+                ends_of(spelled.as_bytes().get(1..).unwrap_or(b""))
+            } else {
+                search.ends
+            },
+            ..*search
+        };
+        if leads(alloc, longer.as_slice(), &word)? {
+            words.push((shown, spelled))?;
+        }
+    }
+    Ok(words)
+}
+
+/// Where a line stops being the front of a command, and what could stand there.
+#[derive(Drop)]
+pub struct Diagnosis {
+    /// How many bytes the front has that is one.
+    pub front: usize,
+    /// The piece behind it; at the line's end it is empty.
+    pub piece: Piece,
+    /// The words that can stand behind the front, as messages show them and as they are spelled.
+    pub words: Vec<(&'static str, &'static str)>,
+    /// Whether the front is a command itself.
+    pub whole: bool,
+}
+
+/// How many names the lists of an `exists` may lack, by the pieces of a line: one more than it has
+/// commas, or none where no piece is the word.
+fn names_lacking(line: &[u8], pieces: &[Piece]) -> usize {
+    let mut commas: usize = 1;
+    let mut exists = false;
+    for piece in pieces {
+        match line.get(piece.start..piece.end) {
+            Some([b',']) => commas = commas.saturating_add(1),
+            Some(word) if word.eq_ignore_ascii_case(b"exists") => exists = true,
+            _ => {}
+        }
+    }
+    if exists {
+        commas.saturating_add(1).min(MOST_NAMES)
+    } else {
+        0
+    }
+}
+
+/// How many names lists of `exists` are looked at with.
+const MOST_NAMES: usize = 130;
+
+/// Looks where a line stops being the front of a command.
+pub fn diagnose(alloc: Global, line: &[u8], limits: &Limits) -> Result<Diagnosis, AllocError> {
+    let pieces = pieces_of(alloc, line)?;
+    let first = match pieces
+        .first()
+        .and_then(|piece| line.get(piece.start..piece.end))
+    {
+        Some(word) => word,
+        None => line,
+    };
+    let search = Search {
+        ends: ends_of(first),
+        names: names_lacking(line, pieces.as_slice()),
+        limits,
+    };
+    let count = front_len(alloc, line, pieces.as_slice(), &search)?;
+    let front = match count.checked_sub(1).and_then(|last| pieces.get(last)) {
+        Some(last) => last.end.min(line.len()),
+        None => 0,
+    };
+    let end = Piece {
+        start: line.len(),
+        end: line.len(),
+    };
+    let (text, _behind) = line.split_at(front);
+    Ok(Diagnosis {
+        front,
+        piece: pieces.get(count).copied().unwrap_or(end),
+        words: words_behind(alloc, text, &search)?,
+        whole: says_command(alloc, text, limits)?,
+    })
+}

@@ -1,0 +1,130 @@
+//! What may stand in a line, and what a line may end with: tables of words, and of the ends of which
+//! each front of a command lacks one.
+
+/// What may stand somewhere in a command: as a message shows it, and as it is spelled, with a space
+/// before it. The name is one that nobody gives.
+pub const WORDS: [(&str, &str); 39] = [
+    ("'create'", " create"),
+    ("'drop'", " drop"),
+    ("'load'", " load"),
+    ("'upsert'", " upsert"),
+    ("'delete'", " delete"),
+    ("'show'", " show"),
+    ("'group'", " group"),
+    ("'distinct'", " distinct"),
+    (NAME, " \"\u{1}\""),
+    (NUMBER, " 1"),
+    ("a text", " ''"),
+    ("'null'", " null"),
+    ("'('", " ("),
+    ("','", " ,"),
+    ("')'", " )"),
+    ("'*'", " *"),
+    ("'key'", " key"),
+    ("'int'", " int"),
+    ("'text'", " text"),
+    ("'nocase'", " nocase"),
+    ("'by'", " by"),
+    ("'rollup'", " rollup"),
+    ("'on'", " on"),
+    ("'count'", " count"),
+    ("'sum'", " sum"),
+    ("'min'", " min"),
+    ("'max'", " max"),
+    ("'='", " ="),
+    ("'<>'", " <>"),
+    ("'<'", " <"),
+    ("'<='", " <="),
+    ("'>'", " >"),
+    ("'>='", " >="),
+    ("'is'", " is"),
+    ("'and'", " and"),
+    ("'where'", " where"),
+    ("'not'", " not"),
+    ("'exists'", " exists"),
+    ("'having'", " having"),
+];
+
+/// A name, as a message shows it.
+pub const NAME: &str = "a name";
+
+/// A number, as a message shows it.
+pub const NUMBER: &str = "a number";
+
+const OF_CREATE: [&str; 9] = [
+    "",
+    ")",
+    " int)",
+    " \"\u{2}\" int)",
+    "(\"\u{2}\" int)",
+    " \"\u{2}\" (\"\u{2}\" int)",
+    "))",
+    "\"\u{2}\"))",
+    "(\"\u{2}\"))",
+];
+
+const OF_NAME: [&str; 2] = ["", " \"\u{2}\""];
+
+const OF_ROW: [&str; 5] = ["", ")", " 1)", "(1)", " \"\u{2}\" (1)"];
+
+const OF_DISTINCT: [&str; 7] = [
+    "",
+    " \"\u{2}\"",
+    " on \"\u{2}\"",
+    " \"\u{2}\" on \"\u{2}\"",
+    " is null",
+    " null",
+    " \"\u{2}\" is null",
+];
+
+const OF_GROUP: [&str; 24] = [
+    "",
+    " show count(*)",
+    " \"\u{2}\" show count(*)",
+    " count(*)",
+    "(*)",
+    "*)",
+    ")",
+    " \"\u{2}\")",
+    "(\"\u{2}\")",
+    "(\"\u{2}\") show count(*)",
+    " \"\u{2}\") show count(*)",
+    ") show count(*)",
+    " is null",
+    " null",
+    " \"\u{2}\" is null",
+    ") is null",
+    " \"\u{2}\") is null",
+    "(\"\u{2}\") is null",
+    "(*) is null",
+    "*) is null",
+    " \"\u{2}\" (\"\u{2}\") = (\"\u{2}\")",
+    " (\"\u{2}\") = (\"\u{2}\")",
+    " exists \"\u{2}\" (\"\u{2}\") = (\"\u{2}\")",
+    " = (\"\u{2}\")",
+];
+
+/// The forms: the words that they begin with, and the ends of their fronts.
+const FORMS: [(&[&str], &[&str]); 5] = [
+    (&["create"], &OF_CREATE),
+    (&["drop", "load", "show"], &OF_NAME),
+    (&["upsert", "delete"], &OF_ROW),
+    (&["distinct"], &OF_DISTINCT),
+    (&["group"], &OF_GROUP),
+];
+
+/// The ends of the fronts of the form that begins with this word; none where no form does.
+pub fn ends_of(first: &[u8]) -> &'static [&'static str] {
+    for (words, ends) in &FORMS {
+        if words
+            .iter()
+            .any(|word| first.eq_ignore_ascii_case(word.as_bytes()))
+        {
+            return ends;
+        }
+    }
+    &[]
+}
+
+/// What may stand before the names that a list of `exists` lacks.
+pub const BEFORE_LISTS: [&str; 6] = ["\"\u{2}\") = (", ") = (", " = (", "(", " ", ","];

@@ -1,0 +1,89 @@
+//! The pieces of a line: words, numbers, signs and what stands in quotes. Only where a line may be cut
+//! rests on them, so no contract says more than that they stand in the line.
+ghost use Rattle.std.specs.Prelude.{◌≤◌, ◌+◌, length};
+
+use std::alloc::{AllocError, Global};
+
+/// A piece of a line, from the byte `start` up to `end`.
+#[derive(Clone, Copy)]
+pub struct Piece {
+    pub start: usize,
+    pub end: usize,
+}
+
+fn is_word_byte(byte: u8) -> bool {
+    byte.is_ascii_alphanumeric() || byte == b'_'
+}
+
+fn word_len(bytes: &[u8]) -> usize
+    ensures { result ≤ length bytes.now }
+{
+    bytes.iter().take_while(|b| is_word_byte(**b)).count()
+}
+
+fn blank_len(bytes: &[u8]) -> usize
+    ensures { result ≤ length bytes.now }
+{
+    bytes
+        .iter()
+        .take_while(|b| **b == b' ' || **b == b'\t')
+        .count()
+}
+
+/// The bytes behind the first of a character of several.
+fn tail_len(bytes: &[u8]) -> usize
+    ensures { result ≤ length bytes.now }
+{
+    bytes.iter().take_while(|b| **b & 0xC0 == 0x80).count()
+}
+
+/// The bytes up to the quote that closes, behind the one that opens: a doubled quote closes nothing.
+/// All of them, where none closes.
+fn quoted_len(bytes: &[u8], quote: u8) -> usize
+    ensures { result ≤ length bytes.now }
+{
+    let mut doubled = false;
+    for (index, byte) in bytes.iter().enumerate() {
+        let follows = bytes.get(index + 1) == Some(&quote);
+        if *byte == quote && !doubled && !follows {
+            return index + 1;
+        }
+        doubled = *byte == quote && !doubled;
+    }
+    bytes.len()
+}
+
+/// How long the piece is that begins with this byte, by the bytes behind it.
+fn piece_len(first: u8, behind: &[u8]) -> usize
+    ensures { result ≤ 1 + length behind.now }
+{
+    1 + match (first, behind.first()) {
+        (b'\'' | b'"', _) => quoted_len(behind, first),
+        (b'<', Some(b'>' | b'=')) | (b'>', Some(b'=')) => 1,
+        (b'+' | b'-', _) => word_len(behind),
+        (first, _) if is_word_byte(first) => word_len(behind),
+        _ => tail_len(behind),
+    }
+}
+
+/// The pieces of a line, from left to right, with blanks between them where there are any.
+pub fn pieces_of(alloc: Global, line: &[u8]) -> Result<Vec<Piece>, AllocError> {
+    let mut pieces = Vec::new(alloc);
+    let mut rest = line;
+    for _ in 0..line.len() {
+        let blanks = blank_len(rest);
+        let (_blanks, word) = rest.split_at(blanks);
+        let Some((first, behind)) = word.split_first() else {
+            return Ok(pieces);
+        };
+        let len = piece_len(*first, behind);
+        let start = line.len().saturating_sub(word.len());
+        let (_piece, left) = word.split_at(len);
+        pieces.push(Piece {
+            start,
+            end: line.len().saturating_sub(left.len()),
+        })?;
+        rest = left;
+    }
+    Ok(pieces)
+}

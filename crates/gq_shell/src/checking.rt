@@ -1,0 +1,115 @@
+//! A script that is checked, and not run.
+ghost use Rattle.std.specs.Prelude.{◌≡◌};
+ghost use Rattle.std.specs.Fn.{FnOnceReturnsAt};
+ghost use Rattle.gq_options.specs.Words.{asked_by};
+ghost use Rattle.gq_shell.specs.Checking.{CheckedNamed, CheckedScript, ToldReports};
+ghost use Rattle.gq_shell.specs.Streams.{stream};
+
+use crate::stopping::{answer_error, stop, stop_for_memory};
+use crate::telling::tell;
+use gq_check::{CheckFault, Checker};
+use gq_options::Options;
+use gq_row::Limits;
+use std::alloc::Global;
+use std::io::{self, Read, Write};
+
+/// Why a check stopped before the script's end.
+#[derive(Clone, Copy, Debug, PartialEq, Eq, thiserror::Error)]
+pub enum CheckStop {
+    /// A read failed, or the script has more bytes than the limit.
+    #[error("read fault")]
+    Read,
+    /// A report was not taken whole.
+    #[error("write fault")]
+    Write,
+    /// A request for memory was refused.
+    #[error("out of memory")]
+    Memory,
+}
+
+/// Tells what reading refuses of a script, and answers the exit status: 0 where it refuses nothing, 1
+/// where it does, 3 after a fault. The script is what `opener` gives for the path, and `input` where
+/// there is no path.
+pub fn check_script<R, S, F, W, E>(
+    alloc: Global,
+    options: Options,
+    opener: F,
+    input: R,
+    replies: &mut W,
+    errors: &mut E,
+) -> u8
+where
+    R: Read + Drop,
+    S: Read + Drop,
+    F: FnOnce(&str) -> io::Result<S>,
+    W: Write,
+    E: Write,
+    requires { F.IsAlwaysCallable opener }
+    ensures { CheckedNamed
+        (record {
+          input = R.remaining input;
+          remaining = S.remaining;
+          opens = λ name opened. FnOnceReturnsAt F.FnOnce opener name opened;
+        })
+        (asked_by options.entry).script (stream W.contents replies.old replies.new)
+        (stream E.contents errors.old errors.new) result }
+{
+    match options.script {
+        None => check_open(alloc, "<stdin>", input, replies, errors),
+        Some(path) => match opener(path) {
+            Ok(script) => check_open(alloc, path, script, replies, errors),
+            Err(error) => answer_error(&error, "groupsh: cannot open script\n", 3, errors),
+        },
+    }
+}
+
+// Checks a script that is open.
+fn check_open<R: Read + Drop, W: Write, E: Write>(
+    alloc: Global,
+    name: &str,
+    script: R,
+    replies: &mut W,
+    errors: &mut E,
+) -> u8
+    ensures { CheckedScript name.now (R.remaining script) (stream W.contents replies.old replies.new)
+        (stream E.contents errors.old errors.new) result }
+{
+    match tell_reports(alloc, name, script, replies) {
+        Ok(true) => 1,
+        Ok(false) => 0,
+        Err(CheckStop::Read) => stop("groupsh: read fault\n", 3, errors),
+        Err(CheckStop::Write) => stop("groupsh: write fault\n", 3, errors),
+        Err(CheckStop::Memory) => stop_for_memory(errors),
+    }
+}
+
+// Writes the reports of a script one by one, each as soon as its item was read, and tells whether there
+// was one.
+fn tell_reports<R: Read + Drop, W: Write>(
+    alloc: Global,
+    name: &str,
+    script: R,
+    replies: &mut W,
+) -> Result<bool, CheckStop>
+    ensures { ToldReports name.now (R.remaining script) (stream W.contents replies.old replies.new) result }
+{
+    let limits = Limits::greatest();
+    let mut checker = Checker::new(script);
+    let mut any = false;
+    for _ in 0..u64::MAX {
+        let report = match checker.next(alloc, &limits) {
+            Ok(Some(report)) => report,
+            Ok(None) => return Ok(any),
+            Err(CheckFault::Read) => return Err(CheckStop::Read),
+            Err(CheckFault::Memory) => return Err(CheckStop::Memory),
+        };
+        let Ok(text) = report.text(alloc, name) else {
+            return Err(CheckStop::Memory);
+        };
+        let Ok(()) = tell(text.as_str(), replies) else {
+            return Err(CheckStop::Write);
+        };
+        any = true;
+    }
+    Err(CheckStop::Read)
+}
