@@ -2,35 +2,68 @@
 
     fronts.py GROUPSH PAGE
 
-The lines are those of the page's blocks, set in by four spaces or between fences, that begin with a command's word. The
-last line counts them; the status is 0 where each front is found.
+The lines are those of the page's blocks between fences that begin with a command's word and that `--check` tells nothing of,
+and some that are longer than a page has place for. All fronts stand in one script, each with the end of a payload behind it
+where it begins with `load`. The last line counts them; the status is 0 where each front is found.
 """
 import re
 import subprocess
 import sys
 
-program, page = sys.argv[1:]
-with open(page, encoding="utf-8") as file:
-    blocks = re.findall(r"^(?:    )?((?:create|drop|load|upsert|delete|show|group|distinct) .*)$", file.read(), re.M)
+COMMAND = re.compile(r"^(?:create|drop|load|upsert|delete|show|group|distinct) .*$", re.M)
+BLOCK = re.compile(r"^```\w*\n(.*?)^```$", re.M | re.S)
 PIECE = re.compile(r"""'(?:[^']|'')*'|"(?:[^"]|"")*"|[-+]?\w+|<>|<=|>=|\S""", re.A)
-lines, wrong, fronts = [], 0, 0
+
+# Lists of an `exists` that are longer than a table has columns, and a line as long as a line may be but for what lacks.
+NAMES = [f"c{i % 140}" for i in range(300)]
+LONG = [
+    f"group s show count(*) not exists t ({','.join(NAMES)}) = ({', '.join(NAMES)}) having count(*) > 1",
+    f"upsert s (1, '{'x' * 65_400}', null)",
+    f"group s by a show count(*) where {' and '.join(['a > 0'] * 6_500)}",
+]
+# Of the fronts of long lines so many are tried at the beginning, at the end, and between.
+FEW = 4
 
 
-def check(text):
-    """The reports of a script from standard input, each as its line, its column and its message."""
-    run = subprocess.run([program, "--check"], input=text.encode(), stdout=subprocess.PIPE, timeout=60)
-    return [report.split(":", 3)[1:] for report in run.stdout.decode().splitlines()]
+def reports(program, lines):
+    """The reports of a script of these lines: of each line its column and its message."""
+    script = "".join(line + ("\n\\.\n" if line.startswith("load") else "\n") for line in lines)
+    run = subprocess.run([program, "--check"], input=script.encode(), stdout=subprocess.PIPE, timeout=300, check=False)
+    numbers, number = {}, 1
+    for index, line in enumerate(lines):
+        numbers[number] = index
+        number += 2 if line.startswith("load") else 1
+    found = [None] * len(lines)
+    for report in run.stdout.decode().splitlines():
+        _name, number, column, message = report.split(":", 3)
+        found[numbers[int(number)]] = int(column), message
+    return found
 
 
-for line in dict.fromkeys(blocks):
-    if not check(line + "\n\\.\n" if line.startswith("load") else line + "\n"):
-        lines.append(line)
-for line in lines:
-    for piece in PIECE.finditer(line):
-        fronts += 1
-        stray = line[: piece.end()] + " ?"
-        if [report[:2] for report in check(stray + "\n\\.\n")][:1] != [["1", str(len(stray.encode()))]]:
-            print(f"{stray!r} is told as {check(stray)}")
-            wrong += 1
-print(f"{fronts} fronts of {len(lines)} lines, {wrong} wrong")
-sys.exit(wrong > 0 or fronts == 0)
+def short(line):
+    return line if len(line) < 200 else f"{line[:100]} .. {line[-100:]}"
+
+
+def fronts(line):
+    """The fronts of a line, or of a long one some of them."""
+    ends = [piece.end() for piece in PIECE.finditer(line)]
+    step = max(1, len(ends) // FEW)
+    return [line[:end] for end in ([*ends[:FEW], *ends[FEW:-FEW:step], *ends[-FEW:]] if step > 1 else ends)]
+
+
+def main(program, path):
+    with open(path, encoding="utf-8") as file:
+        blocks = BLOCK.findall(file.read())
+    found = list(dict.fromkeys(line for block in blocks for line in COMMAND.findall(block)))
+    lines = [line for line, report in zip(found, reports(program, found)) if report is None] + LONG
+    wrong = [f"{short(line)!r} is told as {report}" for line, report in zip(LONG, reports(program, LONG)) if report]
+    strays = [f"{front} ?" for line in lines for front in fronts(line)]
+    for stray, report in zip(strays, reports(program, strays)):
+        if report is None or report[0] != len(stray.encode()):
+            wrong.append(f"{short(stray)!r} is told as {report}")
+    print(*wrong, f"{len(strays)} fronts of {len(lines)} lines, {len(wrong)} wrong", sep="\n")
+    return 1 if wrong or not strays else 0
+
+
+if __name__ == "__main__":
+    sys.exit(main(*sys.argv[1:]))

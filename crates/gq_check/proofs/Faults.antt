@@ -1,5 +1,5 @@
 -- What is wrong with an item, by how it is read.
-use Rattle.std.proofs.Common.{◌≡◌, ◌≤◌, true, false, Option, Some, None, refl, sym, ap, subst, ◌∙◌, inl, inr, length}
+use Rattle.std.proofs.Common.{◌≡◌, true, false, Option, Some, None, refl, sym, ap, subst, ◌∙◌, inl, inr}
 use Rattle.gq_row.specs.declared.limits.Bounds.{Bounds}
 use Rattle.gq_token.specs.Texts.{Bytes}
 use Rattle.gq_script.specs.Script.{Plain, Loading, takes_payload}
@@ -9,7 +9,7 @@ use Rattle.gq_command.specs.declared.lines.LineRefusal.TheVariants as refusal
 use Rattle.gq_command.specs.declared.reader.Item.{Item}
 use Rattle.gq_command.specs.declared.reader.Item.TheVariants as item
 use Rattle.gq_command.specs.Commands.{fits}
-use Rattle.gq_command.specs.Items.{IsReadAs, LosesPayload, ReadsAs}
+use Rattle.gq_command.specs.Items.{IsReadAs, LosesPayload}
 use Rattle.gq_command.specs.Lines.{Says}
 use Rattle.gq_command.proofs.LoadWord.{said_load}
 use Rattle.gq_command.proofs.OneReading.{stands_some}

@@ -1,19 +1,18 @@
 -- A payload, line by line, among items with numbers.
-use Rattle.std.proofs.Common.{◌≡◌, ℕ, suc, ◌+◌, Bool, true, false, cond, List, [], ◌∷◌, ◌++◌, length, Option, Some, None, refl, sym, ap, subst, ◌∙◌, arith}
-use Rattle.std.proofs.lemmas.List.{append-nil}
+use Rattle.std.proofs.Common.{◌≡◌, ℕ, suc, Bool, true, false, cond, List, [], ◌∷◌, ◌++◌, Option, Some, None, refl, sym, ap, ◌∙◌}
 use Rattle.std.specs.Prelude.{IfSome}
 use Rattle.std.specs.Io.KnownBytes.{Consumes}
 use Rattle.gq_row.specs.declared.limits.Bounds.{Bounds}
 use Rattle.gq_token.specs.Texts.{Bytes}
 use Rattle.gq_script.specs.Script.{Stream, Loading, content, is_end_mark, payload_of, raw_lines, takes_payload}
-use Rattle.gq_script.specs.Payloads.{TookPayloadLine, Unclosed, Holds}
+use Rattle.gq_script.specs.Payloads.{TookPayloadLine, Unclosed}
 use Rattle.gq_script.specs.declared.payload.Kept.{Kept}
 use Rattle.gq_script.proofs.Front.{Known}
 use Rattle.gq_check.specs.declared.fault.Fault.{Fault}
 use Rattle.gq_check.specs.declared.fault.Fault.TheVariants as why
 use Rattle.gq_check.specs.Findings.{payload_fault}
 use Rattle.gq_check.specs.Numbering.{Begun, Numbered, numbered_by}
-use Rattle.gq_check.specs.Passing.{HasRoom, IsPassed, PassedPayload}
+use Rattle.gq_check.specs.Passing.{IsPassed, PassedPayload}
 
 abbrev begun-with : ℕ → Bytes → Bytes → Begun
 begun-with number line front = record { number = number; line = line; payload = front }

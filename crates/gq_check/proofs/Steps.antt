@@ -5,7 +5,7 @@ use Rattle.std.specs.Prelude.{IfSome, ◌≢◌, string_bytes}
 use Rattle.std.specs.Io.KnownBytes.{Consumes, IsAtEnd}
 use Rattle.gq_row.specs.declared.limits.Bounds.{Bounds}
 use Rattle.gq_token.specs.Texts.{Bytes}
-use Rattle.gq_script.specs.Script.{Loading, Plain, Stream, content, is_skipped, line_of, raw_lines, takes_payload, without_mark}
+use Rattle.gq_script.specs.Script.{Loading, Plain, Stream, content, is_skipped, line_of, raw_lines, takes_payload}
 use Rattle.gq_script.proofs.Front.{Known}
 use Rattle.gq_check.specs.declared.fault.Fault.{Fault}
 use Rattle.gq_check.specs.declared.fault.Fault.TheVariants as why

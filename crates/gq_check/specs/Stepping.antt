@@ -1,5 +1,5 @@
 -- What a step over a line does.
-use Rattle.std.specs.Prelude.{◌≡◌, ℕ, List, ◌∷◌, [], Option, Some, None, IfSome, if◌then◌else◌}
+use Rattle.std.specs.Prelude.{◌≡◌, ℕ, List, ◌∷◌, [], Option, Some, IfSome, if◌then◌else◌}
 use Rattle.gq_row.specs.declared.limits.Bounds.{Bounds}
 use Rattle.gq_token.specs.Texts.{Bytes}
 use Rattle.gq_script.specs.Script.{Entry, Plain, Stream, line_of, raw_lines, takes_payload}

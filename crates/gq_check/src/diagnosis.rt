@@ -50,12 +50,13 @@ fn leads_with_any(
     Ok(false)
 }
 
-/// So many names in a list, behind what begins it, and what closes it.
+/// So many names in a list, one at least, behind what begins it, and what closes it. They are as short
+/// as names are, and all alike, as those of an `exists` may be.
 fn names_behind(alloc: Global, begin: &str, count: usize) -> Result<String, AllocError> {
     let mut list = String::from_str(alloc, begin)?;
-    list.push_str("\"\u{2}\"")?;
+    list.push_str("_")?;
     for _ in 1..count {
-        list.push_str(",\"\u{2}\"")?;
+        list.push_str(",_")?;
     }
     list.push_str(")")?;
     Ok(list)
@@ -80,13 +81,29 @@ fn leads_with_names(
     Ok(false)
 }
 
+/// How many commas more the first list of an `exists` has than the second, which may both be open;
+/// None where no piece of the front is the word.
+fn commas_ahead(alloc: Global, front: &[u8]) -> Result<Option<usize>, AllocError> {
+    let pieces = pieces_of(alloc, front)?;
+    let mut ahead: Option<usize> = None;
+    let mut closed = false;
+    for piece in &pieces {
+        match (front.get(piece.start..piece.end), ahead) {
+            (Some(word), None) if word.eq_ignore_ascii_case(b"exists") => ahead = Some(0),
+            (Some([b')']), Some(_)) => closed = true,
+            (Some([b',']), Some(commas)) if closed => ahead = Some(commas.saturating_sub(1)),
+            (Some([b',']), Some(commas)) => ahead = Some(commas.saturating_add(1)),
+            _ => {}
+        }
+    }
+    Ok(ahead)
+}
+
 /// What is known of a line whose fronts are looked at.
 #[derive(Clone, Copy)]
 struct Search<'a> {
     /// What a front of its form may lack.
     ends: &'static [&'static str],
-    /// How many names the lists of an `exists` may lack.
-    names: usize,
     limits: &'a Limits,
 }
 
@@ -97,7 +114,11 @@ fn leads(alloc: Global, front: &[u8], search: &Search) -> Result<bool, AllocErro
     if leads_with_any(alloc, front, search.ends, search.limits)? {
         return Ok(true);
     }
-    for count in 1..search.names {
+    let Some(commas) = commas_ahead(alloc, front)? else {
+        return Ok(false);
+    };
+    // One name more where the front ends within a list, behind a comma or what opens it.
+    for count in commas..commas.saturating_add(2) {
         if leads_with_names(alloc, front, count, search.limits)? {
             return Ok(true);
         }
@@ -170,28 +191,6 @@ pub struct Diagnosis {
     pub whole: bool,
 }
 
-/// How many names the lists of an `exists` may lack, by the pieces of a line: one more than it has
-/// commas, or none where no piece is the word.
-fn names_lacking(line: &[u8], pieces: &[Piece]) -> usize {
-    let mut commas: usize = 1;
-    let mut exists = false;
-    for piece in pieces {
-        match line.get(piece.start..piece.end) {
-            Some([b',']) => commas = commas.saturating_add(1),
-            Some(word) if word.eq_ignore_ascii_case(b"exists") => exists = true,
-            _ => {}
-        }
-    }
-    if exists {
-        commas.saturating_add(1).min(MOST_NAMES)
-    } else {
-        0
-    }
-}
-
-/// How many names lists of `exists` are looked at with.
-const MOST_NAMES: usize = 130;
-
 /// Looks where a line stops being the front of a command.
 pub fn diagnose(alloc: Global, line: &[u8], limits: &Limits) -> Result<Diagnosis, AllocError> {
     let pieces = pieces_of(alloc, line)?;
@@ -204,7 +203,6 @@ pub fn diagnose(alloc: Global, line: &[u8], limits: &Limits) -> Result<Diagnosis
     };
     let search = Search {
         ends: ends_of(first),
-        names: names_lacking(line, pieces.as_slice()),
         limits,
     };
     let count = front_len(alloc, line, pieces.as_slice(), &search)?;

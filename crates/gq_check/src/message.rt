@@ -61,13 +61,6 @@ pub fn told_of(
 
 /// What could stand where the text of a line stops being the front of a command, and what does.
 fn told_of_syntax(alloc: Global, text: &[u8], limits: &Limits) -> Result<Told, AllocError> {
-    // A front of a longer line has no room for what it lacks.
-    if text.len() > LONGEST {
-        return Ok(Told {
-            at: 0,
-            message: String::from_str(alloc, "not a command")?,
-        });
-    }
     let diagnosis = diagnose(alloc, text, limits)?;
     let piece = text
         .get(diagnosis.piece.start..diagnosis.piece.end)
@@ -81,9 +74,6 @@ fn told_of_syntax(alloc: Global, text: &[u8], limits: &Limits) -> Result<Told, A
     })
 }
 
-/// The longest text that is looked at: behind it the table of ends has room in a line.
-const LONGEST: usize = 65_000;
-
 /// Appends what could stand behind a front.
 fn push_expected(
     alloc: Global,
@@ -96,6 +86,10 @@ fn push_expected(
         .len()
         .saturating_sub(if diagnosis.whole { 0 } else { 1 });
     message.push_str("expected ")?;
+    // Each word would make the line longer than a line may be.
+    if words.is_empty() && !diagnosis.whole {
+        message.push_str("a shorter line")?;
+    }
     for (index, (shown, _spelled)) in words.iter().enumerate() {
         if index > 0 {
             message.push_str(if index == last { " or " } else { ", " })?;

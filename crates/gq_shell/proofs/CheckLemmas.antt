@@ -1,7 +1,7 @@
 -- The reports of a script, as they are told.
-use Rattle.std.proofs.Common.{◌≡◌, ℕ, Bool, true, false, List, [], ◌∷◌, ◌++◌, Option, Some, None, refl, sym, ap, subst, ◌∙◌, append_assoc}
+use Rattle.std.proofs.Common.{◌≡◌, ℕ, Bool, true, List, [], ◌∷◌, ◌++◌, Option, Some, None, refl, sym, ap, subst, ◌∙◌, append_assoc}
 use Rattle.std.proofs.lemmas.List.{append-nil}
-use Rattle.std.specs.Prelude.{IfSome, flat_map}
+use Rattle.std.specs.Prelude.{IfSome}
 use Rattle.std.specs.Io.KnownBytes.{Appends}
 use Rattle.gq_row.specs.Limits.{GREATEST}
 use Rattle.gq_token.specs.Texts.{some}
@@ -10,7 +10,7 @@ use Rattle.gq_command.specs.Script.{without_mark}
 use Rattle.gq_engine.specs.Sending.{AppendsFront}
 use Rattle.gq_engine.proofs.Bytes.{appends_more}
 use Rattle.gq_check.specs.declared.report.Report.{Report}
-use Rattle.gq_check.specs.Numbering.{Numbered, numbered, numbered_left}
+use Rattle.gq_check.specs.Numbering.{Numbered, numbered_left}
 use Rattle.gq_check.specs.Reports.{Between, Place, Reports, report_text}
 use Rattle.gq_check.proofs.Steps.{end-from, on-from}
 use Rattle.gq_shell.specs.Checking.{ToldAll, ToldFront, texts}

@@ -1,4 +1,4 @@
-use Rattle.std.proofs.Common.{◌≡◌, true, false, sym, ap, refl, ◌∙◌, subst, length, ◌<◌, List, ℕ}
+use Rattle.std.proofs.Common.{◌≡◌, true, false, sym, ap, refl, ◌∙◌, subst, length, ◌<◌}
 use Rattle.std.specs.Prelude.{Err, IsErrOf}
 use Rattle.gq_command.specs.declared.lines.LineRefusal.{LineRefusal}
 use Rattle.gq_command.specs.declared.lines.LineRefusal.TheVariants as refusal

@@ -1,5 +1,5 @@
-use Rattle.std.proofs.Common.{◌≡◌, ◌+◌, ◌++◌, [], refl, sym, arith}
-use Rattle.gq_script.specs.Payloads.{TookPayloadLine, Holds}
+use Rattle.std.proofs.Common.{◌+◌, ◌++◌, [], sym, arith}
+use Rattle.gq_script.specs.Payloads.{TookPayloadLine}
 use Rattle.gq_check.proofs.Passed.{walked-none, walked-line, passed-mark, passed-open}
 use Rattle.gq_check.proofs.payload.pass_payload.Goals as goal
 

@@ -1,4 +1,4 @@
-use Rattle.std.proofs.Common.{ℕ, List, [], ◌∷◌, ◌++◌, ap, refl, sym, subst, ◌∙◌}
+use Rattle.std.proofs.Common.{ℕ, List, [], ◌∷◌, ◌++◌, refl, subst, ◌∙◌}
 use Rattle.std.specs.Prelude.{IfSome}
 use Rattle.std.specs.Io.KnownBytes.{Appends}
 use Rattle.gq_engine.specs.Sending.{AppendsFront}
@@ -8,7 +8,7 @@ use Rattle.gq_check.specs.Numbering.{numbered_left}
 use Rattle.gq_check.specs.Reports.{Between, Reports}
 use Rattle.gq_check.proofs.Steps.{nothing-between}
 use Rattle.gq_engine.proofs.Bytes.{appends_nothing}
-use Rattle.gq_shell.proofs.CheckLemmas.{Begins, told-all, told-cut, told-front, tells-more}
+use Rattle.gq_shell.proofs.CheckLemmas.{told-all, told-cut, told-front, tells-more}
 use Rattle.gq_shell.proofs.checking.tell_reports.Goals as goal
 
 pub loop-init : goal.loop-init
