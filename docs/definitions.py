@@ -1,12 +1,17 @@
 #!/usr/bin/env python3
 """Lists all public definitions of `specs/` in docs/DEFINITIONS.md, below its line "made by".
 
+    definitions.py [--check]
+
+With `--check` nothing is written, and the status is 1 where the page has other lists.
+
 What a definition is comes from the comment above it; definitions without one go with the one before,
 and the first of a file with the file's. A definition is listed as one of the public contracts where
 a clause of an exported function, trait or type reaches it, through other definitions or not, and with
 the helpers' otherwise.
 """
 import re
+import sys
 from pathlib import Path
 
 ROOT = Path(__file__).resolve().parent.parent
@@ -144,8 +149,12 @@ def main():
     out += table(crates, specs, lambda one: one in reached)
     out += ["", "## Helpers' definitions", "", "What only contracts of functions within a crate speak of.", ""]
     out += table(crates, specs, lambda one: one not in reached)
-    page = PAGE.read_text().partition(MADE)[0].rstrip()
-    PAGE.write_text(page + "\n\n" + MADE + "\n".join(out) + "\n")
+    old = PAGE.read_text()
+    new = old.partition(MADE)[0].rstrip() + "\n\n" + MADE + "\n".join(out) + "\n"
+    if "--check" not in sys.argv[1:]:
+        PAGE.write_text(new)
+    elif new != old:
+        sys.exit("docs/definitions.py makes other lists than the page has")
 
 
 def table(crates, specs, wanted):

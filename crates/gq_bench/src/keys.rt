@@ -32,14 +32,14 @@ pub(crate) fn time_insert(rt: &HostRuntime, shape: Shape, rows: usize) -> io::Re
 }
 
 fn has_key(map: &FlatMap<Key, u64, Fnv1a>, row: &Row) -> bool {
-    !row.is_empty() && map.contains(&KeyRef::new(row, &[0]))
+    !row.is_empty() && map.contains(&KeyRef::new(row.cells(), &[0]))
 }
 
 fn map_of(alloc: Global, rows: &[Row]) -> Result<FlatMap<Key, u64, Fnv1a>, AllocError> {
     let mut map = FlatMap::new(alloc, Fnv1a { seed: 0 });
     for row in rows {
         if !row.is_empty() {
-            let Ok(_) = map.insert_or_assign(Key::of(alloc, row, &[0])?, 0) else {
+            let Ok(_) = map.insert_or_assign(Key::of(alloc, row.cells(), &[0])?, 0) else {
                 return Err(AllocError);
             };
         }

@@ -17,7 +17,7 @@ use gq_group::{Budget, Spent};
 use gq_plan::{DistinctPlan, GroupClauses, GroupPlan, plan_group};
 use gq_query::{Grouping, Selection, distinct_rows, group_rows};
 use gq_reply::{Refusal, Refused};
-use gq_row::{Column, Key, Row, Sequence};
+use gq_row::{Column, Key, Rows};
 use gq_spill::RunStore;
 use gq_table::Table;
 use std::alloc::Global;
@@ -93,7 +93,7 @@ pub fn rows_grouped<H: KeyHash<Key> + Copy, S: RunStore>(
     store: &mut S,
     budget: Budget,
     spent: Spent,
-) -> Result<(Sequence<Row>, Spent), Refused>
+) -> Result<(Rows, Spent), Refused>
     requires { IsWithin asked.now.table.now.heading.columns
         (other_columns (option_copied asked.now.others)) asked.now.plan }
     ensures rows { GroupsOver (S.runs store.old).honest
@@ -132,7 +132,7 @@ pub fn rows_different<H: KeyHash<Key> + Copy, S: RunStore>(
     plan: &DistinctPlan,
     store: &mut S,
     budget: Budget,
-) -> Result<Sequence<Row>, Refused>
+) -> Result<Rows, Refused>
     requires some { 0 < length plan.now.on }
     requires on { All (λ column. column < length table.now.heading.columns) plan.now.on }
     ensures rows { GroupsOver (S.runs store.old).honest

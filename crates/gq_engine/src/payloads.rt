@@ -104,7 +104,8 @@ fn put_row<H: KeyHash<Key> + Copy>(
 
 // Puts all rows that are yet to come, and answers how many they were. They are no more than the
 // limit, so a row is refused for want of memory alone. A row that replaces another gives way to it,
-// and the memory of the row that was replaced is used for the next.
+// and the memory of the row that was replaced is used for the next, as is that of a row whose cells
+// moved into a list.
 fn stage_rows<H: KeyHash<Key> + Copy>(
     alloc: Global,
     reader: &mut RowReader<'_>,

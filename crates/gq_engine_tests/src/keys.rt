@@ -23,7 +23,7 @@ fn expect_hash<Q: Names<Key>>(rt: &impl Abort, seed: u64, key: &Q, due: u64) {
 /// The whole row as a key of its own and as cells.
 fn expect_whole(rt: &impl Abort, alloc: Global, row: &Row) -> Result<(), AllocError> {
     assert!(rt; row.len() == 3);
-    let key = Key::of(alloc, row, &[0, 1, 2])?;
+    let key = Key::of(alloc, row.cells(), &[0, 1, 2])?;
     expect_hash(rt, 0, &key, WHOLE);
     expect_hash(rt, 7, &key, 0x7dfc_2a47_4bdc_0e1e);
     expect_hash(rt, 0, &KeyCells(row.cells()), WHOLE);
@@ -34,9 +34,14 @@ fn expect_whole(rt: &impl Abort, alloc: Global, row: &Row) -> Result<(), AllocEr
 /// own; and over no bytes.
 fn expect_borrowed(rt: &impl Abort, row: &Row) {
     assert!(rt; row.len() == 3);
-    expect_hash(rt, 0, &KeyRef::new(row, &[0, 1, 2]), WHOLE);
-    expect_hash(rt, 0, &KeyRef::new(row, &[2, 0]), 0x5f59_5b64_154a_6212);
-    expect_hash(rt, 0, &KeyRef::new(row, &[]), 0xcbf2_9ce4_8422_2325);
+    expect_hash(rt, 0, &KeyRef::new(row.cells(), &[0, 1, 2]), WHOLE);
+    expect_hash(
+        rt,
+        0,
+        &KeyRef::new(row.cells(), &[2, 0]),
+        0x5f59_5b64_154a_6212,
+    );
+    expect_hash(rt, 0, &KeyRef::new(row.cells(), &[]), 0xcbf2_9ce4_8422_2325);
 }
 
 fn expect_cells(
@@ -67,8 +72,8 @@ const FOLDED: u64 = 0x4745_8fb2_1ffb_f272;
 /// A row of both, in each form.
 fn expect_folded(rt: &impl Abort, alloc: Global, row: &Row) -> Result<(), AllocError> {
     assert!(rt; row.len() == 2);
-    expect_hash(rt, 0, &Key::of(alloc, row, &[0, 1])?, FOLDED);
-    expect_hash(rt, 0, &KeyRef::new(row, &[0, 1]), FOLDED);
+    expect_hash(rt, 0, &Key::of(alloc, row.cells(), &[0, 1])?, FOLDED);
+    expect_hash(rt, 0, &KeyRef::new(row.cells(), &[0, 1]), FOLDED);
     expect_hash(rt, 0, &KeyCells(row.cells()), FOLDED);
     Ok(())
 }
@@ -104,10 +109,10 @@ fn expect_same<Q: Names<Key>>(rt: &impl Abort, asked: &Q, key: &Key, due: bool) 
 /// The key is of the row's last column and the one before it.
 fn expect_turned(rt: &impl Abort, row: &Row, key: &Key) {
     assert!(rt; row.len() == 3);
-    expect_same(rt, &KeyRef::new(row, &[2, 1]), key, true);
-    expect_same(rt, &KeyRef::new(row, &[1, 2]), key, false);
-    expect_same(rt, &KeyRef::new(row, &[2]), key, false);
-    expect_same(rt, &KeyRef::new(row, &[2, 1, 0]), key, false);
+    expect_same(rt, &KeyRef::new(row.cells(), &[2, 1]), key, true);
+    expect_same(rt, &KeyRef::new(row.cells(), &[1, 2]), key, false);
+    expect_same(rt, &KeyRef::new(row.cells(), &[2]), key, false);
+    expect_same(rt, &KeyRef::new(row.cells(), &[2, 1, 0]), key, false);
     expect_same(rt, &KeyCells(key.cells()), key, true);
     expect_same(rt, &KeyCells(row.cells()), key, false);
 }
@@ -116,8 +121,8 @@ fn expect_turned(rt: &impl Abort, row: &Row, key: &Key) {
 fn same_in_each_form(rt: HostRuntime) -> Result<(), Fail> {
     let row = row_of(rt.alloc(), &WORKED)?;
     assert!(rt; row.len() == 3);
-    expect_turned(&rt, &row, &Key::of(rt.alloc(), &row, &[2, 1])?);
-    let null = Key::of(rt.alloc(), &row, &[0])?;
+    expect_turned(&rt, &row, &Key::of(rt.alloc(), row.cells(), &[2, 1])?);
+    let null = Key::of(rt.alloc(), row.cells(), &[0])?;
     expect_same(&rt, &KeyCells(&[Value::Null]), &null, true);
     expect_same(&rt, &KeyCells(&[Value::Int(0)]), &null, false);
     Ok(())
@@ -132,8 +137,8 @@ fn expect_spelled(
     due: bool,
 ) -> Result<(), AllocError> {
     assert!(rt; row.len() == 1);
-    expect_same(rt, &Key::of(alloc, row, &[0])?, key, due);
-    expect_same(rt, &KeyRef::new(row, &[0]), key, due);
+    expect_same(rt, &Key::of(alloc, row.cells(), &[0])?, key, due);
+    expect_same(rt, &KeyRef::new(row.cells(), &[0]), key, due);
     expect_same(rt, &KeyCells(row.cells()), key, due);
     Ok(())
 }
@@ -143,7 +148,7 @@ fn spellings_are_one_key(rt: HostRuntime) -> Result<(), Fail> {
     let alloc = rt.alloc();
     let row = row_of(alloc, &[Plain::NoCase("Oslo")])?;
     assert!(rt; row.len() == 1);
-    let key = Key::of(alloc, &row, &[0])?;
+    let key = Key::of(alloc, row.cells(), &[0])?;
     assert!(rt; are(key.cells(), &[Plain::NoCase("oslo")]));
     for (plain, due) in [
         (Plain::NoCase("Oslo"), true),

@@ -13,12 +13,14 @@ use sw_probe::{Constant, Fnv1a, KeyHash};
 const STEP: usize = 96;
 
 // Commands whose replies are one line each.
-const COMMANDS: [&[u8]; 10] = [
+const COMMANDS: [&[u8]; 12] = [
     b"create s (id int, city text, key (id))\n",
-    b"create l (a text)\n",
+    b"create l (a text, b int)\n",
     b"load s\nid,city\n1,a\n2,\"a city of a name that takes a block of its own\"\n\\.\n",
-    b"load l\na\nx\ny\n\\.\n",
+    b"load l\na,b\nx,1\ny,2\n\\.\n",
     b"load s\ncity,id\nx,1\ny,3\nz,3\n\\.\n",
+    b"upsert l ('a text that takes a block of its own', 3)\n",
+    b"load l\nb,a\n4,p\n5,q\n6,r\n7,s\n8,t\n9,u\n\\.\n",
     b"upsert s (3, 'w')\n",
     b"upsert s (4, 'v')\n",
     b"delete s (2)\n",

@@ -46,9 +46,9 @@ fn copies(rt: HostRuntime) -> Result<(), Fail> {
 /// The keys of two columns, turned, and of five.
 fn expect_keys(rt: &impl Abort, alloc: Global, row: &Row) -> Result<(), Fail> {
     assert!(rt; row.len() == 2);
-    let key = Key::of(alloc, row, &[1, 0])?;
+    let key = Key::of(alloc, row.cells(), &[1, 0])?;
     assert!(rt; are(key.cells(), &[Plain::Text("a"), Plain::Int(1)]));
-    let longer = Key::of(alloc, row, &[1, 0, 0, 1, 0])?;
+    let longer = Key::of(alloc, row.cells(), &[1, 0, 0, 1, 0])?;
     expect(rt, longer.len(), 5);
     expect_order(rt, &key, &longer);
     Ok(())

@@ -2,7 +2,7 @@
 use Rattle.std.proofs.Common.{◌≡◌, ◌<◌, ℕ, zero, suc, Bool, true, false, ◌||◌, List, [], ◌∷◌, ◌++◌, length, take, drop, slice_index_or, slice_set, refl, sym, ap, ◌∙◌, arith}
 use Rattle.std.specs.List.{list_all, list_any}
 use Rattle.std.proofs.lemmas.Bool.{and_parts}
-use Rattle.std.proofs.lemmas.List.{map-append}
+use Rattle.std.proofs.lemmas.List.{length-map, map-append}
 use Rattle.gq_row.specs.declared.value.Value.{Value}
 use Rattle.gq_row.specs.Rows.{cell}
 use Rattle.gq_agg.specs.declared.kind.AggKind.{AggKind}
@@ -21,6 +21,10 @@ kind_kept kind.Max values = refl
 
 pub column-push : (column : ℕ) (rows : List (List Value)) (row : List Value) → column_of column (rows ++ row ∷ []) ≡ column_of column rows ++ cell row column ∷ []
 column-push column rows row = map-append (λ r. cell r column) rows (row ∷ [])
+
+-- there is one for each that is asked for
+pub length-tallies : (asked : List (AggKind × ℕ)) (rows : List (List Value)) → length (tallies asked rows) ≡ length asked
+length-tallies asked rows = length-map asked (λ a. tally a.0 (column_of a.1 rows))
 
 -- the aggregate that comes next is that of the rows before
 pub next_tally : (asked : List (AggKind × ℕ)) (rows more : List (List Value)) (i : ℕ) (d : Running) (e : AggKind × ℕ) → i < length asked

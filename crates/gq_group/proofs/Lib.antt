@@ -1,9 +1,11 @@
 pub mod AccessLemmas
 pub mod AggLemmas
 pub mod Bounds
+pub mod ChunkLemmas
 pub mod Costs
 pub mod FirstLemmas
 pub mod GoneLemmas
+pub mod LaidLemmas
 pub mod LevelLemmas
 pub mod Lots
 pub mod MapGroups

@@ -1,7 +1,7 @@
 -- Groups in a map: one row more, and the list of all.
 use Rattle.std.proofs.Common.{◌≡◌, ◌==◌, ℕ, suc, ◌+◌, ◌≤◌, Bool, true, false, cond, ◌||◌, List, [], ◌∷◌, ◌++◌, length, map, Option, Some, None, refl, sym, ap, subst, ◌∙◌, arith, count_by, IsPermutation, true≢false, append-nil, inl, inr, Result, Ok, Err}
-use Rattle.std.specs.Prelude.{is_some, OnOk, IfOk}
-use Rattle.std.specs.Option.{option_map, option_map_or}
+use Rattle.std.specs.Prelude.{is_some, IsSome, OnOk, IfOk}
+use Rattle.std.specs.Option.{option_map_or}
 use Rattle.std.specs.List.{AllByRecursion, list_any}
 use Rattle.std.specs.Cmp.Lexicographic.{nat_list_cmp_total}
 use Rattle.std.specs.FinMap.{insert, get, len, from_entries, contains_key, empty, get-empty, get-insert, len-empty, len-insert}
@@ -10,7 +10,7 @@ use Rattle.std.proofs.lemmas.List.Folds.{list_any-append}
 use Rattle.std.proofs.lemmas.List.{map-append, nil_from_length}
 use Rattle.std.proofs.lemmas.Bool.Decides.{nat_tests}
 use Rattle.std.proofs.lemmas.List.Sums.{sum_by-cons}
-use Rattle.sw_table.specs.View.{View, entry_at}
+use Rattle.sw_table.specs.View.{View, entry_at, IsFull}
 use Rattle.sw_table.specs.Entries.{Entries, entries}
 use Rattle.sw_flat.specs.Maps.{ListsAll, stored_key}
 use Rattle.sw_flat.proofs.Classes.{same, same_is, same_itself, some_is}
@@ -121,20 +121,15 @@ grouped-step spec rows row old new grouped put k =
         apart true f = absurd (true≢false (sym (same_key_itself k) ∙ ap (same_key k) (class_tells k (key_of spec.by row) (same_is (class_of k) (class_of (key_of spec.by row)) f)) ∙ e))
         apart false f = refl
 
--- what is known of the entry in which a row's key stands
-pub record Stands {H : Type 0} (spec : Spec) (rows : List (List Value)) (m : View (List Value) (List Running) H) (i : ℕ) (k : List Value) (w : List Running) : Type 0 where
-  pub tallied : w ≡ tallies spec.aggs (of_key spec.by rows k)
-  pub entry : entry_at m i ≡ Some (k, w)
-
-pub stands : {H : Type 0} (spec : Spec) (rows : List (List Value)) (m : View (List Value) (List Running) H) (i : ℕ) (k : List Value) (w : List Running) → Grouped spec rows m
-    → get (entries class_of m) (class_of k) ≡ entry_at m i → option_map (λ (p : Pair). p.1) (entry_at m i) ≡ Some w → Stands spec rows m i k w
-stands spec rows m i k w grouped found value = told (list_any (same_key k) (keys_of spec.by rows)) (sym (grouped k) ∙ found)
+-- the entry in which a row's key stands
+pub stands : {H : Type 0} (spec : Spec) (rows : List (List Value)) (m : View (List Value) (List Running) H) (i : ℕ) (k : List Value) → Grouped spec rows m
+    → get (entries class_of m) (class_of k) ≡ entry_at m i → IsFull m i → entry_at m i ≡ Some (k, tallies spec.aggs (of_key spec.by rows k))
+stands spec rows m i k grouped found full = told (list_any (same_key k) (keys_of spec.by rows)) (entry_at m i) (sym (grouped k) ∙ found) full
   where
-    told : (b : Bool) → cond b (Some (k, tallies spec.aggs (of_key spec.by rows k))) None ≡ entry_at m i → Stands spec rows m i k w
-    told true e =
-        let is : tallies spec.aggs (of_key spec.by rows k) ≡ w = some_is (tallies spec.aggs (of_key spec.by rows k)) w (ap (option_map (λ (p : Pair). p.1)) e ∙ value) in
-        record { tallied = sym is; entry = sym e ∙ ap (λ t. Some (k, t)) is }
-    told false e = let none : ⊥ = true≢false (sym (ap is_some (ap (option_map (λ (p : Pair). p.1)) e ∙ value))) in absurd none
+    told : (b : Bool) (o : Option Pair) → cond b (Some (k, tallies spec.aggs (of_key spec.by rows k))) None ≡ o → IsSome o → o ≡ Some (k, tallies spec.aggs (of_key spec.by rows k))
+    told true o e some = sym e
+    told false None e some = absurd (true≢false (sym some))
+    told false (Some p) e some = let none : ⊥ = true≢false (sym (ap is_some e)) in absurd none
 
 pub few_of_key : (by : List ℕ) (rows : List (List Value)) (k : List Value) → length (of_key by rows k) ≤ length rows
 few_of_key by [] k = omega arith
@@ -143,17 +138,6 @@ few_of_key by (row ∷ rows) k = kept (same_key (key_of by row) k) (few_of_key b
     kept : (b : Bool) → length (of_key by rows k) ≤ length rows → length (cond b (row ∷ of_key by rows k) (of_key by rows k)) ≤ length (row ∷ rows)
     kept true h = omega arith
     kept false h = omega arith
-
--- a row whose key is there
-pub grouped-occupied : {H : Type 0} (spec : Spec) (rows : List (List Value)) (row : List Value) (old new : View (List Value) (List Running) H) (i : ℕ) (w v : List Running) → Grouped spec rows old
-    → get (entries class_of old) (class_of (key_of spec.by row)) ≡ entry_at old i → option_map (λ (p : Pair). p.1) (entry_at old i) ≡ Some w
-    → ((done : List (List Value)) → w ≡ tallies spec.aggs done → v ≡ tallies spec.aggs (done ++ row ∷ []))
-    → ((p : Pair) → entry_at old i ≡ Some p → entries class_of new ≡ insert (entries class_of old) (class_of p.0) (p.0, v))
-    → Grouped spec (rows ++ row ∷ []) new
-grouped-occupied spec rows row old new i w v grouped found value adds put =
-    let mine : List Value = key_of spec.by row in
-    let it = stands spec rows old i mine w grouped found value in
-    grouped-step spec rows row old new grouped (put (mine, w) it.entry ∙ ap (λ t. insert (entries class_of old) (class_of mine) (mine, t)) (adds (of_key spec.by rows mine) it.tallied))
 
 -- a row whose key is not there
 pub grouped-vacant : {H : Type 0} (spec : Spec) (rows : List (List Value)) (row : List Value) (old new : View (List Value) (List Running) H) → Grouped spec rows old
@@ -208,18 +192,18 @@ grouped-start_alone spec m none put k =
     ∙ sym (ap (λ l. cond {A = Option Pair} (list_any (same_key k) (keys_of l [])) (Some (k, tallies spec.aggs [])) None) by)
 
 -- the first entry of an empty map
-pub put_alone : (m n : Entries (List Value) (List Running)) (k : List Value) (v w : List Running) → m ≡ nothing → k ≡ [] → v ≡ w → n ≡ insert m (class_of k) (stored_key m (class_of k) k, v) → n ≡ insert nothing (class_of []) ([], w)
-put_alone m n k v w none is same_value put =
+pub put_alone : {V : Type 0} (m n : Entries (List Value) V) (k : List Value) (v : V) → m ≡ empty → k ≡ [] → n ≡ insert m (class_of k) (stored_key m (class_of k) k, v) → n ≡ insert empty (class_of []) ([], v)
+put_alone {V} m n k v none is put =
     put
-    ∙ (λ i. insert (none i) (class_of (is i)) (stored_key (none i) (class_of (is i)) (is i), same_value i))
-    ∙ ap (λ x. insert nothing (class_of []) (x, w)) (ap (λ (o : Option Pair). option_map_or (λ (p : Pair). p.0) o []) (get-empty _ (class_of [])))
+    ∙ (λ i. insert (none i) (class_of (is i)) (stored_key (none i) (class_of (is i)) (is i), v))
+    ∙ ap (λ x. insert empty (class_of []) (x, v)) (ap (λ (o : Option (List Value × V)). option_map_or (λ (p : List Value × V). p.0) o []) (get-empty _ (class_of [])))
 
 -- ---- the entries as a list that names no class twice
 
-abbrev pub listed : List Pair → Entries (List Value) (List Running)
-listed xs = from_entries (map (λ (p : Pair). (class_of p.0, p)) xs)
+abbrev pub listed : {V : Type 0} → List (List Value × V) → Entries (List Value) V
+listed {V} xs = from_entries (map (λ (p : List Value × V). (class_of p.0, p)) xs)
 
-len_listed : (xs : List Pair) → len (listed xs) ≤ length xs
+len_listed : {V : Type 0} (xs : List (List Value × V)) → len (listed xs) ≤ length xs
 len_listed [] = rw len-empty (omega arith)
 len_listed (x ∷ xs) = bounded (contains_key (listed xs) (class_of x.0)) (len-insert nat_list_cmp_total (listed xs) (class_of x.0) x) (len_listed xs)
   where
@@ -227,13 +211,25 @@ len_listed (x ∷ xs) = bounded (contains_key (listed xs) (class_of x.0)) (len-i
     bounded true e h = omega arith
     bounded false e h = omega arith
 
-first_new : (x : Pair) (xs : List Pair) → suc (length xs) ≡ len (listed (x ∷ xs)) → (contains_key (listed xs) (class_of x.0) ≡ false) × (length xs ≡ len (listed xs))
+pub first_new : {V : Type 0} (x : List Value × V) (xs : List (List Value × V)) → suc (length xs) ≡ len (listed (x ∷ xs)) → (contains_key (listed xs) (class_of x.0) ≡ false) × (length xs ≡ len (listed xs))
 first_new x xs h = told (contains_key (listed xs) (class_of x.0)) refl (len-insert nat_list_cmp_total (listed xs) (class_of x.0) x) (len_listed xs)
   where
     told : (b : Bool) → contains_key (listed xs) (class_of x.0) ≡ b → len (insert (listed xs) (class_of x.0) x) ≡ cond b (len (listed xs)) (len (listed xs) + 1) → len (listed xs) ≤ length xs
         → (contains_key (listed xs) (class_of x.0) ≡ false) × (length xs ≡ len (listed xs))
     told true is e most = absurd (omega arith)
     told false is e most = (is, omega arith)
+
+-- what the list has behind its first it has
+pub listed_behind : {V : Type 0} (x : List Value × V) (xs : List (List Value × V)) (c : List ℕ) (p : List Value × V) → contains_key (listed xs) (class_of x.0) ≡ false → get (listed xs) c ≡ Some p → get (listed (x ∷ xs)) c ≡ Some p
+listed_behind {V} x xs c p new e = get-insert nat_list_cmp_total (listed xs) (class_of x.0) x c ∙ other (same c (class_of x.0)) refl
+  where
+    other : (b : Bool) → same c (class_of x.0) ≡ b → cond b (Some x) (get (listed xs) c) ≡ Some p
+    other true is = let none : ⊥ = true≢false (sym (ap is_some (ap (get (listed xs)) (sym (same_is c (class_of x.0) is)) ∙ e)) ∙ new) in absurd none
+    other false is = e
+
+-- and its first
+pub listed_first : {V : Type 0} (x : List Value × V) (xs : List (List Value × V)) → get (listed (x ∷ xs)) (class_of x.0) ≡ Some x
+listed_first x xs = get-insert nat_list_cmp_total (listed xs) (class_of x.0) x (class_of x.0) ∙ ap (λ b. cond b (Some x) (get (listed xs) (class_of x.0))) (same_itself (class_of x.0) (class_of x.0) refl)
 
 -- how often a key stands among those of the entries
 counted : (xs : List Pair) (k : List Value) → length xs ≡ len (listed xs) → count_by (same_key k) (map (λ (p : Pair). p.0) xs) ≡ one (is_some (get (listed xs) (class_of k)))
@@ -261,23 +257,19 @@ counted (x ∷ xs) k h =
         apart false f = refl
 
 -- what the map has for keys holds of each entry
-each_listed : (f : List Value → List Running) (xs : List Pair) → length xs ≡ len (listed xs) → ((k : List Value) (p : Pair) → get (listed xs) (class_of k) ≡ Some p → p.1 ≡ f p.0) → AllByRecursion (λ (p : Pair). p.1 ≡ f p.0) xs
-each_listed f [] h known = tt
-each_listed f (x ∷ xs) h known =
+pub each_listed : {V : Type 0} (Q : List Value × V → Type 0) (xs : List (List Value × V)) → length xs ≡ len (listed xs) → ((k : List Value) (p : List Value × V) → get (listed xs) (class_of k) ≡ Some p → Q p) → AllByRecursion Q xs
+each_listed Q [] h known = tt
+each_listed Q (x ∷ xs) h known =
     let parts = first_new x xs h in (
-      known x.0 x (get-insert nat_list_cmp_total (listed xs) (class_of x.0) x (class_of x.0) ∙ ap (λ b. cond b (Some x) (get (listed xs) (class_of x.0))) (same_itself (class_of x.0) (class_of x.0) refl)),
-      each_listed f xs parts.1 (λ k p e. known k p (get-insert nat_list_cmp_total (listed xs) (class_of x.0) x (class_of k) ∙ other parts.0 k p e (same (class_of k) (class_of x.0)) refl)),
+      known x.0 x (listed_first x xs),
+      each_listed Q xs parts.1 (λ k p e. known k p (listed_behind x xs (class_of k) p parts.0 e)),
     )
-  where
-    other : contains_key (listed xs) (class_of x.0) ≡ false → (k : List Value) (p : Pair) → get (listed xs) (class_of k) ≡ Some p → (b : Bool) → same (class_of k) (class_of x.0) ≡ b → cond b (Some x) (get (listed xs) (class_of k)) ≡ Some p
-    other new k p e true is = let none : ⊥ = true≢false (sym (ap is_some (ap (get (listed xs)) (sym (same_is (class_of k) (class_of x.0) is)) ∙ e)) ∙ new) in absurd none
-    other new k p e false is = e
 
 -- ---- what the list says of the groups
 
 pub all_tallied : {H : Type 0} (spec : Spec) (rows : List (List Value)) (m : View (List Value) (List Running) H) (xs : List Pair) → Grouped spec rows m → ListsAll class_of xs (entries class_of m) → AreTallied spec rows xs
 all_tallied spec rows m xs grouped all =
-    each_listed (λ k. tallies spec.aggs (of_key spec.by rows k)) xs (all.once ∙ ap len (sym all.all))
+    each_listed (λ (p : Pair). p.1 ≡ tallies spec.aggs (of_key spec.by rows p.0)) xs (all.once ∙ ap len (sym all.all))
     (λ k p e. told (list_any (same_key k) (keys_of spec.by rows)) p k (sym (grouped k) ∙ ap (λ (n : Entries (List Value) (List Running)). get n (class_of k)) (sym all.all) ∙ e))
   where
     told : (b : Bool) (p : Pair) (k : List Value) → cond b (Some (k, tallies spec.aggs (of_key spec.by rows k))) None ≡ Some p → p.1 ≡ tallies spec.aggs (of_key spec.by rows p.0)

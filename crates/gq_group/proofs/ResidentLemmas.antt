@@ -1,12 +1,11 @@
 -- A table of at most a budget of groups, with one row more.
 use Rattle.std.proofs.Common.{◌≡◌, ℕ, zero, suc, ◌+◌, ◌≤◌, ◌<◌, Bool, true, false, not, cond, ◌||◌, List, [], ◌∷◌, ◌++◌, length, Option, Some, None, refl, sym, ap, subst, ◌∙◌, arith, append-nil, true≢false, Result, Ok, Err}
 use Rattle.std.specs.Prelude.{is_some, filter, OnOk, OnErr}
-use Rattle.std.specs.Option.{option_map}
 use Rattle.std.specs.Cmp.Lexicographic.{nat_list_cmp_total}
 use Rattle.std.specs.FinMap.{insert, get, len, get-empty, get-insert, len-insert, len-empty}
 use Rattle.std.proofs.lemmas.List.{nil_from_length}
 use Rattle.std.proofs.lemmas.List.Elements.{filter-append}
-use Rattle.sw_table.specs.View.{View, entry_at}
+use Rattle.sw_table.specs.View.{View, entry_at, IsFull}
 use Rattle.sw_table.specs.Entries.{Entries, entries}
 use Rattle.gq_row.specs.declared.value.Value.{Value}
 use Rattle.gq_row.specs.Classes.{class_of}
@@ -177,25 +176,21 @@ offers-left spec budget rows row m hash resident new_key full =
 
 -- ---- the entry in which a row's key stands
 
-pub record Found {H : Type 0} (spec : Spec) (budget : ℕ) (rows : List (List Value)) (m : View (List Value) (List Running) H) (i : ℕ) (key : List Value) (w : List Running) : Type 0 where
-  pub its : List (List Value)
-  pub few : length its ≤ length rows
-  pub tallied : w ≡ tallies spec.aggs its
-  pub entry : entry_at m i ≡ Some (key, w)
+pub record Found {H : Type 0} (spec : Spec) (budget : ℕ) (rows : List (List Value)) (m : View (List Value) (List Running) H) (i : ℕ) (key : List Value) : Type 0 where
+  pub few : length (of_key spec.by (taken spec m rows) key) ≤ length rows
+  pub entry : entry_at m i ≡ Some (key, tallies spec.aggs (of_key spec.by (taken spec m rows) key))
   pub there : has_entry m key ≡ true
 
-pub found : {H : Type 0} (spec : Spec) (budget : ℕ) (rows : List (List Value)) (m : View (List Value) (List Running) H) (i : ℕ) (key : List Value) (w : List Running) → Resident spec budget rows m
-    → get (entries class_of m) (class_of key) ≡ entry_at m i → option_map (λ (p : Pair). p.1) (entry_at m i) ≡ Some w → Found spec budget rows m i key w
-found spec budget rows m i key w resident at value =
-    let it = stands spec (taken spec m rows) m i key w resident.grouped at value in
+pub found : {H : Type 0} (spec : Spec) (budget : ℕ) (rows : List (List Value)) (m : View (List Value) (List Running) H) (i : ℕ) (key : List Value) → Resident spec budget rows m
+    → get (entries class_of m) (class_of key) ≡ entry_at m i → IsFull m i → Found spec budget rows m i key
+found spec budget rows m i key resident at full =
+    let entry = stands spec (taken spec m rows) m i key resident.grouped at full in
     let few = few_of_key spec.by (taken spec m rows) key in
     let fewer = fewer_pass (λ r. has_entry m (key_of spec.by r)) rows in
     record {
-      its = of_key spec.by (taken spec m rows) key;
       few = omega (arith, few, fewer);
-      tallied = it.tallied;
-      entry = it.entry;
-      there = ap is_some (at ∙ it.entry);
+      entry = entry;
+      there = ap is_some (at ∙ entry);
     }
 
 -- ---- the start

@@ -1,7 +1,7 @@
 -- What holds of results, from other things that hold of them.
 use Rattle.std.proofs.Common.{◌≡◌, ◌++◌, cond, List, Result, Ok, Err, subst}
 use Rattle.std.proofs.lemmas.Bool.{false≢true}
-use Rattle.std.specs.Prelude.{IfOk, IfErr, OnOk, IsOk, is_ok}
+use Rattle.std.specs.Prelude.{IfOk, IfErr, OnOk, OnErr, IsOk, is_ok}
 
 pub if_ok_on : {T E : Type 0} (P Q : T → Type 0) (R : Type 0) (r : Result T E) → OnOk r R → ((x : T) → R → P x → Q x) → IfOk r P → IfOk r Q
 if_ok_on P Q R (Ok x) on f h = f x on h
@@ -28,3 +28,7 @@ on_ok_at P r x e h = subst (λ q. OnOk q P) e h
 
 pub if_err_at : {T E : Type 0} (P : E → Type 0) (r : Result T E) (e : E) → r ≡ Err e → IfErr r P → P e
 if_err_at P r e is h = subst (λ q. IfErr q P) is h
+
+pub on_err : {T E : Type 0} (P Q : Type 0) (r : Result T E) → (P → Q) → OnErr r P → OnErr r Q
+on_err P Q (Ok x) f h = tt
+on_err P Q (Err e) f h = f h

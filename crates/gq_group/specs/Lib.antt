@@ -3,6 +3,7 @@ pub mod Distinct
 pub mod Entries
 pub mod Groups
 pub mod Levels
+pub mod Maps
 pub mod Phases
 pub mod Piles
 pub mod Readings

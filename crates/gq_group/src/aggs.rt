@@ -1,5 +1,5 @@
 //! The running aggregates of a group.
-ghost use Rattle.std.specs.Prelude.{◌≡◌, ◌⊎◌, ◌<◌, ◌^◌, ◌++◌, ◌∷◌, [], ℕ, true, List, length, map, Some, IsTrue, IfOk, IfErr, IsErrOf, OnOk};
+ghost use Rattle.std.specs.Prelude.{◌≡◌, ◌⊎◌, ◌<◌, ◌^◌, ◌++◌, ◌∷◌, [], ℕ, true, List, length, map, take, Some, IsTrue, IfErr, IsErrOf, OnOk, OnErr};
 ghost use Rattle.std.specs.List.{list_all, list_any};
 ghost use Rattle.gq_row.specs.declared.value.Value.{Value as Cell};
 ghost use Rattle.gq_row.specs.Rows.{cell};
@@ -11,66 +11,51 @@ ghost use Rattle.gq_group.specs.Groups.{answers, fits_cell, is_none};
 use crate::refusal::Refusal;
 use gq_agg::{Agg, AggKind};
 use gq_row::{Row, Value};
-use smallvec::SmallVec;
 use std::alloc::{AllocError, Global};
-use std::marker::Model;
 
-/// The running aggregates of a group, seen as their list. Up to two stand in it, and more in memory
-/// of their own.
-#[derive(Drop)]
-pub struct Aggs {
-    running: SmallVec<Agg, 2>,
+// Appends the aggregates of no row to those of other groups, which stay whatever the outcome.
+pub(crate) fn start_aggs(
+    alloc: Global,
+    asked: &[(AggKind, usize)],
+    running: &mut Vec<Agg>,
+) -> Result<(), AllocError>
+    ensures ok { OnOk result (running.new.items ≡ running.old.items ++ tallies asked.now []) }
+    ensures others { take (length running.old.items) running.new.items ≡ running.old.items }
+{
+    for agg in asked {
+        running.push(Agg::start(alloc, agg.0))?;
+    }
+    Ok(())
 }
 
-impl Model for Aggs {
-    ghost use Rattle.std.specs.Prelude.{List};
-    ghost use Rattle.gq_agg.specs.Running.{Running};
-
-    ghost Value = { List Running };
-
-    ghost view = { λ a. a.running.items };
-}
-
-impl Aggs {
-    // Those of no row.
-    pub(crate) fn start(alloc: Global, asked: &[(AggKind, usize)]) -> Result<Aggs, AllocError>
-        ensures { IfOk result (λ aggs. aggs ≡ tallies asked.now []) }
+// Appends the aggregates of one row to those of other groups. Refused, the list is as it was.
+pub(crate) fn append_aggs(
+    alloc: Global,
+    asked: &[(AggKind, usize)],
+    row: &Row,
+    running: &mut Vec<Agg>,
+) -> Result<(), AllocError>
+    requires fits { IsTrue (list_all (fits_cell row.now) asked.now) }
+    ensures ok { OnOk result (running.new.items ≡
+        running.old.items ++ tallies asked.now (row.now ∷ [])) }
+    ensures err { OnErr result (running.new.items ≡ running.old.items) }
+{
+    let start = running.len();
+    if start_aggs(alloc, asked, running).is_err()
+        || add_cells(&mut running[start..], asked, row).is_err()
     {
-        let mut running = SmallVec::new(alloc);
-        for agg in asked {
-            running.push(Agg::start(alloc, agg.0))?;
-        }
-        Ok(Aggs { running })
+        running.truncate(start);
+        return Err(AllocError);
     }
-
-    // Those of one row more. They are no group's any more where memory is wanting.
-    pub(crate) fn add(&mut self, asked: &[(AggKind, usize)], row: &Row) -> Result<(), AllocError>
-        requires tallied { (rows : List (List Cell)) × (length rows < 2 ^ 32) × (self.old ≡
-            tallies asked.now rows) }
-        requires fits { IsTrue (list_all (fits_cell row.now) asked.now) }
-        ensures { OnOk result ((rows : List (List Cell)) → self.old ≡ tallies asked.now rows →
-            self.new ≡ tallies asked.now (rows ++ row.now ∷ [])) }
-    {
-        add_cells(self.running.as_mut_slice(), asked, row)
-    }
-
-    // Their values, to a list that is lent.
-    pub(crate) fn finish_into(self, alloc: Global, values: &mut Vec<Value>) -> Result<(), Refusal>
-        requires none { values.old.items ≡ [] }
-        ensures ok { OnOk result ((asked : List (Kind × ℕ)) (rows : List (List Cell))
-            → self ≡ tallies asked rows → answers asked rows ≡ map Some values.new.items) }
-        ensures overflow { IsErrOf result Refusal.SumRange →
-            (asked : List (Kind × ℕ)) (rows : List (List Cell)) → self ≡ tallies asked rows →
-            list_any is_none (answers asked rows) ≡ true }
-        ensures cause { IfErr result (λ e. (e ≡ Refusal.SumRange) ⊎ (e ≡ Refusal.Memory)) }
-    {
-        let mut running = self.running;
-        take_values(alloc, running.as_mut_slice(), values)
-    }
+    Ok(())
 }
 
 // Takes the values of aggregates, from the first to the last. What is left of these is of no value.
-fn take_values(alloc: Global, aggs: &mut [Agg], values: &mut Vec<Value>) -> Result<(), Refusal>
+pub(crate) fn take_values(
+    alloc: Global,
+    aggs: &mut [Agg],
+    values: &mut Vec<Value>,
+) -> Result<(), Refusal>
     requires none { values.old.items ≡ [] }
     ensures ok { OnOk result ((asked : List (Kind × ℕ)) (rows : List (List Cell))
         → aggs.old ≡ tallies asked rows → answers asked rows ≡ map Some values.new.items) }
@@ -91,8 +76,12 @@ fn take_values(alloc: Global, aggs: &mut [Agg], values: &mut Vec<Value>) -> Resu
     Ok(())
 }
 
-// Adds a row's cells, each to its aggregate.
-fn add_cells(aggs: &mut [Agg], asked: &[(AggKind, usize)], row: &Row) -> Result<(), AllocError>
+// Adds a row's cells, each to its aggregate. They are no group's any more where memory is wanting.
+pub(crate) fn add_cells(
+    aggs: &mut [Agg],
+    asked: &[(AggKind, usize)],
+    row: &Row,
+) -> Result<(), AllocError>
     requires tallied { (rows : List (List Cell)) × (length rows < 2 ^ 32) × (aggs.old ≡ tallies
         asked.now rows) }
     requires fits { IsTrue (list_all (fits_cell row.now) asked.now) }

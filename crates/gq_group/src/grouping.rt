@@ -9,8 +9,8 @@ ghost use Rattle.gq_group.specs.Entries.{Grouped};
 ghost use Rattle.gq_group.specs.Groups.{Spec, Group, keys_of, Pushes, all_fit, out_of_range, OneWidth};
 ghost use Rattle.gq_group.specs.Work.{Spills};
 
-use crate::aggs::Aggs;
 use crate::budget::Budget;
+use crate::group_map::GroupMap;
 use crate::group_sink::GroupSink;
 use crate::group_spec::GroupSpec;
 use crate::refusal::Refusal;
@@ -20,7 +20,6 @@ use crate::stack::group_levels;
 use gq_row::Key;
 use gq_spill::RunStore;
 use std::alloc::Global;
-use sw_flat::FlatMap;
 use sw_probe::KeyHash;
 
 /// What a grouping took.
@@ -36,25 +35,25 @@ pub struct Spent {
     pub runs: u64,
 }
 
-// Sends all groups to the sink, each as its entry leaves the map.
+// Sends all groups to the sink, each as it leaves the map.
 pub(crate) fn push_all<H: KeyHash<Key> + Copy, S: RunStore, K: GroupSink<S>>(
     alloc: Global,
-    map: FlatMap<Key, Aggs, H>,
+    all: GroupMap<H>,
     sink: &mut K,
     store: &mut S,
 ) -> Result<u64, Refusal>
     requires sink { K.is_ready sink.old (S.runs store.old) }
-    ensures sent { OnOk result ((spec : Spec) (rows : List (List Cell)) → Grouped spec rows map →
+    ensures sent { OnOk result ((spec : Spec) (rows : List (List Cell)) → Grouped spec rows all.map →
         Pushes spec rows (λ out. IsTrue (S.runs store.old).honest → (before : List Group) →
         K.holds sink.old (S.runs store.old) before →
         K.holds sink.new (S.runs store.new) (before ++ out))) }
     ensures count { IfOk result (λ n. (spec : Spec) (rows : List (List Cell)) →
-        Grouped spec rows map → n ≡ length (keys_of spec.by rows)) }
-    ensures entries { IfOk result (λ n. n ≡ len (entries class_of map)) }
+        Grouped spec rows all.map → n ≡ length (keys_of spec.by rows)) }
+    ensures entries { IfOk result (λ n. n ≡ len (entries class_of all.map)) }
     ensures no_overflow { OnOk result ((spec : Spec) (rows : List (List Cell)) →
-        Grouped spec rows map → out_of_range spec rows ≡ false) }
+        Grouped spec rows all.map → out_of_range spec rows ≡ false) }
     ensures overflow { IsErrOf result Refusal.SumRange →
-        (spec : Spec) (rows : List (List Cell)) → Grouped spec rows map →
+        (spec : Spec) (rows : List (List Cell)) → Grouped spec rows all.map →
         out_of_range spec rows ≡ true }
     ensures sink { OnOk result (K.is_ready sink.new (S.runs store.new)) }
     ensures others { LeavesOthers (K.owns sink.old) (K.owns sink.new) (S.runs store.old)
@@ -62,18 +61,14 @@ pub(crate) fn push_all<H: KeyHash<Key> + Copy, S: RunStore, K: GroupSink<S>>(
     ensures made { K.makes_runs ≡ false → (S.runs store.new).made ≡ (S.runs store.old).made }
     ensures cause { IfErr result (λ e. GroupCause e (S.runs store.old) (S.runs store.new)) }
 {
-    let mut left = map;
-    let groups = left.len() as u64;
-    sink.make_room(left.len());
-    let _ = left.keys();
-    let mut walk = left.walk();
+    let groups = all.len();
+    sink.make_room(groups);
+    let mut left = all.drain();
     let mut values = Vec::new(alloc);
-    'entries: while let Some((key, aggs)) = left.drain_next(&mut walk) {
-        values.clear();
-        aggs.finish_into(alloc, &mut values)?;
+    'groups: while let Some(key) = left.next(alloc, &mut values)? {
         sink.push(store, key, &mut values)?;
     }
-    Ok(groups)
+    Ok(groups as u64)
 }
 
 /// The groups of the source's rows, one for each of their keys, pushed to the sink in some order. A

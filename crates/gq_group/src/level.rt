@@ -80,16 +80,18 @@ fn place_row<H: KeyHash<Key> + Copy, S: RunStore>(
     slots: &mut Vec<Slot>,
 ) -> Result<Placed, Refusal>
     requires fits { IsTrue (fits_spec spec.now row.now) }
+    requires each { table.old.groups.each ≡ length spec.now.aggs }
     requires resident { (rows : List (List Cell)) × (length rows < 2 ^ 32) ×
-        Resident spec.now table.old.budget.entries rows table.old.map }
+        Resident spec.now table.old.budget.entries rows table.old.groups.map }
     requires places { length slots.old.items ≡ classes_at level }
     requires ours { Ours slots.old.items (S.runs store.old) }
     ensures places { IfOk result (λ placed. Places spec.now table.old.budget.entries (class_by
-        (hash_by H.hash_of bytes_of table.old.map.hasher) level) (classes_at level) row.now (S.runs
-        store.old) (S.runs store.new) table.old.map table.new.map slots.old.items slots.new.items
+        (hash_by H.hash_of bytes_of table.old.groups.map.hasher) level) (classes_at level) row.now (S.runs
+        store.old) (S.runs store.new) table.old.groups.map table.new.groups.map slots.old.items slots.new.items
         placed.written placed.began) }
     ensures budget { table.new.budget ≡ table.old.budget }
-    ensures hasher { OnOk result (table.new.map.hasher ≡ table.old.map.hasher) }
+    ensures each { table.new.groups.each ≡ table.old.groups.each }
+    ensures hasher { OnOk result (table.new.groups.map.hasher ≡ table.old.groups.map.hasher) }
     ensures same_length { length slots.new.items ≡ classes_at level }
     ensures ours { Ours slots.new.items (S.runs store.new) }
     ensures others { LeavesOthers (among slots.old.items) (among slots.new.items) (S.runs
@@ -138,13 +140,14 @@ fn read_rows<H: KeyHash<Key> + Copy, S: RunStore, R: RowSource<S>>(
     requires few { R.bound source.old ≤ 2 ^ 31 }
     requires rows { IsTrue (S.runs store.old).honest → (rows : List (List Cell)) ×
         R.gives source.old (S.runs store.old) rows × AreRows spec.now rows }
-    requires start { Resident spec.now table.old.budget.entries [] table.old.map }
+    requires each { table.old.groups.each ≡ length spec.now.aggs }
+    requires start { Resident spec.now table.old.budget.entries [] table.old.groups.map }
     requires places { length slots.old.items ≡ classes_at level }
     requires empty { AreEmpty slots.old.items }
     ensures read { IfOk result (λ taken. Reads spec.now table.old.budget.entries (class_by
-        (hash_by H.hash_of bytes_of table.old.map.hasher) level) (classes_at level) (S.runs
+        (hash_by H.hash_of bytes_of table.old.groups.map.hasher) level) (classes_at level) (S.runs
         store.old).honest (R.gives source.old (S.runs store.old)) (λ left. left ≡ []) (S.runs
-        store.new) taken.rows_read taken.rows_written taken.runs taken.columns table.new.map
+        store.new) taken.rows_read taken.rows_written taken.runs taken.columns table.new.groups.map
         slots.new.items) }
     ensures bound { IfOk result (λ taken. taken.rows_read ≤ R.bound source.old) }
     ensures less_runs { IfOk result (λ taken. taken.runs ≤ taken.rows_written) }
@@ -242,7 +245,7 @@ pub(crate) fn one_level<H: KeyHash<Key> + Copy, S: RunStore, R: RowSource<S>, K:
         return Err(Refusal::Memory);
     };
     let taken = read_rows(alloc, spec, level, source, store, &mut table, slots)?;
-    let groups = push_all(alloc, table.into_map(), sink, store)?;
+    let groups = push_all(alloc, table.into_groups(), sink, store)?;
     Ok(Level {
         rows_read: taken.rows_read,
         rows_written: taken.rows_written,

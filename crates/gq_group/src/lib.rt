@@ -14,8 +14,8 @@
 //! ```
 //!
 //! A row is looked up by its key in place, hashed once; the key is copied where it is the first of
-//! its class. A group's aggregates stand in its entry, up to two of them without memory of their
-//! own.
+//! its class. The running aggregates of all groups stand in one list, as many a group as are asked
+//! for, and a key's entry says where its own begin: a group takes no memory of its own beyond its key.
 //!
 //! [`group_distinct`] pushes, for each key, how many different values its rows have in a column,
 //! nulls left out. It goes through [`group`] twice: it groups the rows by the key and the value
@@ -54,6 +54,8 @@
 mod aggs;
 mod budget;
 mod distinct;
+mod drain;
+mod group_map;
 mod group_sink;
 mod group_spec;
 mod grouping;
@@ -65,9 +67,7 @@ mod row_source;
 mod run_source;
 mod slot;
 mod stack;
-mod table;
 
-pub use aggs::Aggs;
 pub use budget::Budget;
 pub use distinct::group_distinct;
 pub use group_sink::GroupSink;

@@ -9,25 +9,24 @@ ghost use Rattle.gq_row.specs.Rows.{key_of};
 ghost use Rattle.gq_group.specs.Groups.{fits_spec};
 ghost use Rattle.gq_group.specs.Residents.{Resident, Offers, HasHash};
 
-use crate::aggs::Aggs;
 use crate::budget::Budget;
+use crate::group_map::GroupMap;
 use crate::group_spec::GroupSpec;
-use crate::table::{add_group, start_table};
 use gq_row::{Key, KeyRef, Row};
 use std::alloc::{AllocError, Global};
-use sw_flat::{Entry, FlatMap};
+use sw_flat::Entry;
 use sw_probe::KeyHash;
 
 // Groups, at most as many as a budget.
 #[derive(Drop)]
 pub(crate) struct ResidentTable<H: KeyHash<Key>> {
-    map: FlatMap<Key, Aggs, H>,
+    groups: GroupMap<H>,
     budget: Budget,
     // How many rows were offered.
     offered: u64,
     // How many there will be, as far as is known.
     expected: usize,
-    ghost within: { len (entries class_of map) ≤ budget.entries },
+    ghost within: { len (entries class_of groups.map) ≤ budget.entries },
 }
 
 // What became of a row.
@@ -48,13 +47,15 @@ impl<H: KeyHash<Key> + Copy> ResidentTable<H> {
         budget: Budget,
         expected: usize,
     ) -> Result<ResidentTable<H>, AllocError>
-        ensures resident { IfOk result (λ table. Resident spec.now budget.entries [] table.map) }
+        ensures resident { IfOk result (λ table.
+            Resident spec.now budget.entries [] table.groups.map) }
+        ensures each { IfOk result (λ table. table.groups.each ≡ length spec.now.aggs) }
         ensures budget { IfOk result (λ table. table.budget ≡ budget) }
-        ensures hasher { IfOk result (λ table. table.map.hasher ≡ hasher) }
+        ensures hasher { IfOk result (λ table. table.groups.map.hasher ≡ hasher) }
     {
-        let map = start_table(alloc, hasher, spec)?;
+        let groups = GroupMap::start(alloc, hasher, spec)?;
         Ok(ResidentTable {
-            map,
+            groups,
             budget,
             offered: 0,
             expected,
@@ -66,8 +67,8 @@ impl<H: KeyHash<Key> + Copy> ResidentTable<H> {
     // one of the others is expected to: room for all of them spares the growths on the way. Else 0,
     // and the table grows as groups come.
     fn room_wanted(&self) -> usize {
-        let groups = self.map.len() as u64 + 1;
-        let is_full = groups == self.map.room() as u64;
+        let groups = self.groups.len() as u64 + 1;
+        let is_full = groups == self.groups.room() as u64;
         let is_seen = groups >= self.expected as u64 / 5;
         if is_full && is_seen && self.offered <= groups + groups / 64 {
             self.expected.min(self.budget.entries() as usize)
@@ -86,38 +87,40 @@ impl<H: KeyHash<Key> + Copy> ResidentTable<H> {
         row: &Row,
     ) -> Result<Offered, AllocError>
         requires fits { IsTrue (fits_spec spec.now row.now) }
+        requires each { self.old.groups.each ≡ length spec.now.aggs }
         requires resident { (rows : List (List Cell)) × (length rows < 2 ^ 32) ×
-            Resident spec.now self.old.budget.entries rows self.old.map }
+            Resident spec.now self.old.budget.entries rows self.old.groups.map }
         ensures offers { IfOk result (λ answer. (rows : List (List Cell)) →
-            Resident spec.now self.old.budget.entries rows self.old.map →
-            Offers spec.now self.old.budget.entries rows row.now self.old.map self.new.map
+            Resident spec.now self.old.budget.entries rows self.old.groups.map →
+            Offers spec.now self.old.budget.entries rows row.now self.old.groups.map self.new.groups.map
             answer) }
-        ensures hash { IfOk result (HasHash (hash_by H.hash_of bytes_of self.old.map.hasher
+        ensures hash { IfOk result (HasHash (hash_by H.hash_of bytes_of self.old.groups.map.hasher
             (class_of (key_of spec.now.by row.now)))) }
+        ensures each { self.new.groups.each ≡ self.old.groups.each }
         ensures budget { self.new.budget ≡ self.old.budget }
-        ensures hasher { OnOk result (self.new.map.hasher ≡ self.old.map.hasher) }
+        ensures hasher { OnOk result (self.new.groups.map.hasher ≡ self.old.groups.map.hasher) }
     {
         self.offered = self.offered.wrapping_add(1);
-        match self.map.entry(&KeyRef::new(row, spec.by())) {
+        match self.groups.entry(&KeyRef::new(row.cells(), spec.by())) {
             Entry::Occupied(slot) => {
-                self.map.value_mut(slot).add(spec.aggs(), row)?;
+                self.groups.add(slot, spec, row)?;
                 Ok(Offered::Taken)
             }
             Entry::Vacant(vacancy) => {
-                if self.map.len() >= self.budget.entries() as usize {
+                if self.groups.len() >= self.budget.entries() as usize {
                     return Ok(Offered::Left(vacancy.hash()));
                 }
                 let room = self.room_wanted();
-                add_group(alloc, spec, row, vacancy, room, &mut self.map)?;
+                self.groups.add_group(alloc, spec, row, vacancy, room)?;
                 Ok(Offered::Taken)
             }
         }
     }
 
     // The groups.
-    pub(crate) fn into_map(self) -> FlatMap<Key, Aggs, H>
-        ensures { result ≡ self.map }
+    pub(crate) fn into_groups(self) -> GroupMap<H>
+        ensures { result ≡ self.groups }
     {
-        self.map
+        self.groups
     }
 }

@@ -27,8 +27,8 @@ impl<S: RunStore> RowSource<S> for RunSource {
 
     ghost makes_runs = { false };
 
-    fn next(&mut self, store: &mut S, _spare: Row) -> Result<Option<Row>, Refusal> {
-        match self.reader.next(self.alloc, store) {
+    fn next(&mut self, store: &mut S, spare: Row) -> Result<Option<Row>, Refusal> {
+        match self.reader.next(self.alloc, store, spare) {
             Ok(row) => Ok(row),
             Err(why) => Err(Refusal::of(why)),
         }

@@ -132,9 +132,9 @@ fn comparisons(rt: HostRuntime) -> Result<(), Fail> {
     ] {
         let (left, right) = (operand(alloc, left)?, operand(alloc, right)?);
         let condition = one(alloc, Test::Compare(left, comparison, right))?;
-        assert_eq!(rt; holds(&condition, &row), due);
-        assert_eq!(rt; filter(&condition, &row), due == Truth::True);
-        assert_eq!(rt; having(&condition, &row), due == Truth::True);
+        assert_eq!(rt; holds(&condition, row.cells()), due);
+        assert_eq!(rt; filter(&condition, row.cells()), due == Truth::True);
+        assert_eq!(rt; having(&condition, row.cells()), due == Truth::True);
     }
     Ok(())
 }
@@ -160,7 +160,7 @@ fn comparisons_without_case(rt: HostRuntime) -> Result<(), Fail> {
             operand(alloc, Side::Spelling(right))?,
         );
         let condition = one(alloc, Test::Compare(left, comparison, right))?;
-        assert_eq!(rt; filter(&condition, &row), due);
+        assert_eq!(rt; filter(&condition, row.cells()), due);
     }
     Ok(())
 }
@@ -178,9 +178,15 @@ fn null_or_not(rt: HostRuntime) -> Result<(), Fail> {
     ] {
         let is_null = one(alloc, Test::IsNull(operand(alloc, side)?))?;
         let is_not_null = one(alloc, Test::IsNotNull(operand(alloc, side)?))?;
-        assert_eq!(rt; holds(&is_null, &row), null);
-        assert_eq!(rt; holds(&is_null, &row) == holds(&is_not_null, &row), false);
-        assert_eq!(rt; filter(&is_null, &row), !filter(&is_not_null, &row));
+        assert_eq!(rt; holds(&is_null, row.cells()), null);
+        assert_eq!(rt;
+            holds(&is_null, row.cells()) == holds(&is_not_null, row.cells()),
+            false
+        );
+        assert_eq!(rt;
+            filter(&is_null, row.cells()),
+            !filter(&is_not_null, row.cells())
+        );
     }
     Ok(())
 }
@@ -202,7 +208,7 @@ fn the_table_of_and(rt: HostRuntime) -> Result<(), Fail> {
     let none = Condition {
         tests: Sequence::new(Vec::new(alloc)),
     };
-    assert_eq!(rt; holds(&none, &row), Truth::True);
+    assert_eq!(rt; holds(&none, row.cells()), Truth::True);
     for (first, second, due) in [
         (Truth::True, Truth::True, Truth::True),
         (Truth::True, Truth::Unknown, Truth::Unknown),
@@ -217,9 +223,9 @@ fn the_table_of_and(rt: HostRuntime) -> Result<(), Fail> {
         let condition = Condition {
             tests: Sequence::new(vec![in alloc; always(first), always(second)]?),
         };
-        assert_eq!(rt; holds(&condition, &row), due);
-        assert_eq!(rt; filter(&condition, &row), due == Truth::True);
-        assert_eq!(rt; having(&condition, &row), due == Truth::True);
+        assert_eq!(rt; holds(&condition, row.cells()), due);
+        assert_eq!(rt; filter(&condition, row.cells()), due == Truth::True);
+        assert_eq!(rt; having(&condition, row.cells()), due == Truth::True);
     }
     Ok(())
 }

@@ -1,6 +1,6 @@
 //! Rows that have a match among others.
 use crate::groups::{row, spelling};
-use gq_row::{Key, Row};
+use gq_row::{Key, Value};
 use gq_select::{KeySet, anti_join, semi_join};
 use std::alloc::{AllocError, Global};
 use std::test::Fail;
@@ -11,8 +11,8 @@ use sw_probe::{Constant, Fnv1a, KeyHash, LowBits};
 fn matched<H: KeyHash<Key> + Copy>(
     alloc: Global,
     hasher: H,
-    others: (&Row, &Row),
-    row: &Row,
+    others: (&[Value], &[Value]),
+    row: &[Value],
 ) -> Result<&'static str, AllocError> {
     if others.0.len() < 2 || others.1.len() < 2 || row.len() < 2 {
         return Ok("short");
@@ -37,16 +37,16 @@ fn one_column(rt: HostRuntime) -> Result<(), Fail> {
         (Some(7), "none"),
     ] {
         let row = row(alloc, &[Some(1), value])?;
-        let others = (&one, &null);
-        assert_eq!(rt; matched(alloc, Fnv1a { seed: 0 }, others, &row)?, due);
-        assert_eq!(rt; matched(alloc, Constant(0), others, &row)?, due);
-        assert_eq!(rt; matched(alloc, LowBits(7), others, &row)?, due);
+        let (others, row) = ((one.cells(), null.cells()), row.cells());
+        assert_eq!(rt; matched(alloc, Fnv1a { seed: 0 }, others, row)?, due);
+        assert_eq!(rt; matched(alloc, Constant(0), others, row)?, due);
+        assert_eq!(rt; matched(alloc, LowBits(7), others, row)?, due);
     }
     Ok(())
 }
 
 /// Adds the key of a row in column 1.
-fn add_last<H: KeyHash<Key> + Copy>(keys: &mut KeySet<H>, row: &Row) -> Result<(), AllocError> {
+fn add_last<H: KeyHash<Key> + Copy>(keys: &mut KeySet<H>, row: &[Value]) -> Result<(), AllocError> {
     if row.len() < 2 {
         return Err(AllocError);
     }
@@ -58,7 +58,7 @@ fn texts_without_case(rt: HostRuntime) -> Result<(), Fail> {
     let alloc = rt.alloc();
     let mut keys = KeySet::new(alloc, Constant(0));
     for chars in ["Oslo", "ROME", "\u{c9}"] {
-        add_last(&mut keys, &spelling(alloc, 1, chars)?)?;
+        add_last(&mut keys, spelling(alloc, 1, chars)?.cells())?;
     }
     for (chars, due) in [
         ("OSLO", true),
@@ -68,16 +68,17 @@ fn texts_without_case(rt: HostRuntime) -> Result<(), Fail> {
         ("Bern", false),
     ] {
         let row = spelling(alloc, 2, chars)?;
+        let row = row.cells();
         if row.len() >= 2 {
-            assert_eq!(rt; semi_join(&keys, &row, &[1]), due);
-            assert_eq!(rt; anti_join(&keys, &row, &[1]), !due);
+            assert_eq!(rt; semi_join(&keys, row, &[1]), due);
+            assert_eq!(rt; anti_join(&keys, row, &[1]), !due);
         }
     }
     Ok(())
 }
 
 /// Adds the key of a row in the columns 0 and 1.
-fn add_both<H: KeyHash<Key> + Copy>(keys: &mut KeySet<H>, row: &Row) -> Result<(), AllocError> {
+fn add_both<H: KeyHash<Key> + Copy>(keys: &mut KeySet<H>, row: &[Value]) -> Result<(), AllocError> {
     if row.len() < 2 {
         return Err(AllocError);
     }
@@ -94,7 +95,7 @@ fn two_columns_in_each_order(rt: HostRuntime) -> Result<(), Fail> {
         [Some(3), None],
         [None, None],
     ] {
-        add_both(&mut keys, &row(alloc, &values)?)?;
+        add_both(&mut keys, row(alloc, &values)?.cells())?;
     }
     for (values, straight, crossed) in [
         ([Some(1), Some(2)], true, false),
@@ -104,11 +105,12 @@ fn two_columns_in_each_order(rt: HostRuntime) -> Result<(), Fail> {
         ([None, None], false, false),
     ] {
         let row = row(alloc, &values)?;
+        let row = row.cells();
         if row.len() >= 2 {
-            assert_eq!(rt; semi_join(&keys, &row, &[0, 1]), straight);
-            assert_eq!(rt; semi_join(&keys, &row, &[1, 0]), crossed);
-            assert_eq!(rt; anti_join(&keys, &row, &[0, 1]), !straight);
-            assert_eq!(rt; anti_join(&keys, &row, &[1, 0]), !crossed);
+            assert_eq!(rt; semi_join(&keys, row, &[0, 1]), straight);
+            assert_eq!(rt; semi_join(&keys, row, &[1, 0]), crossed);
+            assert_eq!(rt; anti_join(&keys, row, &[0, 1]), !straight);
+            assert_eq!(rt; anti_join(&keys, row, &[1, 0]), !crossed);
         }
     }
     Ok(())

@@ -1,6 +1,7 @@
 //! Tests of running aggregates, of groups, and of conditions, matches and different keys: worked
 //! examples whose answers were written by hand, under hashers that spread keys and hashers that do
-//! not; how many rows and runs groups past the budget take; and groups over stores in which one call
+//! not; how many rows and runs groups past the budget take; groups past each growth of the list of their
+//! aggregates, and without memory for it; and groups over stores in which one call
 //! goes wrong.
 #![tactic(auto)]
 
@@ -16,6 +17,8 @@ mod distinct;
 mod distinct_keys;
 #[cfg(test)]
 mod groups;
+#[cfg(test)]
+mod growth;
 #[cfg(test)]
 mod joins;
 #[cfg(test)]

@@ -26,6 +26,9 @@ fn expect_written(rt: &impl Abort, alloc: Global, old: &str, new: &str) -> Resul
     let mut over = Text::of(alloc, old)?;
     let other = Text::of(alloc, new)?;
     assert!(rt; (over == other) == (old == new));
+    let mut copied = over.copy(alloc)?;
+    copied.copy_from(alloc, &other)?;
+    assert!(rt; copied == other);
     over.write(alloc, new)?;
     assert!(rt; over == other);
     assert_eq!(rt; over.as_str(), new);
@@ -67,11 +70,16 @@ fn copied_and_folded(rt: HostRuntime) -> Result<(), Fail> {
 fn without_memory(rt: HostRuntime) -> Result<(), Fail> {
     let alloc = rt.alloc();
     let mut text = Text::of(alloc, "ABCDEFGHIJKLMNOPQRSTUVW")?;
+    let mut other = Text::of(alloc, "a")?;
     let starved = Starved::new(alloc)?;
+    assert!(rt; other.copy_from(alloc, &text).is_err());
+    assert_eq!(rt; other.as_str(), "");
     assert!(rt; text.copy(alloc).is_err());
     assert!(rt; Text::of(alloc, "ABCDEFGHIJKLMNOPQRSTUVW").is_err());
     assert!(rt; text.write(alloc, "ABCDEFGHIJKLMNOPQRSTUV").is_ok());
     assert_eq!(rt; text.copy(alloc)?.as_str(), "ABCDEFGHIJKLMNOPQRSTUV");
+    assert!(rt; other.copy_from(alloc, &text).is_ok());
+    assert_eq!(rt; other.as_str(), "ABCDEFGHIJKLMNOPQRSTUV");
     drop(starved);
     Ok(())
 }

@@ -79,6 +79,9 @@ Its last reply, as CSV under a line that counts its rows:
 A command that is refused is answered `err CODE NAME` and changes nothing.
 docs/LANGUAGE.md has all commands, values, replies and refusals.
 
+To have it in the PATH, in the folder of the launcher:
+  mkdir -p ~/.local/bin && ln -s \"$PWD/groupsh\" ~/.local/bin/
+
 Exit status:
   0  all commands were accepted; with --check, each line is a command
   1  some command was refused; with --check, some line is none

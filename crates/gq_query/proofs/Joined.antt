@@ -1,5 +1,5 @@
 -- Groups that are sorted, and counts that join them.
-use Rattle.std.proofs.Common.{◌≡◌, ◌<◌, ◌+◌, ℕ, zero, suc, Bool, true, false, ◌||◌, List, [], ◌∷◌, ◌++◌, length, map, take, drop, get_or, All, refl, sym, ap, subst, ◌∙◌, arith, Option, Some, None, IsTrue, slice_index_or, slice_set}
+use Rattle.std.proofs.Common.{◌≡◌, ◌<◌, ◌+◌, ℕ, zero, suc, Bool, true, false, ◌||◌, List, [], ◌∷◌, ◌++◌, length, map, take, drop, get_or, All, refl, sym, ap, subst, ◌∙◌, arith, Option, Some, None, IsTrue, slice_index_or}
 use Rattle.std.specs.Prelude.{IsPermutation, insert, nat_lt, option_map, option_and_then}
 use Rattle.std.specs.List.{list_any, list_all}
 use Rattle.std.specs.List.Sorted.{IsSortedByKey}
@@ -174,43 +174,19 @@ so_far_all (s ∷ shown) = ap (λ l. s ∷ l) (so_far_all shown)
 
 -- ---- one count after the other
 
-pub next_group : (place : ℕ) (gs cs : List Group) (i : ℕ) (d : Group) → i < length gs → slice_index_or (take i (joined place gs cs) ++ drop i gs) i d ≡ slice_index_or gs i d
-next_group place [] cs i d less = absurd (omega arith)
-next_group place (g ∷ gs) [] zero d less = refl
-next_group place (g ∷ gs) (c ∷ cs) zero d less = refl
-next_group place (g ∷ gs) [] (suc i) d less = taken gs i (omega arith)
+pub joined_more : (place : ℕ) (gs cs : List Group) (i : ℕ) (d e : Group) → i < length gs → i < length cs
+    → joined place (take (i + 1) gs) (take (i + 1) cs) ≡ joined place (take i gs) (take i cs) ++ ((get_or gs i d).0, insert (get_or gs i d).1 place (first_of (get_or cs i e))) ∷ []
+joined_more place gs cs i d e less there = rw (one_more) (each gs cs i less there)
   where
-    taken : (xs : List Group) (j : ℕ) → j < length xs → slice_index_or (take j xs ++ drop j xs) j d ≡ slice_index_or xs j d
-    taken [] j h = absurd (omega arith)
-    taken (x ∷ xs) zero h = refl
-    taken (x ∷ xs) (suc j) h = taken xs j (omega arith)
-next_group place (g ∷ gs) (c ∷ cs) (suc i) d less = next_group place gs cs i d (omega arith)
+    one_more : i + 1 ≡ suc i
+    one_more = omega arith
 
-pub joined_set : (place : ℕ) (gs cs : List Group) (i : ℕ) (x d e : Group) → i < length gs → i < length cs
-    → x ≡ ((slice_index_or gs i d).0, insert (slice_index_or gs i d).1 place (first_of (slice_index_or cs i e)))
-    → slice_set (take i (joined place gs cs) ++ drop i gs) i x ≡ take (suc i) (joined place gs cs) ++ drop (suc i) gs
-joined_set place [] cs i x d e less there is = absurd (omega arith)
-joined_set place (g ∷ gs) [] i x d e less there is = absurd (omega arith)
-joined_set place (g ∷ gs) (c ∷ cs) zero x d e less there is = ap (λ t. t ∷ gs) is
-joined_set place (g ∷ gs) (c ∷ cs) (suc i) x d e less there is = ap (λ l. (g.0, insert g.1 place (first_of c)) ∷ l) (joined_set place gs cs i x d e (omega arith) (omega arith) is)
-
-pub joined_end : (place : ℕ) (gs cs : List Group) (n : ℕ) → n ≡ length gs → length gs ≡ length cs → take n (joined place gs cs) ++ drop n gs ≡ joined place gs cs
-joined_end place gs cs n is same = subst (λ m. take m (joined place gs cs) ++ drop m gs ≡ joined place gs cs) (sym is) (each gs cs same)
-  where
-    each : (xs ys : List Group) → length xs ≡ length ys → take (length xs) (joined place xs ys) ++ drop (length xs) xs ≡ joined place xs ys
-    each [] ys h = refl
-    each (x ∷ xs) [] h = let none : ⊥ = cc in absurd none
-    each (x ∷ xs) (y ∷ ys) h = ap (λ l. (x.0, insert x.1 place (first_of y)) ∷ l) (each xs ys (omega (arith, h)))
-
--- a place past the last value is the end
-pub insert_within : (values : List Value) (place n : ℕ) (v : Value) → n ≡ length values → length values < place → insert values n v ≡ insert values place v
-insert_within values place n v is past = subst (λ m. insert values m v ≡ insert values place v) (sym is) (each values place past)
-  where
-    each : (xs : List Value) (p : ℕ) → length xs < p → insert xs (length xs) v ≡ insert xs p v
-    each [] zero h = absurd (omega arith)
-    each [] (suc p) h = refl
-    each (x ∷ xs) zero h = absurd (omega arith)
-    each (x ∷ xs) (suc p) h = ap (λ l. x ∷ l) (each xs p (omega arith))
+    each : (gs cs : List Group) (i : ℕ) → i < length gs → i < length cs
+        → joined place (take (suc i) gs) (take (suc i) cs) ≡ joined place (take i gs) (take i cs) ++ ((get_or gs i d).0, insert (get_or gs i d).1 place (first_of (get_or cs i e))) ∷ []
+    each [] cs i less there = absurd (omega (arith, less))
+    each (g ∷ gs) [] i less there = absurd (omega (arith, there))
+    each (g ∷ gs) (c ∷ cs) zero less there = refl
+    each (g ∷ gs) (c ∷ cs) (suc i) less there = ap (λ l. (g.0, insert g.1 place (first_of c)) ∷ l) (each gs cs i (omega (arith, less)) (omega (arith, there)))
 
 -- ---- the answer
 
@@ -283,14 +259,6 @@ pub counted_within : (columns : List Column) (shown : List Shown) (i : ℕ) (d :
 counted_within columns [] i d c h less e = absurd (omega arith)
 counted_within columns (s ∷ shown) zero d c h less e = ltb-true c (length columns) (ap (can_show columns) (sym e) ∙ (and_parts (can_show columns s) (list_all (can_show columns) shown) h).0)
 counted_within columns (s ∷ shown) (suc i) d c h less e = counted_within columns shown i d c (and_parts (can_show columns s) (list_all (can_show columns) shown) h).1 (omega arith) e
-
--- what stands at the front of two lists, one behind the other
-pub front_taken : {X : Type 0} (n : ℕ) (xs ys : List X) → n ≡ length xs → take n (xs ++ ys) ≡ xs
-front_taken {X = X} n xs ys is = subst (λ m. take m (xs ++ ys) ≡ xs) (sym is) (each xs)
-  where
-    each : (zs : List X) → take (length zs) (zs ++ ys) ≡ zs
-    each [] = refl
-    each (z ∷ zs) = ap (λ l. z ∷ l) (each zs)
 
 -- ---- different keys
 

@@ -1,5 +1,6 @@
-pub mod CellLemmas
 pub mod FrontLemmas
+pub mod GroupSpanLemmas
+pub mod HavingLemmas
 pub mod Joined
 pub mod KeepingLemmas
 pub mod OrderingLemmas

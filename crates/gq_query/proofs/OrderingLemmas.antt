@@ -1,5 +1,6 @@
 -- Rows compared and sorted.
-use Rattle.std.proofs.Common.{◌≡◌, ℕ, List, [], ◌∷◌, refl, ap, ap₂, ◌∙◌, Ordering, IsTrue}
+use Rattle.std.proofs.Common.{◌≡◌, ◌<◌, ◌+◌, ℕ, List, [], ◌∷◌, length, map, refl, ap, ap₂, ◌∙◌, arith, Ordering, IsTrue}
+use Rattle.std.proofs.lemmas.List.{get_or-map, length-map}
 use Rattle.std.specs.Prelude.{Result, Ok, Err, OnOk}
 use Rattle.std.specs.List.Sorted.{IsSortedByKey, IsSortedByClosure}
 use Rattle.std.specs.Fn.{Called}
@@ -43,6 +44,13 @@ pub sorted_by : {X F : Type 0} {g : Mut F (Bor X × (Bor X × Unit {0})) Orderin
 sorted_by {g = g} {f = f} key xs up h =
     up (λ x y. is_lt (compare_keys (key x) (key y))) (ranks_by keys_total key)
     (always_returns_same g (λ a r. is_lt r ≡ is_lt (compare_keys (key a.0.now) (key a.1.0.now))) f (λ a r f' k. (ap is_lt (h a r f' k).0, (h a r f' k).1)))
+
+-- elements in the order of the keys of what stands for them
+pub sorted_map : {X Y : Type 0} (f : X → Y) (key : Y → List Value) (xs : List X) → IsSortedByKey (λ x. key (f x)) compare_keys xs → IsSortedByKey key compare_keys (map f xs)
+sorted_map f key [] up = λ k d low high. absurd (omega (arith, high))
+sorted_map f key (x ∷ xs) up = λ k d low high.
+    let within : k + 1 < length (x ∷ xs) = omega (arith, high, length-map (x ∷ xs) f) in
+    rw (get_or-map f (x ∷ xs) (k + 1) x d within, get_or-map f (x ∷ xs) k x d (omega (arith, within))) (up k x low within)
 
 -- the rows of a table, sorted, are those that a `show` gives
 pub shown : (table : PlainTable) (sorted : List (List Value)) → IsStanding table → IsArranged (ordered_by table.heading.key) table.rows sorted → sorted ≡ rows_shown table

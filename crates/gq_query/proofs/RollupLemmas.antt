@@ -1,9 +1,8 @@
 -- The levels of a rollup: one behind the other, and each beside the `group` by its columns.
 use Rattle.std.proofs.Common.{◌≡◌, ◌<◌, ◌≤◌, ◌+◌, ◌-◌, ℕ, zero, suc, Bool, true, IsTrue, List, [], ◌∷◌, ◌++◌, length, map, take, drop, filter, refl, sym, ap, subst, ◌∙◌, arith, Option, Some, None, pos}
 use Rattle.std.specs.Prelude.{option_map, option_and_then, replicate}
-use Rattle.std.specs.List.{flat_map, range_with_len, insert}
-use Rattle.std.proofs.lemmas.List.{append_assoc, append-nil, length-append, length-replicate, length-take-le}
-use Rattle.std.proofs.lemmas.List.Edits.{insert-append_right}
+use Rattle.std.specs.List.{flat_map, range_with_len}
+use Rattle.std.proofs.lemmas.List.{append_assoc, append-nil, length-append, length-replicate}
 use Rattle.std.proofs.Math.Seq.{take-append_seam, drop-append_seam}
 use Rattle.gq_row.specs.declared.value.Value.{Value}
 use Rattle.gq_row.specs.declared.value.Value.TheVariants.{Null, Int}
@@ -22,18 +21,6 @@ use Rattle.gq_query.specs.Work.{RisesBy, both_spent, IsSpentOn}
 
 abbrev Rows : Type 0
 Rows = List (List Value)
-
--- ---- a null more behind a key
-
--- one null more is put behind a key of so many values
-pub null_more : (end : ℕ) (row : List Value) (n : ℕ) → end ≤ length row → insert (take end row ++ (replicate n Null ++ drop end row)) end Null ≡ take end row ++ (replicate (n + 1) Null ++ drop end row)
-null_more end row n within =
-    let behind : List Value = replicate n Null ++ drop end row in
-    let none : end - end ≡ 0 = omega arith in
-    let one : suc n ≡ n + 1 = omega arith in
-    insert-append_right (take end row) behind end end Null (length-take-le end row within) (omega arith)
-    ∙ ap (λ k. take end row ++ insert behind k Null) none
-    ∙ ap (λ k. take end row ++ (replicate k Null ++ drop end row)) one
 
 -- ---- levels one behind the other
 

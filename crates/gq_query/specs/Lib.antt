@@ -7,6 +7,7 @@ pub mod Work
 -- contracts of single functions
 pub mod Cells
 pub mod Fronts
+pub mod GroupSpans
 pub mod Joining
 pub mod Keeping
 pub mod Sources

@@ -10,7 +10,7 @@ use crate::kept::Kept;
 use crate::query::Query;
 use crate::selection::{Selection, other_keys};
 use gq_group::{Budget, Refusal};
-use gq_row::{Key, Row, Sequence};
+use gq_row::{Key, Rows};
 use gq_spill::RunStore;
 use std::alloc::Global;
 use sw_probe::KeyHash;
@@ -29,7 +29,7 @@ pub fn distinct_rows<H: KeyHash<Key> + Copy, S: RunStore>(
     on: &[usize],
     store: &mut S,
     budget: Budget,
-) -> Result<Sequence<Row>, Refusal>
+) -> Result<Rows, Refusal>
     requires some { 0 < length on.now }
     requires on { All (λ column. column < length selection.now.table.now.heading.columns) on.now }
     requires matching { CanMatch selection.now.table.now.heading.columns
@@ -56,5 +56,5 @@ pub fn distinct_rows<H: KeyHash<Key> + Copy, S: RunStore>(
         by: on,
         budget,
     };
-    Ok(Sequence::new(query.different(store)?))
+    query.different(store)
 }

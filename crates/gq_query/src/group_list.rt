@@ -1,168 +1,52 @@
 //! A list of groups as a sink.
-ghost use Rattle.std.specs.Prelude.{◌≡◌, ◌≤◌, ◌++◌, ◌∷◌, [], OnOk, IfOk, insert, length, map, drop};
+//!
+//! The cells of all groups stand in one list, those of a group one behind the other: its key, and then
+//! what is shown of its rows. What sorts groups moves where they stand, and no cell.
+ghost use Rattle.std.specs.Prelude.{◌≡◌, ◌<◌, ◌++◌, ◌∷◌, [], IfOk, IsPermutation, OnOk, length, map, slice_index_or};
+ghost use Rattle.std.specs.List.Sorted.{IsSortedByKey};
 ghost use Rattle.gq_row.specs.Order.{compare_keys};
-ghost use Rattle.gq_query.specs.Fronts.{IsFrontOf};
-ghost use Rattle.gq_query.specs.Joining.{first_of, row_of};
+ghost use Rattle.gq_group.specs.Groups.{Group};
+ghost use Rattle.gq_query.specs.GroupSpans.{IsLonger, compare_at, key_in};
+ghost use Rattle.gq_query.specs.Joining.{row_of};
 
 use crate::front::{Front, front_in};
 use gq_group::{GroupSink, Refusal};
-use gq_row::{Key, Row, Value, compare_cells};
+use gq_row::{Key, Rows, Span, Value, compare_cells};
 use gq_spill::RunStore;
-use smallvec::SmallVec;
 use std::alloc::{AllocError, Global};
 use std::cmp::Ordering;
 use std::marker::Model;
 
-/// A key, and what is shown of the rows that have it: the cells of a result row. Up to two stand in
-/// it, so that groups are sorted where they stand, and memory for rows is asked for in the order of
-/// the answer.
-#[derive(Drop)]
-pub struct GroupValues {
-    // The values of the key, and then the others.
-    cells: SmallVec<Value, 2>,
-    // How many are the key's.
-    width: usize,
-    // The front of the key.
+/// Where a group stands in a list of cells, and the front of its key: the key stands from `start` up to
+/// `middle`, its values from there up to `end`.
+#[derive(Clone, Copy)]
+pub struct GroupSpan {
     front: Front,
+    start: usize,
+    middle: usize,
+    end: usize,
 }
 
-impl Model for GroupValues {
-    ghost use Rattle.std.specs.Prelude.{◌≤◌, take, drop, length};
-    ghost use Rattle.gq_group.specs.Groups.{Group};
-    ghost use Rattle.gq_query.specs.Fronts.{IsFrontOf};
-
-    ghost Value = { Group };
-
-    ghost view = { λ g. (take g.width g.cells.items, drop g.width g.cells.items) };
-
-    ghost invariant = { λ g. (g.width ≤ length g.cells.items) × IsFrontOf (take g.width g.cells.items) g.front };
-}
-
-impl GroupValues {
-    fn new(key: Key, values: &mut Vec<Value>) -> Result<GroupValues, AllocError>
-        ensures { IfOk result (λ group. group ≡ (key, values.old.items)) }
-    {
-        let width = key.len();
-        let mut cells = key.into_cells();
-        let front = front_in(&[], cells.as_slice());
-        cells.reserve_exact(values.len())?;
-        for value in values.drain(..) {
-            cells.push(value)?;
-        }
-        Ok(GroupValues {
-            cells,
-            width,
-            front,
-        })
-    }
-
-    /// The values of the key.
-    pub fn key(&self) -> &[Value]
-        ensures { result.now ≡ self.now.0 }
-    {
-        &self.cells.as_slice()[..self.width]
-    }
-
-    /// The front of the key, which takes no look at it.
-    pub fn front(&self) -> Front
-        ensures { IsFrontOf self.now.0 result }
-    {
-        self.front
-    }
-
-    /// The order of the keys of two groups: that of their fronts, and of whole keys where these tie.
-    pub fn compare_keys(&self, other: &GroupValues) -> Ordering
-        ensures { result ≡ compare_keys self.now.0 other.now.0 }
-    {
-        match self.front.cmp(&other.front) {
-            Ordering::Equal => compare_cells(self.key(), other.key()),
-            told => told,
-        }
-    }
-
-    /// Its first value behind the key, or null where it has none.
-    pub fn first(&self, alloc: Global) -> Result<Value, AllocError>
-        ensures { IfOk result (λ value. value ≡ first_of self.now) }
-    {
-        match self.cells.as_slice().get(self.width) {
-            Some(value) => value.copy(alloc),
-            None => Ok(Value::Null),
-        }
-    }
-
-    /// Puts a value at a place among its values, or behind all where there are no more than that.
-    pub fn insert(&mut self, place: usize, value: Value) -> Result<(), AllocError>
-        ensures { OnOk result (self.new ≡ (self.old.0, insert self.old.1 place value)) }
-    {
-        let place = place.min(self.cells.len() - self.width);
-        self.cells.insert(self.width + place, value)?;
-        Ok(())
-    }
-
-    /// Leaves its key out, so that the other values stand alone.
-    pub fn leave_key(&mut self)
-        ensures { self.new ≡ ([], self.old.1) }
-    {
-        drop_first(&mut self.cells, self.width);
-        self.width = 0;
-        self.front = front_in(&[], &[]);
-    }
-
-    /// The result row: the key's values, and then the others. All of them move.
-    #[inline]
-    pub fn into_row(self) -> Result<Row, AllocError>
-        ensures { IfOk result (λ row. row ≡ row_of self) }
-    {
-        match self.cells.into_vec() {
-            Ok(cells) => Ok(Row::new(cells)),
-            Err(_) => Err(AllocError),
-        }
-    }
-}
-
-// Drops the first of some values, so many.
-fn drop_first(cells: &mut SmallVec<Value, 2>, count: usize)
-    requires { count ≤ length cells.old.items }
-    ensures { cells.new.items ≡ drop count cells.old.items }
-{
-    for _ in 0..count {
-        let _ = cells.remove(0);
-    }
-}
-
-/// Leaves the key of each group out.
-pub fn leave_keys(groups: &mut [GroupValues])
-    ensures { groups.new ≡ map (λ group. ([], group.1)) groups.old }
-{
-    for group in groups {
-        group.leave_key();
-    }
-}
-
-/// The result rows of groups.
-pub fn rows_of(alloc: Global, groups: Vec<GroupValues>) -> Result<Vec<Row>, AllocError>
-    ensures { IfOk result (λ rows. rows.items ≡ map row_of groups.items) }
-{
-    let mut rows = Vec::with_capacity(alloc, groups.len())?;
-    for group in groups {
-        rows.push(group.into_row()?)?;
-    }
-    Ok(rows)
-}
-
-/// The groups that were pushed, in that order.
+/// The groups that were pushed, in that order: of each the key, and what is shown of the rows that
+/// have it.
 #[derive(Drop)]
 pub struct GroupList {
-    groups: Vec<GroupValues>,
+    cells: Vec<Value>,
+    groups: Vec<GroupSpan>,
+    // For how many groups room for cells is to be made with the next.
+    expected: usize,
 }
 
 impl Model for GroupList {
-    ghost use Rattle.std.specs.Prelude.{List};
+    ghost use Rattle.std.specs.Prelude.{List, All, map};
     ghost use Rattle.gq_group.specs.Groups.{Group};
+    ghost use Rattle.gq_query.specs.GroupSpans.{IsGroupAt, group_at};
 
     ghost Value = { List Group };
 
-    ghost view = { λ s. s.groups.items };
+    ghost view = { λ s. map (group_at s.cells.items) s.groups.items };
+
+    ghost invariant = { λ s. All (IsGroupAt s.cells.items) s.groups.items };
 }
 
 impl GroupList {
@@ -171,21 +55,179 @@ impl GroupList {
         ensures { result ≡ [] }
     {
         GroupList {
+            cells: Vec::new(alloc),
             groups: Vec::new(alloc),
+            expected: 0,
         }
     }
 
+    /// The number of groups.
+    pub fn len(&self) -> usize
+        ensures { result ≡ length self.now }
+    {
+        self.groups.len()
+    }
+
+    // Makes room for the cells of all groups that are expected, where they are as many of each as of
+    // the next. Where there is no memory for that, the list grows as groups come.
+    fn make_room(&mut self, width: usize)
+        ensures { self.new ≡ self.old }
+    {
+        if self.expected > 0 {
+            let _ = self.cells.reserve(self.expected.saturating_mul(width));
+            self.expected = 0;
+        }
+    }
+
+    // Puts a group behind the others.
     fn add(&mut self, key: Key, values: &mut Vec<Value>) -> Result<(), AllocError>
         ensures { OnOk result (self.new ≡ self.old ++ (key, values.old.items) ∷ []) }
     {
-        self.groups.push(GroupValues::new(key, values)?)?;
+        self.make_room(key.len() + values.len());
+        let front = front_in(&[], key.cells());
+        let start = self.cells.len();
+        move_cells(&mut self.cells, key)?;
+        let middle = self.cells.len();
+        self.cells.append(values)?;
+        let end = self.cells.len();
+        self.groups.push(GroupSpan {
+            front,
+            start,
+            middle,
+            end,
+        })?;
         Ok(())
     }
 
-    pub fn into_vec(self) -> Vec<GroupValues>
-        ensures { result.items ≡ self }
+    /// The values of the key of a group.
+    pub fn key(&self, group: usize) -> &[Value]
+        requires { group < length self.now }
+        ensures { result.now ≡ (slice_index_or self.now group ([], [])).0 }
     {
+        let span = self.groups[group];
+        &self.cells[span.start..span.middle]
+    }
+
+    /// What is shown of a group.
+    pub fn values(&self, group: usize) -> &[Value]
+        requires { group < length self.now }
+        ensures { result.now ≡ (slice_index_or self.now group ([], [])).1 }
+    {
+        let span = self.groups[group];
+        &self.cells[span.middle..span.end]
+    }
+
+    /// Puts the group of a key behind the others, of which the key is a copy. The values move out of
+    /// the list that is lent.
+    pub fn add_copy(
+        &mut self,
+        alloc: Global,
+        key: &[Value],
+        values: &mut Vec<Value>,
+    ) -> Result<(), AllocError>
+        ensures added { OnOk result (self.new ≡ self.old ++ (key.now, values.old.items) ∷ []) }
+        ensures moved { OnOk result (values.new.items ≡ []) }
+    {
+        let front = front_in(&[], key);
+        let start = self.cells.len();
+        copy_cells(alloc, &mut self.cells, key)?;
+        let middle = self.cells.len();
+        self.cells.append(values)?;
+        let end = self.cells.len();
+        self.groups.push(GroupSpan {
+            front,
+            start,
+            middle,
+            end,
+        })?;
+        Ok(())
+    }
+
+    /// Sorts the groups by their keys: by the fronts of these first, and by whole keys where fronts tie.
+    pub fn sort(&mut self)
+        ensures moved { IsPermutation self.old self.new }
+        ensures ascending { IsSortedByKey (λ (g : Group). g.0) compare_keys self.new }
+    {
+        let cells = self.cells.as_slice();
         self.groups
+            .sort_unstable_by(|a, b| compare_spans(cells, a, b));
+    }
+
+    /// The result rows of the groups: of each the key's values, and then the others. No cell moves.
+    pub fn into_rows(self, alloc: Global) -> Result<Rows, AllocError>
+        ensures { IfOk result (λ rows. rows ≡ map row_of self) }
+    {
+        let mut spans = Vec::with_capacity(alloc, self.groups.len())?;
+        for group in &self.groups {
+            spans.push(Span {
+                start: group.start,
+                end: group.end,
+            })?;
+        }
+        Ok(Rows::of(self.cells, spans))
+    }
+
+    /// Those without the values of the keys.
+    pub fn into_values(self, alloc: Global) -> Result<Rows, AllocError>
+        ensures { IfOk result (λ rows. rows ≡ map (λ (g : Group). g.1) self) }
+    {
+        let mut spans = Vec::with_capacity(alloc, self.groups.len())?;
+        for group in &self.groups {
+            spans.push(Span {
+                start: group.middle,
+                end: group.end,
+            })?;
+        }
+        Ok(Rows::of(self.cells, spans))
+    }
+}
+
+// Puts the values of a key behind others. They move.
+fn move_cells(cells: &mut Vec<Value>, key: Key) -> Result<(), AllocError>
+    ensures moved { OnOk result (cells.new.items ≡ cells.old.items ++ key) }
+    ensures kept { IsLonger cells.old.items cells.new.items }
+{
+    for value in key.into_cells() {
+        cells.push(value)?;
+    }
+    Ok(())
+}
+
+// Puts copies of values behind others.
+pub(crate) fn copy_cells(
+    alloc: Global,
+    cells: &mut Vec<Value>,
+    values: &[Value],
+) -> Result<(), AllocError>
+    ensures copied { OnOk result (cells.new.items ≡ cells.old.items ++ values.now) }
+    ensures kept { IsLonger cells.old.items cells.new.items }
+{
+    for value in values {
+        cells.push(value.copy(alloc)?)?;
+    }
+    Ok(())
+}
+
+// The key that stands at a span, or none where the span is not of this list.
+#[inline]
+fn key_in<'a>(cells: &'a [Value], span: &GroupSpan) -> &'a [Value]
+    ensures { result.now ≡ key_in cells.now span.now }
+{
+    if span.start <= span.middle && span.middle <= cells.len() {
+        &cells[span.start..span.middle]
+    } else {
+        &[]
+    }
+}
+
+// The order of the keys that stand at two spans.
+#[inline]
+fn compare_spans(cells: &[Value], a: &GroupSpan, b: &GroupSpan) -> Ordering
+    ensures { result ≡ compare_at cells.now a.now b.now }
+{
+    match a.front.cmp(&b.front) {
+        Ordering::Equal => compare_cells(key_in(cells, a), key_in(cells, b)),
+        told => told,
     }
 }
 
@@ -204,6 +246,7 @@ impl<S: RunStore> GroupSink<S> for GroupList {
 
     fn make_room(&mut self, groups: usize) {
         let _ = self.groups.reserve(groups);
+        self.expected = groups;
     }
 
     fn push(&mut self, store: &mut S, key: Key, values: &mut Vec<Value>) -> Result<(), Refusal> {

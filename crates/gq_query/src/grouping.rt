@@ -1,26 +1,26 @@
 //! The groups of the rows that a query is about, in order.
-ghost use Rattle.std.specs.Prelude.{◌≡◌, ◌+◌, ◌<◌, All, IsTrue, IfOk, OnOk, IfErr, IsErrOf, None, Some, filter, length, map, insert, option_copied, ◌∷◌, []};
+ghost use Rattle.std.specs.Prelude.{◌≡◌, ◌+◌, ◌<◌, All, IsTrue, IfOk, OnOk, IfErr, IsErrOf, None, Some, ◌++◌, filter, insert, length, option_copied, slice_index_or, ◌∷◌, []};
 ghost use Rattle.std.specs.List.{list_all};
+ghost use Rattle.gq_row.specs.declared.value.Value.TheVariants.{Null};
 ghost use Rattle.gq_group.specs.Access.{LeavesOthers, HasCause, GroupCause};
 ghost use Rattle.gq_select.specs.Truths.{keeps};
 ghost use Rattle.gq_select.specs.declared.shown.Shown.TheVariants.{CountDistinct as Different};
 ghost use Rattle.gq_query.specs.Sources.{no_runs};
 ghost use Rattle.gq_select.specs.Asking.{CanMatch, can_show};
 ghost use Rattle.gq_query.specs.Keeping.{HasColumns, kept_rows};
-ghost use Rattle.gq_query.specs.Joining.{AreShown, aggregates_of, so_far, first_of, joined, folded_answer};
+ghost use Rattle.gq_query.specs.Joining.{AreShown, aggregates_of, so_far, joined, folded_answer};
 ghost use Rattle.gq_query.specs.Rollups.{group_answer, grouping_sets};
 ghost use Rattle.gq_query.specs.Selecting.{other_columns, rows_selected};
 ghost use Rattle.gq_query.specs.Work.{IsSpentOn, RisesBy};
 
 use crate::cells::aggs_of;
-use crate::group_list::GroupValues;
+use crate::group_list::{GroupList, copy_cells};
 use crate::kept::Kept;
-use crate::ordering::sort_groups;
 use crate::query::Query;
 use crate::selection::{Selection, other_keys};
 use crate::spending::both_spent;
 use gq_group::{Budget, Refusal, Spent};
-use gq_row::{Key, Row, Sequence};
+use gq_row::{Key, Rows, Value};
 use gq_select::{Condition, Shown, having};
 use gq_spill::RunStore;
 use std::alloc::{AllocError, Global};
@@ -45,13 +45,13 @@ impl<'a, H: KeyHash<Key> + Copy> Query<'a, H> {
         &self,
         shown: &[Shown],
         store: &mut S,
-    ) -> Result<(Vec<GroupValues>, Spent), Refusal>
+    ) -> Result<(GroupList, Spent), Refusal>
         requires columns { HasColumns self.now }
         requires shown { IsTrue
             (list_all (can_show self.now.table.now.heading.columns) shown.now) }
         ensures groups { IsTrue (S.runs store.old).honest →
             IfOk result (λ found. AreShown self.now.by.now (aggregates_of shown.now)
-            (kept_rows self.now) found.0.items) }
+            (kept_rows self.now) found.0) }
         ensures spent { IsTrue (S.runs store.old).honest →
             IfOk result (λ found. IsSpentOn self.now.budget.entries self.now.by.now
             (kept_rows self.now) found.1) }
@@ -64,26 +64,22 @@ impl<'a, H: KeyHash<Key> + Copy> Query<'a, H> {
             return Err(Refusal::Memory);
         };
         let (mut groups, spent) = self.groups_of(aggs.as_slice(), store)?;
-        let Ok(()) = sort_groups(&mut groups) else {
-            return Err(Refusal::Memory);
-        };
+        groups.sort();
         Ok((groups, spent))
     }
 
     // The counts of different values in the order of the keys.
-    fn counts<S: RunStore>(&self, column: usize, store: &mut S) -> Result<Vec<GroupValues>, Refusal>
+    fn counts<S: RunStore>(&self, column: usize, store: &mut S) -> Result<GroupList, Refusal>
         requires columns { HasColumns self.now }
         requires column { column < length self.now.table.now.heading.columns }
         ensures counts { IsTrue (S.runs store.old).honest →
             IfOk result (λ counts. AreShown self.now.by.now (Different column ∷ [])
-            (kept_rows self.now) counts.items) }
+            (kept_rows self.now) counts) }
         ensures others { LeavesOthers no_runs no_runs (S.runs store.old) (S.runs store.new) }
         ensures cause { IfErr result (λ e. HasCause e (S.runs store.old) (S.runs store.new)) }
     {
         let mut counts = self.counts_of(column, store)?;
-        let Ok(()) = sort_groups(&mut counts) else {
-            return Err(Refusal::Memory);
-        };
+        counts.sort();
         Ok(counts)
     }
 
@@ -93,7 +89,7 @@ impl<'a, H: KeyHash<Key> + Copy> Query<'a, H> {
         &self,
         shown: &[Shown],
         place: usize,
-        groups: &mut Vec<GroupValues>,
+        groups: &mut GroupList,
         store: &mut S,
     ) -> Result<(), Refusal>
         requires columns { HasColumns self.now }
@@ -101,10 +97,10 @@ impl<'a, H: KeyHash<Key> + Copy> Query<'a, H> {
             (list_all (can_show self.now.table.now.heading.columns) shown.now) }
         requires within { place < length shown.now }
         requires groups { IsTrue (S.runs store.old).honest → AreShown self.now.by.now
-            (so_far place shown.now) (kept_rows self.now) groups.old.items }
+            (so_far place shown.now) (kept_rows self.now) groups.old }
         ensures groups { IsTrue (S.runs store.old).honest →
             OnOk result (AreShown self.now.by.now (so_far (place + 1) shown.now)
-            (kept_rows self.now) groups.new.items) }
+            (kept_rows self.now) groups.new) }
         ensures others { LeavesOthers no_runs no_runs (S.runs store.old) (S.runs store.new) }
         ensures cause { IfErr result (λ e. HasCause e (S.runs store.old) (S.runs store.new)) }
     {
@@ -115,8 +111,11 @@ impl<'a, H: KeyHash<Key> + Copy> Query<'a, H> {
         if counts.len() != groups.len() {
             return Err(Refusal::Damaged);
         }
-        match join_counts(self.alloc, groups.as_mut_slice(), place, counts.as_slice()) {
-            Ok(()) => Ok(()),
+        match join_counts(self.alloc, groups, place, &counts) {
+            Ok(joined) => {
+                *groups = joined;
+                Ok(())
+            }
             Err(_) => Err(Refusal::Memory),
         }
     }
@@ -127,13 +126,13 @@ impl<'a, H: KeyHash<Key> + Copy> Query<'a, H> {
         &self,
         shown: &[Shown],
         store: &mut S,
-    ) -> Result<(Vec<GroupValues>, Spent), Refusal>
+    ) -> Result<(GroupList, Spent), Refusal>
         requires columns { HasColumns self.now }
         requires shown { IsTrue
             (list_all (can_show self.now.table.now.heading.columns) shown.now) }
         ensures groups { IsTrue (S.runs store.old).honest →
             IfOk result (λ found. AreShown self.now.by.now shown.now
-            (kept_rows self.now) found.0.items) }
+            (kept_rows self.now) found.0) }
         ensures spent { IsTrue (S.runs store.old).honest →
             IfOk result (λ found. IsSpentOn self.now.budget.entries self.now.by.now
             (kept_rows self.now) found.1) }
@@ -157,13 +156,13 @@ impl<'a, H: KeyHash<Key> + Copy> Query<'a, H> {
         grouping: &Grouping<'_>,
         store: &mut S,
         spent: Spent,
-    ) -> Result<(Vec<Row>, Spent), Refusal>
+    ) -> Result<(Rows, Spent), Refusal>
         requires columns { HasColumns self.now }
         requires shown { IsTrue (list_all (can_show self.now.table.now.heading.columns)
             grouping.now.shown.now) }
         ensures rows { IsTrue (S.runs store.old).honest → IfOk result
             (λ found. group_answer grouping.now.rollup self.now.by.now grouping.now.shown.now
-            grouping.now.having.now.tests (kept_rows self.now) ≡ Some found.0.items) }
+            grouping.now.having.now.tests (kept_rows self.now) ≡ Some found.0) }
         ensures spent { IfOk result (λ found. RisesBy (S.runs store.old).honest
             self.now.budget.entries (kept_rows self.now)
             (grouping_sets grouping.now.rollup self.now.by.now) spent found.1) }
@@ -182,40 +181,66 @@ impl<'a, H: KeyHash<Key> + Copy> Query<'a, H> {
     }
 }
 
-// Puts each count at a place among the values of its group.
+// The groups with each count at a place among the values of its group.
 fn join_counts(
     alloc: Global,
-    groups: &mut [GroupValues],
+    groups: &GroupList,
     place: usize,
-    counts: &[GroupValues],
-) -> Result<(), AllocError>
-    requires { length groups.old ≡ length counts.now }
-    ensures { OnOk result (groups.new ≡ joined place groups.old counts.now) }
+    counts: &GroupList,
+) -> Result<GroupList, AllocError>
+    requires { length groups.now ≡ length counts.now }
+    ensures { IfOk result (λ all. all ≡ joined place groups.now counts.now) }
 {
-    'groups: for i in 0..counts.len() {
-        join_count(alloc, &mut groups[i], place, &counts[i])?;
+    let mut all = GroupList::new(alloc);
+    let mut values = Vec::new(alloc);
+    for i in 0..counts.len() {
+        values.clear();
+        write_joined(
+            alloc,
+            &mut values,
+            groups.values(i),
+            place,
+            counts.values(i),
+        )?;
+        all.add_copy(alloc, groups.key(i), &mut values)?;
     }
-    Ok(())
+    Ok(all)
 }
 
-fn join_count(
+// Writes copies of the values of a group behind others, with the one value of a count, or null where it
+// has none, at a place among them, or behind all where there are no more than that.
+fn write_joined(
     alloc: Global,
-    group: &mut GroupValues,
+    into: &mut Vec<Value>,
+    values: &[Value],
     place: usize,
-    count: &GroupValues,
+    count: &[Value],
 ) -> Result<(), AllocError>
-    ensures { OnOk result (group.new ≡
-        (group.old.0, insert group.old.1 place (first_of count.now))) }
+    ensures { OnOk result (into.new.items ≡
+        into.old.items ++ insert values.now place (slice_index_or count.now 0 Null)) }
 {
-    group.insert(place, count.first(alloc)?)
+    let (before, behind) = values.split_at(place.min(values.len()));
+    copy_cells(alloc, into, before)?;
+    match count.first() {
+        Some(value) => into.push(value.copy(alloc)?)?,
+        None => into.push(Value::Null)?,
+    }
+    copy_cells(alloc, into, behind)
 }
 
 // The rows for which a condition is true.
-fn rows_having(rows: Vec<Row>, condition: &Condition) -> Vec<Row>
-    ensures { result.items ≡ filter (keeps condition.now.tests) rows.items }
+fn rows_having(rows: Rows, condition: &Condition) -> Rows
+    ensures { result ≡ filter (keeps condition.now.tests) rows }
 {
     let mut rows = rows;
-    rows.retain(|row| having(condition, row));
+    let mut kept = 0;
+    for i in 0..rows.len() {
+        if having(condition, rows.row(i)) {
+            rows.swap(kept, i);
+            kept += 1;
+        }
+    }
+    rows.truncate(kept);
     rows
 }
 
@@ -242,7 +267,7 @@ pub fn group_rows<H: KeyHash<Key> + Copy, S: RunStore>(
     store: &mut S,
     budget: Budget,
     spent: Spent,
-) -> Result<(Sequence<Row>, Spent), Refusal>
+) -> Result<(Rows, Spent), Refusal>
     requires by { All (λ column. column < length selection.now.table.now.heading.columns)
         grouping.now.by.now }
     requires shown { IsTrue (list_all (can_show selection.now.table.now.heading.columns)
@@ -278,6 +303,5 @@ pub fn group_rows<H: KeyHash<Key> + Copy, S: RunStore>(
         by: grouping.by,
         budget,
     };
-    let (rows, spent) = query.answer(grouping, store, spent)?;
-    Ok((Sequence::new(rows), spent))
+    query.answer(grouping, store, spent)
 }

@@ -2,7 +2,7 @@
 ghost use Rattle.std.specs.Prelude.{◌≡◌, ◌+◌, ◌≤◌, ◌<◌, ◌∷◌, [], ℕ, All, IfSome, OnSome, IfNone, List, filter, length, option_copied};
 ghost use Rattle.gq_query.specs.Keeping.{AreLong, is_found, is_kept, ours_of};
 
-use gq_row::{Key, Row};
+use gq_row::{Key, Value};
 use gq_select::{Condition, KeySet, Matching, anti_join, filter, semi_join};
 use gq_table::RowIter;
 use sw_probe::KeyHash;
@@ -19,7 +19,7 @@ pub struct Kept<'a, H: KeyHash<Key>> {
 impl<'a, H: KeyHash<Key>> Kept<'a, H> {
     /// Whether a row is kept. Nothing is copied, and its key is looked up at most once.
     #[inline]
-    pub fn keeps(&self, row: &Row) -> bool
+    pub fn keeps(&self, row: &[Value]) -> bool
         requires { All (λ column. column < length row.now)
             (ours_of (option_copied self.now.matching)) }
         ensures { result ≡ is_kept self.now row.now }
@@ -29,7 +29,7 @@ impl<'a, H: KeyHash<Key>> Kept<'a, H> {
 
     // Whether it has the match that is asked for, if one is.
     #[inline]
-    fn matches(&self, row: &Row) -> bool
+    fn matches(&self, row: &[Value]) -> bool
         requires { All (λ column. column < length row.now)
             (ours_of (option_copied self.now.matching)) }
         ensures { result ≡ is_found (option_copied self.now.matching) self.now.keys.now row.now }
@@ -46,7 +46,7 @@ impl<'a, H: KeyHash<Key>> Kept<'a, H> {
 
     /// The next of some rows that is kept. Those before it are passed over.
     #[inline]
-    pub fn next_of<'b>(&self, rows: &mut RowIter<'b, H>) -> Option<&'b Row>
+    pub fn next_of<'b>(&self, rows: &mut RowIter<'b, H>) -> Option<&'b [Value]>
         requires { AreLong (ours_of (option_copied self.now.matching)) rows.old }
         ensures kept { IfSome result (λ row. filter (is_kept self.now) rows.old ≡
             row.now ∷ filter (is_kept self.now) rows.new) }

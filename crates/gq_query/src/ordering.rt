@@ -1,39 +1,26 @@
 //! Rows in the order in which queries give them.
 //!
-//! Each sort is by fronts first: these are made once, compared in place, and move each row once.
-//! What they leave is mostly in order, so that the sort behind it is one look over it, and moves rows
-//! again among ties alone. Groups keep their fronts, and are compared by whole keys only where these
-//! tie; rows are compared whole.
-ghost use Rattle.std.specs.Prelude.{◌≡◌, OnOk, IsPermutation};
-ghost use Rattle.std.specs.List.Sorted.{IsSortedByKey};
-ghost use Rattle.gq_group.specs.Groups.{Group};
+//! References are sorted, and no row moves: by fronts first, which are made once and compared in place.
+//! What they leave is mostly in order, so that the sort by whole rows behind it is one look over it, and
+//! moves references again among ties alone. Groups keep their fronts, and are sorted where they stand.
+ghost use Rattle.std.specs.Prelude.{◌≡◌, OnOk, map};
 ghost use Rattle.gq_row.specs.Laws.{IsArranged};
 ghost use Rattle.gq_row.specs.Order.{compare_keys, folded_order};
 ghost use Rattle.gq_row.specs.Rows.{cell, key_of};
 ghost use Rattle.gq_query.specs.Answers.{ordered_by};
 
 use crate::front::front_in;
-use crate::group_list::GroupValues;
-use gq_row::{Row, Value, compare_cells, compare_folded};
+use gq_row::{Value, compare_cells, compare_folded};
 use std::alloc::AllocError;
 use std::cmp::Ordering;
 
 /// Sorts rows by their keys in some columns, or by all of their values where none are named.
-pub fn sort_rows(rows: &mut Vec<Row>, columns: &[usize]) -> Result<(), AllocError>
-    ensures { OnOk result (IsArranged (ordered_by columns.now) rows.old.items rows.new.items) }
+pub fn sort_rows(rows: &mut Vec<&[Value]>, columns: &[usize]) -> Result<(), AllocError>
+    ensures { OnOk result (IsArranged (ordered_by columns.now)
+        (map (λ row. row.now) rows.old.items) (map (λ row. row.now) rows.new.items)) }
 {
-    rows.sort_by_cached_key(|row| front_in(columns, row.cells()))?;
-    rows.sort_by(|a, b| compare_rows(columns, a.cells(), b.cells()))
-}
-
-/// Sorts groups by their keys.
-pub fn sort_groups(groups: &mut Vec<GroupValues>) -> Result<(), AllocError>
-    ensures moved { IsPermutation groups.old.items groups.new.items }
-    ensures ascending { OnOk result
-        (IsSortedByKey (λ (g : Group). g.0) compare_keys groups.new.items) }
-{
-    groups.sort_by_cached_key(|group| group.front())?;
-    groups.sort_by(|a, b| a.compare_keys(b))
+    rows.sort_by_cached_key(|row| front_in(columns, row))?;
+    rows.sort_by(|a, b| compare_rows(columns, a, b))
 }
 
 fn compare_rows(columns: &[usize], a: &[Value], b: &[Value]) -> Ordering

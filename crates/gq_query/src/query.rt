@@ -12,7 +12,7 @@ ghost use Rattle.gq_query.specs.Keeping.{HasColumns, kept_rows};
 ghost use Rattle.gq_query.specs.Work.{IsSpentOn};
 
 use crate::cells::{columns_used, place_aggs, place_columns, place_of};
-use crate::group_list::{GroupList, GroupValues};
+use crate::group_list::GroupList;
 use crate::kept::Kept;
 use crate::table_rows::TableRows;
 use gq_agg::AggKind;
@@ -43,12 +43,12 @@ impl<'a, H: KeyHash<Key> + Copy> Query<'a, H> {
         &self,
         aggs: &[(AggKind, usize)],
         store: &mut S,
-    ) -> Result<(Vec<GroupValues>, Spent), Refusal>
+    ) -> Result<(GroupList, Spent), Refusal>
         requires columns { HasColumns self.now }
         requires aggs { IsTrue (list_all (can_take self.now.table.now.heading.columns) aggs.now) }
         ensures groups { IsTrue (S.runs store.old).honest →
             IfOk result (λ found. AreGroups (record { by = self.now.by.now; aggs = aggs.now })
-            (kept_rows self.now) found.0.items) }
+            (kept_rows self.now) found.0) }
         ensures spent { IsTrue (S.runs store.old).honest →
             IfOk result (λ found. IsSpentOn self.now.budget.entries self.now.by.now
             (kept_rows self.now) found.1) }
@@ -80,20 +80,16 @@ impl<'a, H: KeyHash<Key> + Copy> Query<'a, H> {
             store,
             self.budget,
         )?;
-        Ok((sink.into_vec(), spent))
+        Ok((sink, spent))
     }
 
     /// How many different values the rows of each key have in a column, in some order.
-    pub fn counts_of<S: RunStore>(
-        &self,
-        column: usize,
-        store: &mut S,
-    ) -> Result<Vec<GroupValues>, Refusal>
+    pub fn counts_of<S: RunStore>(&self, column: usize, store: &mut S) -> Result<GroupList, Refusal>
         requires columns { HasColumns self.now }
         requires column { column < length self.now.table.now.heading.columns }
         ensures counts { IsTrue (S.runs store.old).honest →
             IfOk result (λ counts. IsPermutation
-            (distinct_groups self.now.by.now column (kept_rows self.now)) counts.items) }
+            (distinct_groups self.now.by.now column (kept_rows self.now)) counts) }
         ensures others { LeavesOthers no_runs no_runs (S.runs store.old) (S.runs store.new) }
         ensures cause { IfErr result (λ e. HasCause e (S.runs store.old) (S.runs store.new)) }
     {
@@ -121,16 +117,16 @@ impl<'a, H: KeyHash<Key> + Copy> Query<'a, H> {
             store,
             self.budget,
         )?;
-        Ok(sink.into_vec())
+        Ok(sink)
     }
 
     /// The different keys of the rows that are kept, in some order, as groups of which nothing is
     /// told but their keys.
-    pub fn keys<S: RunStore>(&self, store: &mut S) -> Result<Vec<GroupValues>, Refusal>
+    pub fn keys<S: RunStore>(&self, store: &mut S) -> Result<GroupList, Refusal>
         requires columns { HasColumns self.now }
         requires some { 0 < length self.now.by.now }
         ensures keys { IsTrue (S.runs store.old).honest → IfOk result
-            (λ keys. IsPermutation (bare_keys self.now.by.now (kept_rows self.now)) keys.items) }
+            (λ keys. IsPermutation (bare_keys self.now.by.now (kept_rows self.now)) keys) }
         ensures others { LeavesOthers no_runs no_runs (S.runs store.old) (S.runs store.new) }
         ensures cause { IfErr result (λ e. HasCause e (S.runs store.old) (S.runs store.new)) }
     {
@@ -156,7 +152,7 @@ impl<'a, H: KeyHash<Key> + Copy> Query<'a, H> {
             store,
             self.budget,
         )?;
-        Ok(sink.into_vec())
+        Ok(sink)
     }
 }
 

@@ -3,7 +3,7 @@
 //! Each level is a grouping of its own, by a front of the columns: by none for the total, and by one more
 //! at each level. Its result rows get a null for each other column before `having` is asked, and the
 //! number of the level in front after it.
-ghost use Rattle.std.specs.Prelude.{◌≡◌, ◌≤◌, ◌<◌, ◌∷◌, true, All, IsTrue, IfOk, IfErr, IsErrOf, None, Some, pos, length, map, filter, take};
+ghost use Rattle.std.specs.Prelude.{◌≡◌, ◌≤◌, ◌++◌, ◌∷◌, true, IsTrue, IfOk, IfErr, OnOk, IsErrOf, None, Some, pos, length, map, filter, take};
 ghost use Rattle.std.specs.List.{list_all};
 ghost use Rattle.gq_row.specs.declared.value.Value.TheVariants.{Int};
 ghost use Rattle.gq_group.specs.Access.{LeavesOthers, GroupCause};
@@ -14,58 +14,61 @@ ghost use Rattle.gq_query.specs.Rollups.{filled, level_rows, rows_of_levels, lev
 ghost use Rattle.gq_query.specs.Sources.{no_runs};
 ghost use Rattle.gq_query.specs.Work.{IsSpentOn, RisesBy};
 
+use crate::group_list::copy_cells;
 use crate::query::Query;
 use crate::spending::both_spent;
 use gq_group::{Refusal, Spent};
-use gq_row::{Key, Row, Value};
+use gq_row::{Key, Rows, Value};
 use gq_select::{Condition, Shown, having};
 use gq_spill::RunStore;
 use std::alloc::{AllocError, Global};
 use sw_probe::KeyHash;
 
-// A result row of so many of the first of some columns, with a null for each other behind its key.
-fn filled_row(row: Row, level: usize, columns: usize) -> Result<Row, AllocError>
+// A result row of so many of the first of some columns, with a null for each other behind its key, put
+// behind the number of its level.
+fn write_filled(
+    alloc: Global,
+    cells: &mut Vec<Value>,
+    row: &[Value],
+    level: usize,
+    columns: usize,
+) -> Result<(), AllocError>
     requires { level ≤ columns }
-    ensures { IfOk result (λ all. all ≡ filled level columns row) }
+    ensures { OnOk result (cells.new.items ≡ cells.old.items ++ filled level columns row.now) }
 {
-    let end = row.len().min(level);
-    let mut cells = row.into_cells();
+    let (key, shown) = row.split_at(row.len().min(level));
+    copy_cells(alloc, cells, key)?;
     for _ in level..columns {
-        cells.insert(end, Value::Null)?;
+        cells.push(Value::Null)?;
     }
-    Ok(Row::new(cells))
+    copy_cells(alloc, cells, shown)
 }
 
-// The number of a level and a result row of it.
-fn numbered_row(row: Row, level: usize) -> Result<Row, AllocError>
-    ensures { IfOk result (λ all. all ≡ Int (pos level) ∷ row) }
+// The result rows of a level, of so many of the first of some columns, that `having` keeps, each behind
+// the number of the level.
+fn rows_leveled(
+    alloc: Global,
+    rows: &Rows,
+    level: usize,
+    columns: usize,
+    condition: &Condition,
+) -> Result<Rows, AllocError>
+    requires { level ≤ columns }
+    ensures { IfOk result (λ found. found ≡ map (λ row. Int (pos level) ∷ row)
+        (filter (keeps condition.now.tests) (map (filled level columns) rows.now))) }
 {
     // There is no memory for a list of so many columns that this fails.
     let Ok(number) = i64::try_from(level) else {
         return Err(AllocError);
     };
-    let mut cells = row.into_cells();
-    cells.insert(0, Value::Int(number))?;
-    Ok(Row::new(cells))
-}
-
-// The result rows of a level, of so many of the first of some columns, that `having` keeps.
-fn rows_leveled(
-    alloc: Global,
-    rows: Vec<Row>,
-    level: usize,
-    columns: usize,
-    condition: &Condition,
-) -> Result<Vec<Row>, AllocError>
-    requires { level ≤ columns }
-    ensures { IfOk result (λ found. found.items ≡ map (λ row. Int (pos level) ∷ row)
-        (filter (keeps condition.now.tests) (map (filled level columns) rows.items))) }
-{
-    let mut kept = Vec::with_capacity(alloc, rows.len())?;
-    for row in rows {
-        let row = filled_row(row, level, columns)?;
-        if having(condition, &row) {
-            kept.push(numbered_row(row, level)?)?;
+    let mut kept = Rows::new(alloc);
+    let mut cells = Vec::new(alloc);
+    for i in 0..rows.len() {
+        cells.clear();
+        cells.push(Value::Int(number))?;
+        write_filled(alloc, &mut cells, rows.row(i), level, columns)?;
+        if having(condition, &cells[1..]) {
+            kept.push(&mut cells)?;
         }
     }
     Ok(kept)
@@ -79,14 +82,14 @@ impl<'a, H: KeyHash<Key> + Copy> Query<'a, H> {
         shown: &[Shown],
         condition: &Condition,
         store: &mut S,
-    ) -> Result<(Vec<Row>, Spent), Refusal>
+    ) -> Result<(Rows, Spent), Refusal>
         requires columns { HasColumns self.now }
         requires within { level ≤ length self.now.by.now }
         requires shown { IsTrue
             (list_all (can_show self.now.table.now.heading.columns) shown.now) }
         ensures rows { IsTrue (S.runs store.old).honest → IfOk result
             (λ found. level_rows self.now.by.now shown.now condition.now.tests
-            (kept_rows self.now) level ≡ Some found.0.items) }
+            (kept_rows self.now) level ≡ Some found.0) }
         ensures spent { IsTrue (S.runs store.old).honest →
             IfOk result (λ found. IsSpentOn self.now.budget.entries (take level self.now.by.now)
             (kept_rows self.now) found.1) }
@@ -105,7 +108,7 @@ impl<'a, H: KeyHash<Key> + Copy> Query<'a, H> {
             budget: self.budget,
         };
         let (rows, spent) = query.rows(shown, store)?;
-        match rows_leveled(self.alloc, rows, level, self.by.len(), condition) {
+        match rows_leveled(self.alloc, &rows, level, self.by.len(), condition) {
             Ok(rows) => Ok((rows, spent)),
             Err(_) => Err(Refusal::Memory),
         }
@@ -119,13 +122,13 @@ impl<'a, H: KeyHash<Key> + Copy> Query<'a, H> {
         condition: &Condition,
         store: &mut S,
         spent: Spent,
-    ) -> Result<(Vec<Row>, Spent), Refusal>
+    ) -> Result<(Rows, Spent), Refusal>
         requires columns { HasColumns self.now }
         requires shown { IsTrue
             (list_all (can_show self.now.table.now.heading.columns) shown.now) }
         ensures rows { IsTrue (S.runs store.old).honest → IfOk result
             (λ found. rows_of_levels self.now.by.now shown.now condition.now.tests
-            (kept_rows self.now) (levels self.now.by.now) ≡ Some found.0.items) }
+            (kept_rows self.now) (levels self.now.by.now) ≡ Some found.0) }
         ensures spent { IfOk result (λ found. RisesBy (S.runs store.old).honest
             self.now.budget.entries (kept_rows self.now) (grouping_sets true self.now.by.now)
             spent found.1) }
@@ -138,8 +141,8 @@ impl<'a, H: KeyHash<Key> + Copy> Query<'a, H> {
         let (mut rows, work) = self.level(0, shown, condition, store)?;
         let mut total = both_spent(spent, work);
         'levels: for fewer in 0..self.by.len() {
-            let (mut more, work) = self.level(fewer + 1, shown, condition, store)?;
-            let Ok(()) = rows.append(&mut more) else {
+            let (more, work) = self.level(fewer + 1, shown, condition, store)?;
+            let Ok(()) = rows.append(more) else {
                 return Err(Refusal::Memory);
             };
             total = both_spent(total, work);

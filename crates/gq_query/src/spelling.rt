@@ -16,12 +16,10 @@ ghost use Rattle.gq_query.specs.Sources.{no_runs};
 ghost use Rattle.gq_query.specs.Spelling.{has_spellings as may_differ, least_shown};
 ghost use Rattle.gq_query.specs.Work.{IsSpentOn};
 
-use crate::group_list::{leave_keys, rows_of};
-use crate::ordering::sort_groups;
 use crate::query::Query;
 use gq_agg::AggKind;
 use gq_group::{Refusal, Spent};
-use gq_row::{Column, Key, Kind, Row};
+use gq_row::{Column, Key, Kind, Rows};
 use gq_select::Shown;
 use gq_spill::RunStore;
 use std::alloc::{AllocError, Global};
@@ -70,13 +68,13 @@ impl<'a, H: KeyHash<Key> + Copy> Query<'a, H> {
         &self,
         shown: &[Shown],
         store: &mut S,
-    ) -> Result<(Vec<Row>, Spent), Refusal>
+    ) -> Result<(Rows, Spent), Refusal>
         requires columns { HasColumns self.now }
         requires shown { IsTrue
             (list_all (can_show self.now.table.now.heading.columns) shown.now) }
         ensures rows { IsTrue (S.runs store.old).honest →
             IfOk result (λ found. answer self.now.by.now shown.now
-            (kept_rows self.now) ≡ Some found.0.items) }
+            (kept_rows self.now) ≡ Some found.0) }
         ensures spent { IsTrue (S.runs store.old).honest →
             IfOk result (λ found. IsSpentOn self.now.budget.entries self.now.by.now
             (kept_rows self.now) found.1) }
@@ -98,7 +96,7 @@ impl<'a, H: KeyHash<Key> + Copy> Query<'a, H> {
         &self,
         shown: &[Shown],
         store: &mut S,
-    ) -> Result<(Vec<Row>, Spent), Refusal>
+    ) -> Result<(Rows, Spent), Refusal>
         requires columns { HasColumns self.now }
         requires shown { IsTrue
             (list_all (can_show self.now.table.now.heading.columns) shown.now) }
@@ -107,7 +105,7 @@ impl<'a, H: KeyHash<Key> + Copy> Query<'a, H> {
             self.now.table.now.rows) }
         ensures rows { IsTrue (S.runs store.old).honest →
             IfOk result (λ found. answer self.now.by.now shown.now
-            (kept_rows self.now) ≡ Some found.0.items) }
+            (kept_rows self.now) ≡ Some found.0) }
         ensures spent { IsTrue (S.runs store.old).honest →
             IfOk result (λ found. IsSpentOn self.now.budget.entries self.now.by.now
             (kept_rows self.now) found.1) }
@@ -117,7 +115,7 @@ impl<'a, H: KeyHash<Key> + Copy> Query<'a, H> {
         ensures cause { IfErr result (λ e. GroupCause e (S.runs store.old) (S.runs store.new)) }
     {
         let (groups, spent) = self.show(shown, store)?;
-        match rows_of(self.alloc, groups) {
+        match groups.into_rows(self.alloc) {
             Ok(rows) => Ok((rows, spent)),
             Err(_) => Err(Refusal::Memory),
         }
@@ -128,13 +126,13 @@ impl<'a, H: KeyHash<Key> + Copy> Query<'a, H> {
         &self,
         shown: &[Shown],
         store: &mut S,
-    ) -> Result<(Vec<Row>, Spent), Refusal>
+    ) -> Result<(Rows, Spent), Refusal>
         requires columns { HasColumns self.now }
         requires shown { IsTrue
             (list_all (can_show self.now.table.now.heading.columns) shown.now) }
         ensures rows { IsTrue (S.runs store.old).honest →
             IfOk result (λ found. answer self.now.by.now shown.now
-            (kept_rows self.now) ≡ Some found.0.items) }
+            (kept_rows self.now) ≡ Some found.0) }
         ensures spent { IsTrue (S.runs store.old).honest →
             IfOk result (λ found. IsSpentOn self.now.budget.entries self.now.by.now
             (kept_rows self.now) found.1) }
@@ -146,20 +144,19 @@ impl<'a, H: KeyHash<Key> + Copy> Query<'a, H> {
         let Ok(all) = with_least(self.alloc, shown, self.by) else {
             return Err(Refusal::Memory);
         };
-        let (mut groups, spent) = self.show(all.as_slice(), store)?;
-        leave_keys(groups.as_mut_slice());
-        match rows_of(self.alloc, groups) {
+        let (groups, spent) = self.show(all.as_slice(), store)?;
+        match groups.into_values(self.alloc) {
             Ok(rows) => Ok((rows, spent)),
             Err(_) => Err(Refusal::Memory),
         }
     }
 
     /// The different keys of the rows that are kept, in order, each as it is shown.
-    pub fn different<S: RunStore>(&self, store: &mut S) -> Result<Vec<Row>, Refusal>
+    pub fn different<S: RunStore>(&self, store: &mut S) -> Result<Rows, Refusal>
         requires columns { HasColumns self.now }
         requires some { 0 < length self.now.by.now }
         ensures rows { IsTrue (S.runs store.old).honest →
-            IfOk result (λ rows. rows.items ≡ distinct_keys self.now.by.now
+            IfOk result (λ rows. rows ≡ distinct_keys self.now.by.now
             (kept_rows self.now)) }
         ensures others { LeavesOthers no_runs no_runs (S.runs store.old) (S.runs store.new) }
         ensures cause { IfErr result (λ e. HasCause e (S.runs store.old) (S.runs store.new)) }
@@ -172,34 +169,32 @@ impl<'a, H: KeyHash<Key> + Copy> Query<'a, H> {
         }
     }
 
-    fn different_alone<S: RunStore>(&self, store: &mut S) -> Result<Vec<Row>, Refusal>
+    fn different_alone<S: RunStore>(&self, store: &mut S) -> Result<Rows, Refusal>
         requires columns { HasColumns self.now }
         requires some { 0 < length self.now.by.now }
         requires alone { may_differ self.now.table.now.heading.columns self.now.by.now ≡ false }
         requires fitting { IsTrue (list_all (fits_columns self.now.table.now.heading.columns)
             self.now.table.now.rows) }
         ensures rows { IsTrue (S.runs store.old).honest →
-            IfOk result (λ rows. rows.items ≡ distinct_keys self.now.by.now
+            IfOk result (λ rows. rows ≡ distinct_keys self.now.by.now
             (kept_rows self.now)) }
         ensures others { LeavesOthers no_runs no_runs (S.runs store.old) (S.runs store.new) }
         ensures cause { IfErr result (λ e. HasCause e (S.runs store.old) (S.runs store.new)) }
     {
         let mut groups = self.keys(store)?;
-        let Ok(()) = sort_groups(&mut groups) else {
-            return Err(Refusal::Memory);
-        };
-        match rows_of(self.alloc, groups) {
+        groups.sort();
+        match groups.into_rows(self.alloc) {
             Ok(rows) => Ok(rows),
             Err(_) => Err(Refusal::Memory),
         }
     }
 
     // They are groups of which nothing but the key is shown.
-    fn different_spelled<S: RunStore>(&self, store: &mut S) -> Result<Vec<Row>, Refusal>
+    fn different_spelled<S: RunStore>(&self, store: &mut S) -> Result<Rows, Refusal>
         requires columns { HasColumns self.now }
         requires some { 0 < length self.now.by.now }
         ensures rows { IsTrue (S.runs store.old).honest →
-            IfOk result (λ rows. rows.items ≡ distinct_keys self.now.by.now
+            IfOk result (λ rows. rows ≡ distinct_keys self.now.by.now
             (kept_rows self.now)) }
         ensures others { LeavesOthers no_runs no_runs (S.runs store.old) (S.runs store.new) }
         ensures cause { IfErr result (λ e. HasCause e (S.runs store.old) (S.runs store.new)) }

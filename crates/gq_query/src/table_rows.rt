@@ -23,7 +23,7 @@ pub struct TableRows<'a, H: KeyHash<Key>> {
 
 // The row of a row's cells in some columns, written over another row.
 #[inline(always)]
-fn cells_of(alloc: Global, spare: Row, row: &Row, columns: &[usize]) -> Result<Row, AllocError>
+fn cells_of(alloc: Global, spare: Row, row: &[Value], columns: &[usize]) -> Result<Row, AllocError>
     requires { All (λ column. column < length row.now) columns.now }
     ensures { IfOk result (λ cells. cells ≡ cells_in columns.now row.now) }
 {
@@ -39,7 +39,7 @@ fn cells_of(alloc: Global, spare: Row, row: &Row, columns: &[usize]) -> Result<R
 fn write_cells(
     alloc: Global,
     cells: &mut [Value],
-    row: &Row,
+    row: &[Value],
     columns: &[usize],
 ) -> Result<(), AllocError>
     requires within { All (λ column. column < length row.now) columns.now }
@@ -47,7 +47,7 @@ fn write_cells(
     ensures { OnOk result (cells.new ≡ cells_in columns.now row.now) }
 {
     for i in 0..columns.len() {
-        write_cell(alloc, row.cell(columns[i]), &mut cells[i])?;
+        write_cell(alloc, &row[columns[i]], &mut cells[i])?;
     }
     Ok(())
 }
@@ -56,14 +56,14 @@ fn write_cells(
 fn push_cells(
     alloc: Global,
     cells: &mut Vec<Value>,
-    row: &Row,
+    row: &[Value],
     columns: &[usize],
 ) -> Result<(), AllocError>
     requires { All (λ column. column < length row.now) columns.now }
     ensures { OnOk result (cells.new.items ≡ cells.old.items ++ cells_in columns.now row.now) }
 {
     for column in columns {
-        cells.push(row.cell(*column).copy(alloc)?)?;
+        cells.push(row[*column].copy(alloc)?)?;
     }
     Ok(())
 }
@@ -86,7 +86,7 @@ fn write_text(alloc: Global, text: &Text, over: &mut Value) -> Result<(), AllocE
     ensures { OnOk result (over.new ≡ variant.Text text.now) }
 {
     match over {
-        Value::Text(old) => old.write(alloc, text.as_str())?,
+        Value::Text(old) => old.copy_from(alloc, text)?,
         _ => *over = Value::Text(text.copy(alloc)?),
     }
     Ok(())
@@ -96,7 +96,7 @@ fn write_without_case(alloc: Global, text: &Text, over: &mut Value) -> Result<()
     ensures { OnOk result (over.new ≡ variant.NoCase text.now) }
 {
     match over {
-        Value::NoCase(old) => old.write(alloc, text.as_str())?,
+        Value::NoCase(old) => old.copy_from(alloc, text)?,
         _ => *over = Value::NoCase(text.copy(alloc)?),
     }
     Ok(())

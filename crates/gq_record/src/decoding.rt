@@ -1,7 +1,8 @@
 //! Rows from records.
-ghost use Rattle.std.specs.Prelude.{◌≡◌, ◌≤◌, ◌<◌, ℕ, ◌^◌, All, List, ◌++◌, length, take, IfOk, IfSome, IfNone, FitsSigned};
+ghost use Rattle.std.specs.Prelude.{◌≡◌, ◌≤◌, ◌<◌, ℕ, ◌^◌, All, List, ◌++◌, length, take, IfOk, OnOk, IfSome, IfNone, FitsSigned};
 ghost use Rattle.std.specs.Int.{to_be_bytes, w32, w64};
 ghost use Rattle.gq_row.specs.declared.value.Value.{Value as Cell};
+ghost use Rattle.gq_row.specs.declared.value.Value.TheVariants as variant;
 ghost use Rattle.gq_record.specs.Records.{IsStorable, IsCell, IsText, record_of, body_of, value_bytes, with_length, number_bytes};
 
 use crate::kinds::{INT, NO_CASE, NULL, TEXT};
@@ -51,26 +52,50 @@ fn take_block(bytes: &[u8]) -> Option<(&[u8], &[u8])>
 }
 
 // The text at the front, and what follows it.
-fn take_text(alloc: Global, bytes: &[u8]) -> Result<Option<(Text, &[u8])>, AllocError>
-    ensures found { IfOk result (λ o. IfSome o (λ x. (bytes.now ≡ with_length x.0 ++ x.1.now) ×
-        IsText x.0)) }
-    ensures none { IfOk result (λ o. IfNone o ((text rest : List ℕ) → IsText text →
-        bytes.now ≡ with_length text ++ rest → ⊥)) }
+fn take_text(bytes: &[u8]) -> Option<(&str, &[u8])>
+    ensures found { IfSome result (λ x. (bytes.now ≡ with_length x.0.now ++ x.1.now) ×
+        IsText x.0.now) }
+    ensures none { IfNone result ((text rest : List ℕ) → IsText text →
+        bytes.now ≡ with_length text ++ rest → ⊥) }
 {
-    let Some((block, rest)) = take_block(bytes) else {
-        return Ok(None);
-    };
+    let (block, rest) = take_block(bytes)?;
     match str::from_utf8(block) {
-        Ok(chars) => Ok(Some((Text::of(alloc, chars)?, rest))),
-        Err(_) => Ok(None),
+        Ok(text) => Some((text, rest)),
+        Err(_) => None,
     }
 }
 
-// The value at the front, and what follows it.
+// Writes a text over a value; over a text of its kind in its memory, where that is enough.
+fn write_text(alloc: Global, text: &str, over: &mut Value) -> Result<(), AllocError>
+    ensures { OnOk result (over.new ≡ variant.Text text.now) }
+{
+    match over {
+        Value::Text(old) => old.write(alloc, text)?,
+        _ => *over = Value::Text(Text::of(alloc, text)?),
+    }
+    Ok(())
+}
+
+// Writes a text without case over a value, likewise.
+fn write_without_case(alloc: Global, text: &str, over: &mut Value) -> Result<(), AllocError>
+    ensures { OnOk result (over.new ≡ variant.NoCase text.now) }
+{
+    match over {
+        Value::NoCase(old) => old.write(alloc, text)?,
+        _ => *over = Value::NoCase(Text::of(alloc, text)?),
+    }
+    Ok(())
+}
+
+// Writes the value at the front over another, and gives what follows it.
 #[tactic(auto, unfolding(crate::specs::Records::value_bytes))]
-fn take_value(alloc: Global, bytes: &[u8]) -> Result<Option<(Value, &[u8])>, AllocError>
-    ensures found { IfOk result (λ o. IfSome o (λ x. (bytes.now ≡ value_bytes x.0 ++ x.1.now) ×
-        IsCell x.0)) }
+fn take_value<'a>(
+    alloc: Global,
+    bytes: &'a [u8],
+    over: &mut Value,
+) -> Result<Option<&'a [u8]>, AllocError>
+    ensures found { IfOk result (λ o. IfSome o (λ rest.
+        (bytes.now ≡ value_bytes over.new ++ rest.now) × IsCell over.new)) }
     ensures none { IfOk result (λ o. IfNone o ((value : Cell) (rest : List ℕ) → IsCell value →
         bytes.now ≡ value_bytes value ++ rest → ⊥)) }
 {
@@ -78,48 +103,72 @@ fn take_value(alloc: Global, bytes: &[u8]) -> Result<Option<(Value, &[u8])>, All
         return Ok(None);
     };
     match *tag {
-        NULL => Ok(Some((Value::Null, rest))),
-        INT => match take_number(rest) {
-            Some((n, rest)) => Ok(Some((Value::Int(n), rest))),
-            None => Ok(None),
-        },
-        TEXT => match take_text(alloc, rest)? {
-            Some((text, rest)) => Ok(Some((Value::Text(text), rest))),
-            None => Ok(None),
-        },
-        NO_CASE => match take_text(alloc, rest)? {
-            Some((text, rest)) => Ok(Some((Value::NoCase(text), rest))),
-            None => Ok(None),
-        },
+        NULL => {
+            *over = Value::Null;
+            Ok(Some(rest))
+        }
+        INT => {
+            let Some((n, rest)) = take_number(rest) else {
+                return Ok(None);
+            };
+            *over = Value::Int(n);
+            Ok(Some(rest))
+        }
+        TEXT => {
+            let Some((text, rest)) = take_text(rest) else {
+                return Ok(None);
+            };
+            write_text(alloc, text, over)?;
+            Ok(Some(rest))
+        }
+        NO_CASE => {
+            let Some((text, rest)) = take_text(rest) else {
+                return Ok(None);
+            };
+            write_without_case(alloc, text, over)?;
+            Ok(Some(rest))
+        }
         _ => Ok(None),
     }
 }
 
-// The row of this body. Room for so many values is made at once.
-fn take_body(alloc: Global, bytes: &[u8], room: usize) -> Result<Option<Row>, AllocError>
+// The row of this body, written over another row. Room for so many values is made at once.
+fn take_body(
+    alloc: Global,
+    bytes: &[u8],
+    room: usize,
+    spare: Row,
+) -> Result<Option<Row>, AllocError>
     ensures found { IfOk result (λ o. IfSome o (λ row. (bytes.now ≡ body_of row) ×
         All IsCell row)) }
     ensures none { IfOk result (λ o. IfNone o ((row : List Cell) → All IsCell row →
         bytes.now ≡ body_of row → ⊥)) }
 {
-    let mut cells = Vec::with_capacity(alloc, room)?;
+    let mut cells = spare.into_cells();
+    cells.reserve_exact(room.saturating_sub(cells.len()))?;
+    let mut count = 0;
     let mut rest = bytes;
     while !rest.is_empty() {
-        let Some((value, behind)) = take_value(alloc, rest)? else {
+        if count == cells.len() {
+            cells.push(Value::Null)?;
+        }
+        let Some(behind) = take_value(alloc, rest, &mut cells[count])? else {
             return Ok(None);
         };
-        cells.push(value)?;
         rest = behind;
+        count += 1;
     }
+    cells.truncate(count);
     Ok(Some(Row::new(cells)))
 }
 
-/// As [`decode_row`], for rows that mostly have so many columns: a row of them is one block of
-/// memory, beside its texts.
+/// As [`decode_row`], for rows that mostly have so many columns, and over the memory of `spare`, whose
+/// values are dropped: where that is enough the row takes none of its own.
 pub fn decode_row_with(
     alloc: Global,
     bytes: &[u8],
     columns: usize,
+    spare: Row,
 ) -> Result<Option<(Row, usize)>, AllocError>
     ensures within { IfOk result (λ o. IfSome o (λ found. found.1 ≤ length bytes.now)) }
     ensures found { IfOk result (λ o. IfSome o (λ found. (take found.1 bytes.now ≡ record_of
@@ -131,7 +180,7 @@ pub fn decode_row_with(
         return Ok(None);
     };
     // Each value takes a byte at least.
-    match take_body(alloc, body, columns.min(body.len()))? {
+    match take_body(alloc, body, columns.min(body.len()), spare)? {
         Some(row) => Ok(Some((row, 4 + body.len()))),
         None => Ok(None),
     }
@@ -146,5 +195,5 @@ pub fn decode_row(alloc: Global, bytes: &[u8]) -> Result<Option<(Row, usize)>, A
     ensures none { IfOk result (λ o. IfNone o ((row : List Cell) (n : ℕ) → IsStorable row →
         take n bytes.now ≡ record_of row → ⊥)) }
 {
-    decode_row_with(alloc, bytes, 0)
+    decode_row_with(alloc, bytes, 0, Row::new(Vec::new(alloc)))
 }

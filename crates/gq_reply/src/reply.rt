@@ -4,7 +4,7 @@ ghost use Rattle.gq_reply.specs.Refusals.{refused, told};
 ghost use Rattle.gq_reply.specs.Replies.{is_refusal as refuses};
 
 use crate::refusal::{Refusal, Refused};
-use gq_row::{Row, Sequence, Text};
+use gq_row::{Rows, Sequence, Text};
 
 /// The reply to a command.
 #[derive(Drop)]
@@ -12,15 +12,9 @@ pub enum Reply {
     /// Carried out; the number of rows that it put, or 0 for a new table.
     Done(u64),
     /// The rows of a query, under the names of their columns.
-    Rows {
-        header: Sequence<Text>,
-        rows: Sequence<Row>,
-    },
+    Rows { header: Sequence<Text>, rows: Rows },
     /// Refused, and no table changed; `number` is that of the faulty record of a payload.
-    Refused {
-        code: Refusal,
-        number: Option<u64>,
-    },
+    Refused { code: Refusal, number: Option<u64> },
 }
 
 impl Reply {

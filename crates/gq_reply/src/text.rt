@@ -7,7 +7,7 @@ ghost use Rattle.gq_reply.specs.Replies.{text, cell_text, record_text};
 use crate::reply::Reply;
 use crate::reply_line::{accepted_line, line_of};
 use csv::{ByteRecord, Writer, WriterBuilder};
-use gq_row::{Row, Sequence, Text, Value};
+use gq_row::{Rows, Sequence, Text, Value};
 use itoa::Buffer;
 use std::alloc::{AllocError, Global};
 
@@ -23,11 +23,7 @@ pub fn reply_text(alloc: Global, reply: &Reply) -> Result<Vec<u8>, AllocError>
 }
 
 /// The text of a query's reply: `ok` with the number of rows, the header, and the rows.
-pub fn rows_text(
-    alloc: Global,
-    header: &Sequence<Text>,
-    rows: &Sequence<Row>,
-) -> Result<Vec<u8>, AllocError>
+pub fn rows_text(alloc: Global, header: &Sequence<Text>, rows: &Rows) -> Result<Vec<u8>, AllocError>
     ensures { IfOk result (λ bytes. bytes.items ≡ text (Reply.Rows header.now rows.now)) }
 {
     let front = Vec::from_slice(alloc, accepted_line(rows.len() as u64).as_slice())?;
@@ -35,8 +31,8 @@ pub fn rows_text(
     let mut line = ByteRecord::new(alloc);
     fill_header(&mut line, header.as_slice())?;
     write_record(&mut writer, &line)?;
-    for row in rows.as_slice() {
-        fill_row(&mut line, row.cells())?;
+    for i in 0..rows.len() {
+        fill_row(&mut line, rows.row(i))?;
         write_record(&mut writer, &line)?;
     }
     match writer.into_inner() {

@@ -8,7 +8,6 @@ ghost use Rattle.gq_row.specs.Rows.{key_of};
 
 use crate::folding::fold_byte;
 use crate::key::Key;
-use crate::row::Row;
 use crate::text::Text;
 use crate::value::Value;
 use std::marker::Model;
@@ -39,7 +38,7 @@ impl Keyed for Key {
 /// [`Key`] of that row and these positions.
 #[derive(Drop)]
 pub struct KeyRef<'a> {
-    row: &'a Row,
+    row: &'a [Value],
     positions: &'a [usize],
 }
 
@@ -58,7 +57,7 @@ impl<'a> Model for KeyRef<'a> {
 impl<'a> KeyRef<'a> {
     /// The key of a row in the columns at these positions, in the order of the positions.
     #[inline]
-    pub fn new(row: &'a Row, positions: &'a [usize]) -> KeyRef<'a>
+    pub fn new(row: &'a [Value], positions: &'a [usize]) -> KeyRef<'a>
         requires { All (λ position. position < length row.now) positions.now }
         ensures { result ≡ key_of positions.now row.now }
     {
@@ -71,7 +70,7 @@ impl Names<Key> for KeyRef<'_> {
 
     #[inline]
     fn same(&self, key: &Key) -> bool {
-        self.row.has_key(self.positions, key.cells())
+        has_key(self.row, self.positions, key.cells())
     }
 
     #[inline]
@@ -98,6 +97,23 @@ impl Names<Key> for KeyCells<'_> {
     }
 }
 
+// Whether the folds of a row's values in the columns at these positions are those of a key.
+#[inline]
+fn has_key(row: &[Value], positions: &[usize], key: &[Value]) -> bool
+    requires { All (λ position. position < length row.now) positions.now }
+    ensures { result ≡ same_key (key_of positions.now row.now) key.now }
+{
+    if positions.len() != key.len() {
+        return false;
+    }
+    for i in 0..positions.len() {
+        if !row[positions[i]].folds_to(&key[i]) {
+            return false;
+        }
+    }
+    true
+}
+
 // Whether the folds of some values are others.
 #[inline]
 fn have_folds(cells: &[Value], key: &[Value]) -> bool
@@ -115,13 +131,13 @@ fn have_folds(cells: &[Value], key: &[Value]) -> bool
 }
 
 #[inline]
-fn fold_row<F: Step>(positions: &[usize], row: &Row, start: u64, f: &F) -> u64
+fn fold_row<F: Step>(positions: &[usize], row: &[Value], start: u64, f: &F) -> u64
     requires { All (λ position. position < length row.now) positions.now }
     ensures { result ≡ fold (F.next f.now) start (spelled (key_of positions.now row.now)) }
 {
     let mut acc = start;
     for position in positions {
-        acc = fold_cell(row.cell(*position), acc, f);
+        acc = fold_cell(&row[*position], acc, f);
     }
     acc
 }

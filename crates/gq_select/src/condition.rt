@@ -5,7 +5,7 @@ ghost use Rattle.std.specs.List.{list_all};
 ghost use Rattle.gq_select.specs.Truths.{known, value_of, truth_of, truth, is_true_in, keeps};
 
 use crate::truth::Truth;
-use gq_row::{Comparison, Row, Sequence, Value, compare_in_condition};
+use gq_row::{Comparison, Sequence, Value, compare_in_condition};
 
 /// What a test asks of.
 #[derive(Drop)]
@@ -36,11 +36,11 @@ pub struct Condition {
 impl Operand {
     // Its value in a row, or None where that is null.
     #[inline]
-    fn known<'a>(&'a self, row: &'a Row) -> Option<&'a Value>
+    fn known<'a>(&'a self, row: &'a [Value]) -> Option<&'a Value>
         ensures { option_copied result ≡ known (value_of self.now row.now) }
     {
         let value = match self {
-            Operand::Column(column) => row.cells().get(*column)?,
+            Operand::Column(column) => row.get(*column)?,
             Operand::Literal(value) => value,
         };
         if value.is_null() { None } else { Some(value) }
@@ -52,7 +52,7 @@ impl Test {
     /// order decides: by their folds where one is a text without case, a text taken as such. Whether
     /// a value is null is never unknown.
     #[inline]
-    pub fn truth(&self, row: &Row) -> Truth
+    pub fn truth(&self, row: &[Value]) -> Truth
         ensures { result ≡ truth_of self.now row.now }
     {
         match self {
@@ -69,7 +69,7 @@ impl Test {
 
     // Whether it is true in a row.
     #[inline]
-    fn is_true(&self, row: &Row) -> bool
+    fn is_true(&self, row: &[Value]) -> bool
         ensures { result ≡ is_true_in row.now self.now }
     {
         self.truth(row).is_true()
@@ -78,7 +78,7 @@ impl Test {
 
 /// The truth of a condition in a row: false where a test is false, else unknown where one is
 /// unknown, else true.
-pub fn holds(condition: &Condition, row: &Row) -> Truth
+pub fn holds(condition: &Condition, row: &[Value]) -> Truth
     ensures { result ≡ truth condition.now.tests row.now }
 {
     let mut truth = Truth::True;
@@ -94,7 +94,7 @@ pub fn holds(condition: &Condition, row: &Row) -> Truth
 
 /// Whether a condition before grouping keeps a row: whether it is true there.
 #[inline]
-pub fn filter(condition: &Condition, row: &Row) -> bool
+pub fn filter(condition: &Condition, row: &[Value]) -> bool
     ensures { result ≡ keeps condition.now.tests row.now }
 {
     is_true(condition, row)
@@ -103,7 +103,7 @@ pub fn filter(condition: &Condition, row: &Row) -> bool
 /// Whether a condition on groups keeps one, by its result row, which is its key and its aggregates:
 /// whether it is true there.
 #[inline]
-pub fn having(condition: &Condition, group: &Row) -> bool
+pub fn having(condition: &Condition, group: &[Value]) -> bool
     ensures { result ≡ keeps condition.now.tests group.now }
 {
     is_true(condition, group)
@@ -111,7 +111,7 @@ pub fn having(condition: &Condition, group: &Row) -> bool
 
 // Whether it is true there. Most conditions have no test: that is seen where it is called.
 #[inline(always)]
-fn is_true(condition: &Condition, row: &Row) -> bool
+fn is_true(condition: &Condition, row: &[Value]) -> bool
     ensures { result ≡ keeps condition.now.tests row.now }
 {
     all_true(condition.tests.as_slice(), row)
@@ -119,7 +119,7 @@ fn is_true(condition: &Condition, row: &Row) -> bool
 
 // Whether each test is true, up to the first that isn't.
 #[inline]
-fn all_true(tests: &[Test], row: &Row) -> bool
+fn all_true(tests: &[Test], row: &[Value]) -> bool
     ensures { result ≡ list_all (is_true_in row.now) tests.now }
 {
     tests.iter().all(|test| test.is_true(row))

@@ -6,7 +6,7 @@ ghost use Rattle.gq_row.specs.Rows.{key_of};
 ghost use Rattle.gq_select.specs.KeySets.{AreKeysOf, has};
 ghost use Rattle.gq_select.specs.Matches.{exists};
 
-use gq_row::{Key, KeyRef, Row};
+use gq_row::{Key, KeyRef, Value, has_null};
 use std::alloc::{AllocError, Global};
 use sw_flat::{Entry, FlatSet};
 use sw_probe::KeyHash;
@@ -32,7 +32,7 @@ impl<H: KeyHash<Key>> KeySet<H> {
     /// Adds the key of one row more. It is looked up in the row, hashed once, and copied only where
     /// it is new; a key with null is left out. Neither such a key nor one that is there takes memory;
     /// for want of it the set stays as it was.
-    pub fn add(&mut self, row: &Row, columns: &[usize]) -> Result<(), AllocError>
+    pub fn add(&mut self, row: &[Value], columns: &[usize]) -> Result<(), AllocError>
         requires { All (λ column. column < length row.now) columns.now }
         ensures keys { OnOk result ((rows : List (List Cell)) → AreKeysOf columns.now rows self.old →
             AreKeysOf columns.now (rows ++ row.now ∷ []) self.new) }
@@ -40,7 +40,7 @@ impl<H: KeyHash<Key>> KeySet<H> {
         ensures null { IsTrue (has_null columns.now row.now) → IsOk result }
         ensures known { IsTrue (has self.old (key_of columns.now row.now)) → IsOk result }
     {
-        if row.has_null(columns) {
+        if has_null(row, columns) {
             return Ok(());
         }
         let Entry::Vacant(vacancy) = self.keys.entry(&KeyRef::new(row, columns)) else {
@@ -57,7 +57,7 @@ impl<H: KeyHash<Key>> KeySet<H> {
     pub fn build(
         alloc: Global,
         hasher: H,
-        rows: &[&Row],
+        rows: &[&[Value]],
         columns: &[usize],
     ) -> Result<KeySet<H>, AllocError>
     where
@@ -78,7 +78,7 @@ impl<H: KeyHash<Key>> KeySet<H> {
 /// Whether some row of those whose keys these are has in its columns the same values as `row` in
 /// `columns`, none of them null. Nothing is copied.
 #[inline]
-pub fn semi_join<H: KeyHash<Key>>(keys: &KeySet<H>, row: &Row, columns: &[usize]) -> bool
+pub fn semi_join<H: KeyHash<Key>>(keys: &KeySet<H>, row: &[Value], columns: &[usize]) -> bool
     requires { All (λ column. column < length row.now) columns.now }
     ensures found { result ≡ has keys.now (key_of columns.now row.now) }
     ensures exists { (theirs : List ℕ) (others : List (List Cell)) →
@@ -90,7 +90,7 @@ pub fn semi_join<H: KeyHash<Key>>(keys: &KeySet<H>, row: &Row, columns: &[usize]
 /// The opposite: whether no row of those has them. So a row with null in one of its columns is
 /// kept.
 #[inline]
-pub fn anti_join<H: KeyHash<Key>>(keys: &KeySet<H>, row: &Row, columns: &[usize]) -> bool
+pub fn anti_join<H: KeyHash<Key>>(keys: &KeySet<H>, row: &[Value], columns: &[usize]) -> bool
     requires { All (λ column. column < length row.now) columns.now }
     ensures missing { result ≡ not (has keys.now (key_of columns.now row.now)) }
     ensures exists { (theirs : List ℕ) (others : List (List Cell)) →

@@ -11,7 +11,11 @@
 //! let mark = writer.finish();                       // the run, and how much is in it
 //!
 //! let mut reader = RunReader::open(alloc, mark, columns);
-//! while let Some(row) = reader.next(alloc, &mut store)? { .. }
+//! let mut spare = Row::new(Vec::new(alloc));
+//! while let Some(row) = reader.next(alloc, &mut store, spare)? {
+//!     ..
+//!     spare = row;                                  // the next row takes its memory
+//! }
 //! store.discard(mark.id);
 //! ```
 //!

@@ -60,7 +60,12 @@ impl RunReader {
     }
 
     // Takes the row that comes next.
-    fn take_row<S: RunStore>(&mut self, alloc: Global, store: &mut S) -> Result<Row, SpillRefusal>
+    fn take_row<S: RunStore>(
+        &mut self,
+        alloc: Global,
+        store: &mut S,
+        spare: Row,
+    ) -> Result<Row, SpillRefusal>
         requires live { IsTrue ((S.runs store.old).live self.old.tail.id.number) }
         requires more { self.old.given < self.old.records }
         ensures row { IsTrue (S.runs store.old).honest →
@@ -76,7 +81,7 @@ impl RunReader {
         ensures store { OnlyReads (S.runs store.old) (S.runs store.new) }
         ensures faults { TellsFaults result (S.runs store.old) (S.runs store.new) }
     {
-        match self.tail.take(alloc, store, self.columns) {
+        match self.tail.take(alloc, store, self.columns, spare) {
             Ok(row) => {
                 if row.len() != self.columns {
                     return Err(SpillRefusal::Damaged);
@@ -89,11 +94,13 @@ impl RunReader {
     }
 
     /// The next row, or `None` behind the last. After a refusal it answers the same one from then on,
-    /// and leaves the store alone.
+    /// and leaves the store alone. The row is written over `spare`, whose values are dropped: where its
+    /// memory is enough no more is taken.
     pub fn next<S: RunStore>(
         &mut self,
         alloc: Global,
         store: &mut S,
+        spare: Row,
     ) -> Result<Option<Row>, SpillRefusal>
         requires live { IsTrue ((S.runs store.old).live self.old.tail.id.number) }
         // Over an honest store the rows come in the order in which they were written,
@@ -126,7 +133,7 @@ impl RunReader {
         if self.given == self.records {
             return Ok(None);
         }
-        match self.take_row(alloc, store) {
+        match self.take_row(alloc, store, spare) {
             Ok(row) => Ok(Some(row)),
             Err(why) => {
                 self.refused = Some(why);

@@ -62,7 +62,7 @@ impl RunTail {
     }
 
     // Takes the row at the front of the bytes that were read ahead.
-    fn use_row(&mut self, alloc: Global, columns: usize) -> Result<Row, SpillRefusal>
+    fn use_row(&mut self, alloc: Global, columns: usize, spare: Row) -> Result<Row, SpillRefusal>
         requires { self.old.at + length self.old.ahead ≤ self.old.end }
         ensures row { IfOk result (λ row. (self.old.ahead ≡ record_of row ++ self.new.ahead) ×
             (self.new.at ≡ self.old.at + length (record_of row)) × IsStorable row) }
@@ -72,7 +72,7 @@ impl RunTail {
         ensures same { (self.new.id ≡ self.old.id) × (self.new.end ≡ self.old.end) }
         ensures within { self.new.at + length self.new.ahead ≤ self.new.end }
     {
-        match decode_row_with(alloc, self.ahead.as_slice(), columns) {
+        match decode_row_with(alloc, self.ahead.as_slice(), columns, spare) {
             Ok(Some((row, len))) => {
                 self.ahead.skip(len);
                 self.at += len as u64;
@@ -83,12 +83,13 @@ impl RunTail {
         }
     }
 
-    /// Takes the row whose record comes next, of so many columns mostly.
+    /// Takes the row whose record comes next, of so many columns mostly, over the memory of `spare`.
     pub fn take<S: RunStore>(
         &mut self,
         alloc: Global,
         store: &mut S,
         columns: usize,
+        spare: Row,
     ) -> Result<Row, SpillRefusal>
         requires live { IsTrue ((S.runs store.old).live self.old.id.number) }
         requires within { self.old.at + length self.old.ahead ≤ self.old.end }
@@ -113,6 +114,6 @@ impl RunTail {
         if let Err(why) = self.fetch(store, LENGTH + len as usize) {
             return Err(why);
         }
-        self.use_row(alloc, columns)
+        self.use_row(alloc, columns, spare)
     }
 }

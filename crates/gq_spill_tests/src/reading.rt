@@ -1,7 +1,7 @@
 //! Readers of runs: what they answer, and in how many pieces they read.
 ghost use Rattle.std.specs.Prelude.{IsTrue};
 
-use crate::rows::{number, numbers, spelled, text};
+use crate::rows::{no_values, number, numbers, spelled, text};
 use crate::stores::with_trouble;
 use crate::whole::{read_rows, write_rows};
 use gq_row::Row;
@@ -36,10 +36,10 @@ pub(crate) fn answers<S: RunStore>(
     ensures { IsTrue ((S.runs store.new).live mark.id.number) }
 {
     let mut reader = RunReader::open(alloc, mark, columns);
-    let first = reader.next(alloc, store);
-    let second = reader.next(alloc, store);
-    let third = reader.next(alloc, store);
-    let fourth = reader.next(alloc, store);
+    let first = reader.next(alloc, store, no_values(alloc));
+    let second = reader.next(alloc, store, no_values(alloc));
+    let third = reader.next(alloc, store, no_values(alloc));
+    let fourth = reader.next(alloc, store, no_values(alloc));
     let mut out = String::new(alloc);
     told(alloc, &mut out, first)?;
     told(alloc, &mut out, second)?;

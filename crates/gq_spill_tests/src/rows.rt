@@ -11,6 +11,11 @@ pub(crate) fn no_case(alloc: Global, chars: &str) -> Result<Value, AllocError> {
     Ok(Value::NoCase(Text::of(alloc, chars)?))
 }
 
+/// A row without a value, which has no memory.
+pub(crate) fn no_values(alloc: Global) -> Row {
+    Row::new(Vec::new(alloc))
+}
+
 /// A row of one number.
 pub(crate) fn number(alloc: Global, n: i64) -> Result<Row, AllocError> {
     Ok(Row::new(vec![in alloc; Value::Int(n)]?))

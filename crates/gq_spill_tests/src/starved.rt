@@ -1,6 +1,6 @@
 //! Runs and records while memory runs out: first with none, then with a little more each time, so
 //! that each request is the first to be refused in some run.
-use crate::rows::{no_case, spelled, text, worked};
+use crate::rows::{no_case, no_values, spelled, text, worked};
 use crate::whole::{read_rows, write_rows};
 use gq_row::{Row, Value};
 use gq_spill::{
@@ -105,7 +105,7 @@ fn refusals_for_memory_repeat(rt: HostRuntime) -> Result<(), Fail> {
     }
     let starved = Starved::new(alloc)?;
     let written = writer.write(&mut store, &row).err();
-    let read = reader.next(alloc, &mut store).err();
+    let read = reader.next(alloc, &mut store, no_values(alloc)).err();
     drop(starved);
     assert_eq!(rt; written, Some(SpillRefusal::Memory));
     assert_eq!(rt; read, Some(SpillRefusal::Memory));
@@ -115,10 +115,48 @@ fn refusals_for_memory_repeat(rt: HostRuntime) -> Result<(), Fail> {
         Some(SpillRefusal::Memory)
     );
     assert_eq!(rt;
-        reader.next(alloc, &mut store).err(),
+        reader.next(alloc, &mut store, no_values(alloc)).err(),
         Some(SpillRefusal::Memory)
     );
     store.discard(writer.finish().id);
     store.discard(mark.id);
+    Ok(())
+}
+
+#[test]
+fn a_row_over_another_takes_no_memory(rt: HostRuntime) -> Result<(), Fail> {
+    let alloc = rt.alloc();
+    let mut rows = Vec::new(alloc);
+    for chars in [
+        "a city of a name that takes a block of its own",
+        "a town of a name that takes one too",
+        "a village that takes one, too",
+    ] {
+        rows.push(Row::new(vec![in alloc; text(alloc, chars)?, Value::Int(7)]?))?;
+    }
+    let mut store = MemStore::new(alloc);
+    let Ok(mark) = write_rows(alloc, &mut store, rows.as_slice()) else {
+        assert!(rt; false);
+        return Ok(());
+    };
+    let mut reader = RunReader::open(alloc, mark, 2);
+    let Ok(Some(first)) = reader.next(alloc, &mut store, no_values(alloc)) else {
+        assert!(rt; false);
+        return Ok(());
+    };
+    let starved = Starved::new(alloc)?;
+    let second = reader.next(alloc, &mut store, first);
+    let third = reader.next(alloc, &mut store, no_values(alloc)).err();
+    drop(starved);
+    let Ok(Some(second)) = second else {
+        assert!(rt; false);
+        return Ok(());
+    };
+    let read = vec![in alloc; second]?;
+    assert_eq!(rt;
+        spelled(alloc, read.as_slice())?.as_str(),
+        "'a town of a name that takes one too',7;"
+    );
+    assert_eq!(rt; third, Some(SpillRefusal::Memory));
     Ok(())
 }

@@ -45,7 +45,7 @@ pub fn read_rows<S: RunStore>(
     let mut reader = RunReader::open(alloc, mark, columns);
     let mut rows = Vec::new(alloc);
     for _ in 0..mark.records {
-        let Some(row) = reader.next(alloc, store)? else {
+        let Some(row) = reader.next(alloc, store, Row::new(Vec::new(alloc)))? else {
             return Ok(rows);
         };
         if rows.push(row).is_err() {

@@ -17,8 +17,8 @@ use Rattle.gq_row.specs.Tables.{PlainTable, put, put_all, delete, has_row, keys_
 use Rattle.gq_row.proofs.MovedLemmas.{put-permutation}
 use Rattle.gq_table.specs.declared.refusal.TableRefusal.{TableRefusal}
 use Rattle.gq_table.specs.declared.refusal.TableRefusal.TheVariants.{TypeMismatch, NullKey, Limit, Memory}
-use Rattle.gq_table.specs.declared.rows.Rows.{Rows}
-use Rattle.gq_table.specs.declared.rows.Rows.TheVariants.{Keyed, Listed}
+use Rattle.gq_table.specs.declared.rows.Storage.{Storage}
+use Rattle.gq_table.specs.declared.rows.Storage.TheVariants.{Keyed, Listed}
 use Rattle.gq_table.specs.Changes.{IsPut, IsLoaded}
 use Rattle.gq_table.specs.Keyed.{OwnKeys, by_key, rows_in}
 use Rattle.gq_table.specs.Refusing.{limit_refusal, row_refusal, load_refusal, rows_with, replaces, WhyNotPut, WhyNotKeyed, WhyNotLoaded}
@@ -41,16 +41,16 @@ module _ {H : Type 0} where
   placed_again [] m some own = absurd (omega arith)
   placed_again (column ∷ columns) m some own = own
 
-  abbrev pub IsListed : Rows H → Type 0
+  abbrev pub IsListed : Storage H → Type 0
   IsListed (Keyed m) = ⊥
   IsListed (Listed v) = Unit {0}
 
-  pub listed_key : (key : List ℕ) (r : Rows H) → IsListed r → ArePlaced key r → key ≡ []
+  pub listed_key : (key : List ℕ) (r : Storage H) → IsListed r → ArePlaced key r → key ≡ []
   listed_key [] r e h = refl
   listed_key (column ∷ columns) (Keyed n) e h = absurd e
   listed_key (column ∷ columns) (Listed w) e h = absurd h
 
-  listed_placed : (r : Rows H) → IsListed r → ArePlaced [] r
+  listed_placed : (r : Storage H) → IsListed r → ArePlaced [] r
   listed_placed (Keyed m) e = absurd e
   listed_placed (Listed v) e = tt
 
@@ -118,7 +118,7 @@ pub record LoadListed (most : ℕ) (loaded old new : List (List Value)) (result 
 -- ---- an upsert
 
 -- what an upsert leaves where the rows are in the end these
-pub record Upserted {H : Type 0} (bounds : Bounds) (old : PlainTable) (row : List Value) (result : Result (Unit {0}) TableRefusal) (new : Rows H) : Type 0 where
+pub record Upserted {H : Type 0} (bounds : Bounds) (old : PlainTable) (row : List Value) (result : Result (Unit {0}) TableRefusal) (new : Storage H) : Type 0 where
   pub stored : IsStored old.heading new
   pub ok : OnOk result (IsPut old row (table old.heading (rows_of new)))
   pub taken : OnOk result (row_refusal bounds old row ≡ None)
@@ -173,7 +173,7 @@ module _ {H : Type 0} (bounds : Bounds) (limits : IsTrue (within_greatest bounds
   pub upserted_keyed : (m n : View (List Value) (List Value) H) (result : Result (Unit {0}) TableRefusal) (key : List ℕ) → key ≡ h.key → IsStored h (Keyed m) → PutKeyed bounds.rows row m n result key → Upserted bounds (table h (rows_in m)) row result (Keyed n)
   upserted_keyed m n result key e stored p = upserted_in m n result stored (subst (PutKeyed bounds.rows row m n result) e p)
 
-  pub upserted_listed : (r n : Rows H) (result : Result (Unit {0}) TableRefusal) → IsListed r → IsListed n → IsStored h r → PutListed bounds.rows row (rows_of r) (rows_of n) result → Upserted bounds (table h (rows_of r)) row result n
+  pub upserted_listed : (r n : Storage H) (result : Result (Unit {0}) TableRefusal) → IsListed r → IsListed n → IsStored h r → PutListed bounds.rows row (rows_of r) (rows_of n) result → Upserted bounds (table h (rows_of r)) row result n
   upserted_listed r n (Ok u) was is stored p =
       let none = listed_key h.key r was stored.placed in
       let e = put_none h.key (rows_of r) row none in
@@ -222,7 +222,7 @@ put_all_none [] old rows e = pushed old rows
     pushed old [] = sym (append-nil old)
     pushed old (row ∷ rows) = pushed (old ++ row ∷ []) rows ∙ append_assoc old (row ∷ []) rows
 
-pub record LoadedTable {H : Type 0} (bounds : Bounds) (old : PlainTable) (loaded : List (List Value)) (result : Result (Unit {0}) TableRefusal) (new : Rows H) : Type 0 where
+pub record LoadedTable {H : Type 0} (bounds : Bounds) (old : PlainTable) (loaded : List (List Value)) (result : Result (Unit {0}) TableRefusal) (new : Storage H) : Type 0 where
   pub stored : IsStored old.heading new
   pub ok : OnOk result (IsLoaded old loaded (table old.heading (rows_of new)))
   pub taken : OnOk result (load_refusal bounds old loaded ≡ None)
@@ -258,7 +258,7 @@ module _ {H : Type 0} (bounds : Bounds) (limits : IsTrue (within_greatest bounds
   pub loaded_keyed : (m n : View (List Value) (List Value) H) (result : Result (Unit {0}) TableRefusal) (key : List ℕ) → key ≡ h.key → IsStored h (Keyed m) → LoadKeyed bounds.rows rows m n result key → LoadedTable bounds (table h (rows_in m)) rows result (Keyed n)
   loaded_keyed m n result key e stored p = loaded_in m n result stored (subst (LoadKeyed bounds.rows rows m n result) e p)
 
-  pub loaded_listed : (r n : Rows H) (result : Result (Unit {0}) TableRefusal) → IsListed r → IsListed n → IsStored h r → LoadListed bounds.rows rows (rows_of r) (rows_of n) result → LoadedTable bounds (table h (rows_of r)) rows result n
+  pub loaded_listed : (r n : Storage H) (result : Result (Unit {0}) TableRefusal) → IsListed r → IsListed n → IsStored h r → LoadListed bounds.rows rows (rows_of r) (rows_of n) result → LoadedTable bounds (table h (rows_of r)) rows result n
   loaded_listed r n (Ok u) was is stored p =
       let none = listed_key h.key r was stored.placed in
       let e = put_all_none h.key (rows_of r) rows none in
@@ -325,5 +325,5 @@ stored_empty h m heading some none no_rows = record {
     some_long (column ∷ columns) k = omega arith
 
 -- the rows of a table fit the columns of one with the same heading
-pub staged_fit : {H : Type 0} (h g : Heading) (r : Rows H) (rows : List (List Value)) → g ≡ h → IsStored g r → rows_of r ≡ rows → list_all (fits_columns h.columns) rows ≡ true
+pub staged_fit : {H : Type 0} (h g : Heading) (r : Storage H) (rows : List (List Value)) → g ≡ h → IsStored g r → rows_of r ≡ rows → list_all (fits_columns h.columns) rows ≡ true
 staged_fit h g r rows same stored is = subst (λ l. list_all (fits_columns h.columns) l ≡ true) is (subst (λ (x : Heading). list_all (fits_columns x.columns) (rows_of r) ≡ true) same stored.standing.fitting)

@@ -37,7 +37,7 @@ pub(crate) fn put_keyed<H: KeyHash<Key>>(
     ensures err { OnErr result (map.new ≡ map.old) }
     ensures why { IfErr result (WhyNotKeyed most positions.now (rows_in map.old) row.old) }
 {
-    match map.entry(&KeyRef::new(row, positions)) {
+    match map.entry(&KeyRef::new(row.cells(), positions)) {
         Entry::Occupied(slot) => {
             return replace_keyed(map, positions, slot, row, most);
         }
@@ -100,7 +100,7 @@ fn add_keyed<H: KeyHash<Key>>(
     if most <= map.len() {
         return Err(TableRefusal::Limit);
     }
-    let Ok(key) = Key::of(alloc, row, positions) else {
+    let Ok(key) = Key::of(alloc, row.cells(), positions) else {
         return Err(TableRefusal::Memory);
     };
     let Ok(_) = map.fill(vacancy, key, row_out(alloc, row)) else {

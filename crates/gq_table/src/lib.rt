@@ -1,8 +1,8 @@
 //! Tables of rows, with or without a key.
 //!
 //! A [`Table`] has a schema and rows. Where the schema has key columns the rows stand in a flat
-//! map under their keys and nowhere else, so that a row is found by one look-up; else they stand in
-//! a list. A row that is put replaces the row of the same key, spelling and all, or is added; a load
+//! map under their keys and nowhere else, so that a row is found by one look-up; else their cells
+//! stand in one list. A row that is put replaces the row of the same key, spelling and all, or is added; a load
 //! puts many, all or none.
 //!
 //! The one contract above this crate: clauses see a table as its heading and the list of its rows,
@@ -19,5 +19,5 @@ mod rows;
 mod table;
 
 pub use refusal::TableRefusal;
-pub use rows::{RowIter, Rows};
+pub use rows::{RowIter, Storage};
 pub use table::Table;

@@ -2,24 +2,24 @@
 ghost use Rattle.std.specs.Prelude.{◌≡◌, length};
 ghost use Rattle.std.specs.Iterator.{YieldsFirstRef, item_count};
 
-use gq_row::{Key, Row};
+use gq_row::{Key, Row, Rows, Value};
 use std::marker::Model;
 use sw_flat::{FlatMap, Iter};
 use sw_probe::KeyHash;
 
-/// The rows of a table with key columns stand in a map under their keys, those of one without in a
-/// list.
+/// The rows of a table with key columns stand in a map under their keys, those of one without in one
+/// list of cells.
 #[derive(Drop)]
-pub enum Rows<H: KeyHash<Key>> {
+pub enum Storage<H: KeyHash<Key>> {
     Keyed(FlatMap<Key, Row, H>),
-    Listed(Vec<Row>),
+    Listed(Rows),
 }
 
 /// What is still to come of them: entries of the map, or the list from a place on.
 #[derive(Drop)]
 pub enum Rest<'a, H: KeyHash<Key>> {
     Entries(Iter<'a, Key, Row, H>),
-    Places(&'a [Row], usize),
+    Places(&'a Rows, usize),
 }
 
 /// The rows of a table that are still to come, seen as their list.
@@ -56,18 +56,18 @@ impl<'a, H: KeyHash<Key>> RowIter<'a, H> {
     }
 
     /// All of the rows: those of a map in the order of its slots.
-    pub(crate) fn new(rows: &'a Rows<H>) -> RowIter<'a, H>
+    pub(crate) fn new(rows: &'a Storage<H>) -> RowIter<'a, H>
         ensures { result ≡ rows_of rows.now }
     {
         match rows {
-            Rows::Keyed(map) => {
+            Storage::Keyed(map) => {
                 return RowIter {
                     rest: Rest::Entries(map.iter()),
                 };
             }
-            Rows::Listed(rows) => {
+            Storage::Listed(rows) => {
                 return RowIter {
-                    rest: Rest::Places(rows.as_slice(), 0),
+                    rest: Rest::Places(rows, 0),
                 };
             }
         }
@@ -75,21 +75,24 @@ impl<'a, H: KeyHash<Key>> RowIter<'a, H> {
 }
 
 impl<'a, H: KeyHash<Key>> Iterator for RowIter<'a, H> {
-    type Item = &'a Row;
+    type Item = &'a [Value];
 
     ghost next_gives = { YieldsFirstRef (λ rest. rest) };
 
     ghost remaining = { item_count (λ rest. rest) };
 
     #[inline]
-    fn next(&mut self) -> Option<&'a Row> {
+    fn next(&mut self) -> Option<&'a [Value]> {
         match &mut self.rest {
             Rest::Entries(entries) => {
                 let (_, row) = entries.next()?;
-                return Some(row);
+                return Some(row.cells());
             }
             Rest::Places(rows, from) => {
-                let row = rows.get(*from)?;
+                if rows.len() <= *from {
+                    return None;
+                }
+                let row = rows.row(*from);
                 *from += 1;
                 return Some(row);
             }

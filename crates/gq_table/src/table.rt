@@ -12,8 +12,8 @@ ghost use Rattle.gq_table.specs.declared.refusal.TableRefusal.TheVariants.{Limit
 use crate::keyed::{delete_keyed, put_keyed, reserve_keyed, row_out};
 use crate::load::load_keyed;
 use crate::refusal::TableRefusal;
-use crate::rows::{RowIter, Rows};
-use gq_row::{Key, Limits, Row, Schema, Value};
+use crate::rows::{RowIter, Storage};
+use gq_row::{Key, Limits, Row, Rows, Schema, Value};
 use std::alloc::{AllocError, Global};
 use std::marker::Model;
 use sw_flat::FlatMap;
@@ -29,7 +29,7 @@ pub struct Table<H: KeyHash<Key>> {
     alloc: Global,
     schema: Schema,
     hasher: H,
-    rows: Rows<H>,
+    rows: Storage<H>,
 }
 
 impl<H: KeyHash<Key>> Model for Table<H> {
@@ -53,14 +53,14 @@ impl<H: KeyHash<Key> + Copy> Table<H> {
                 alloc,
                 schema,
                 hasher,
-                rows: Rows::Listed(Vec::new(alloc)),
+                rows: Storage::Listed(Rows::new(alloc)),
             };
         }
         Table {
             alloc,
             schema,
             hasher,
-            rows: Rows::Keyed(FlatMap::new(alloc, hasher)),
+            rows: Storage::Keyed(FlatMap::new(alloc, hasher)),
         }
     }
 
@@ -85,10 +85,10 @@ impl<H: KeyHash<Key> + Copy> Table<H> {
         ensures { result ≡ length self.now.rows }
     {
         match &self.rows {
-            Rows::Keyed(map) => {
+            Storage::Keyed(map) => {
                 return count_keyed(map);
             }
-            Rows::Listed(rows) => {
+            Storage::Listed(rows) => {
                 return rows.len();
             }
         }
@@ -101,11 +101,12 @@ impl<H: KeyHash<Key> + Copy> Table<H> {
         ensures rows { IsPermutation self.old.rows self.new.rows }
     {
         match &mut self.rows {
-            Rows::Keyed(map) => {
+            Storage::Keyed(map) => {
                 return reserve_keyed(map, self.schema.key(), rows);
             }
-            Rows::Listed(list) => {
-                return list.reserve(rows.saturating_sub(list.len()));
+            Storage::Listed(list) => {
+                let more = rows.saturating_sub(list.len());
+                return list.reserve(more, self.schema.columns().len());
             }
         }
     }
@@ -141,7 +142,7 @@ impl<H: KeyHash<Key> + Copy> Table<H> {
     /// Puts a row that fits the columns and has no null in its key, in the place of the row that
     /// has the same key if there is one: the same as [`Table::upsert`] of it. `row` may then hold
     /// any values, and its memory be used for another row: it is exchanged with the row that it
-    /// replaces.
+    /// replaces, or left without values in its memory where the table has no key.
     pub fn put(&mut self, row: &mut Row, limits: &Limits) -> Result<(), TableRefusal>
         requires fits { IsTrue (fits_columns self.old.heading.columns row.old) }
         requires keyed { has_null self.old.heading.key row.old ≡ false }
@@ -152,10 +153,10 @@ impl<H: KeyHash<Key> + Copy> Table<H> {
     {
         let most = limits.bounds.rows;
         match &mut self.rows {
-            Rows::Keyed(map) => {
+            Storage::Keyed(map) => {
                 return put_keyed(self.alloc, map, self.schema.key(), row, most);
             }
-            Rows::Listed(rows) => {
+            Storage::Listed(rows) => {
                 return put_listed(self.alloc, rows, row, most);
             }
         }
@@ -174,14 +175,14 @@ impl<H: KeyHash<Key> + Copy> Table<H> {
         let rows = staged.into_rows();
         let most = limits.bounds.rows;
         match &mut self.rows {
-            Rows::Keyed(map) => {
-                let Rows::Keyed(staged) = rows else {
+            Storage::Keyed(map) => {
+                let Storage::Keyed(staged) = rows else {
                     unreachable!()
                 };
                 return load_keyed(map, self.schema.key(), staged, most);
             }
-            Rows::Listed(list) => {
-                let Rows::Listed(staged) = rows else {
+            Storage::Listed(list) => {
+                let Storage::Listed(staged) = rows else {
                     unreachable!()
                 };
                 return load_listed(list, staged, most);
@@ -190,7 +191,7 @@ impl<H: KeyHash<Key> + Copy> Table<H> {
     }
 
     // Its rows, as they are stored.
-    fn into_rows(self) -> Rows<H>
+    fn into_rows(self) -> Storage<H>
         ensures rows { rows_of result ≡ self.rows }
         ensures stored { IsStored self.heading result }
     {
@@ -205,8 +206,8 @@ impl<H: KeyHash<Key> + Copy> Table<H> {
         ensures answer { result ≡ has_row self.old.heading.key self.old.rows (named_key key.now) }
     {
         match &mut self.rows {
-            Rows::Keyed(map) => delete_keyed(map, self.schema.key(), key),
-            Rows::Listed(_) => unreachable!(),
+            Storage::Keyed(map) => delete_keyed(map, self.schema.key(), key),
+            Storage::Listed(_) => unreachable!(),
         }
     }
 }
@@ -218,36 +219,40 @@ fn count_keyed<H: KeyHash<Key>>(map: &FlatMap<Key, Row, H>) -> usize
     map.len()
 }
 
-// Puts a row at the end of a list, where no more than `most` rows then stand there.
+// Puts a row at the end of a list, where no more than `most` rows then stand there. Its cells move,
+// and its memory is left for another row.
 fn put_listed(
     alloc: Global,
-    rows: &mut Vec<Row>,
+    rows: &mut Rows,
     row: &mut Row,
     most: usize,
 ) -> Result<(), TableRefusal>
-    ensures ok { OnOk result (rows.new.items ≡ rows.old.items ++ row.old ∷ []) }
-    ensures few { OnOk result (length rows.old.items < most) }
-    ensures err { OnErr result (rows.new.items ≡ rows.old.items) }
-    ensures why { IfErr result (λ why. ((why ≡ Limit) × (most ≤ length rows.old.items))
-        ⊎ ((why ≡ Memory) × (length rows.old.items < most))) }
+    ensures ok { OnOk result (rows.new ≡ rows.old ++ row.old ∷ []) }
+    ensures few { OnOk result (length rows.old < most) }
+    ensures err { OnErr result (rows.new ≡ rows.old) }
+    ensures why { IfErr result (λ why. ((why ≡ Limit) × (most ≤ length rows.old))
+        ⊎ ((why ≡ Memory) × (length rows.old < most))) }
 {
     if most <= rows.len() {
         return Err(TableRefusal::Limit);
     }
-    match rows.push(row_out(alloc, row)) {
+    let mut cells = row_out(alloc, row).into_cells();
+    let pushed = rows.push(&mut cells);
+    *row = Row::new(cells);
+    match pushed {
         Ok(()) => Ok(()),
         Err(_) => Err(TableRefusal::Memory),
     }
 }
 
 // Puts rows at the end of a list, where no more than `most` then stand there: all or none.
-fn load_listed(list: &mut Vec<Row>, mut rows: Vec<Row>, most: usize) -> Result<(), TableRefusal>
+fn load_listed(list: &mut Rows, rows: Rows, most: usize) -> Result<(), TableRefusal>
     requires { most ≤ 16777216 }
-    ensures ok { OnOk result (list.new.items ≡ list.old.items ++ rows.items) }
-    ensures few { OnOk result (length list.old.items + length rows.items ≤ most) }
-    ensures err { OnErr result (list.new.items ≡ list.old.items) }
+    ensures ok { OnOk result (list.new ≡ list.old ++ rows) }
+    ensures few { OnOk result (length list.old + length rows ≤ most) }
+    ensures err { OnErr result (list.new ≡ list.old) }
     ensures why { IfErr result (λ why.
-        ((why ≡ Limit) × (most < length list.old.items + length rows.items)) ⊎ (why ≡ Memory)) }
+        ((why ≡ Limit) × (most < length list.old + length rows)) ⊎ (why ≡ Memory)) }
 {
     if most < list.len().saturating_add(rows.len()) {
         return Err(TableRefusal::Limit);
@@ -256,7 +261,7 @@ fn load_listed(list: &mut Vec<Row>, mut rows: Vec<Row>, most: usize) -> Result<(
         *list = rows;
         return Ok(());
     }
-    match list.append(&mut rows) {
+    match list.append(rows) {
         Ok(()) => Ok(()),
         Err(_) => Err(TableRefusal::Memory),
     }

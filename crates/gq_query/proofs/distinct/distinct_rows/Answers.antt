@@ -1,5 +1,5 @@
-use Rattle.std.proofs.Common.{◌∙◌, ap}
-use Rattle.std.specs.Prelude.{option_copied}
+use Rattle.std.proofs.Common.{◌≡◌, subst}
+use Rattle.std.specs.Prelude.{IfOk, option_copied}
 use Rattle.gq_query.specs.Answers.{distinct_keys}
 use Rattle.gq_query.specs.Selecting.{other_columns, other_rows}
 use Rattle.gq_query.proofs.KeepingLemmas.{asks_ours, kept_are}
@@ -17,4 +17,4 @@ pub returns-clause-rows : goal.returns-clause-rows
 returns-clause-rows g c = λ h.
     let selection = c.args.selection.now in
     let are = kept_are selection.condition.now.tests (option_copied selection.matching) c.in-Ok.keys (other_rows (option_copied selection.others)) selection.table.now.rows c.in-Ok.ensures in
-    c.new.ensures ∙ c.in_ok-different.ensures.rows h ∙ ap (distinct_keys c.args.on.now) are
+    subst (λ rows. IfOk c.different.result (λ found. found ≡ distinct_keys c.args.on.now rows)) are (c.different.ensures.rows h)

@@ -1,5 +1,5 @@
-use Rattle.std.proofs.Common.{◌∙◌, sym, ap, subst, rules, Some}
-use Rattle.std.specs.Prelude.{option_copied}
+use Rattle.std.proofs.Common.{◌≡◌, ◌∙◌, sym, ap, subst, Some}
+use Rattle.std.specs.Prelude.{IfOk, option_copied}
 use Rattle.gq_query.specs.Rollups.{group_answer, grouping_sets}
 use Rattle.gq_query.specs.Selecting.{other_columns, other_rows}
 use Rattle.gq_query.specs.Work.{RisesBy}
@@ -19,18 +19,18 @@ returns-clause-rows g c = λ h.
     let selection = c.args.selection.now in
     let asked = c.args.grouping.now in
     let are = kept_are selection.condition.now.tests (option_copied selection.matching) c.in-Ok.keys (other_rows (option_copied selection.others)) selection.table.now.rows c.in-Ok.ensures in
-    ap (group_answer asked.rollup asked.by.now asked.shown.now asked.having.now.tests) (sym are) ∙ c.in_ok-rows.ensures.rows h ∙ ap Some (sym c.new.ensures)
+    subst (λ rows. IfOk c.answer.result (λ found. group_answer asked.rollup asked.by.now asked.shown.now asked.having.now.tests rows ≡ Some found.0)) are (c.answer.ensures.rows h)
 
 pub returns-clause-spent : goal.returns-clause-spent
 returns-clause-spent g c =
     let selection = c.args.selection.now in
     let asked = c.args.grouping.now in
     let are = kept_are selection.condition.now.tests (option_copied selection.matching) c.in-Ok.keys (other_rows (option_copied selection.others)) selection.table.now.rows c.in-Ok.ensures in
-    subst (λ rows. RisesBy (g.S.RunStore.runs c.args.store.now).honest c.args.budget.entries rows (grouping_sets asked.rollup asked.by.now) c.args.spent c.in_ok-rows.spent) are c.in_ok-rows.ensures.spent
+    subst (λ rows. IfOk c.answer.result (λ found. RisesBy (g.S.RunStore.runs c.args.store.now).honest c.args.budget.entries rows (grouping_sets asked.rollup asked.by.now) c.args.spent found.1)) are c.answer.ensures.spent
 
-pub returns-in_err-rows-clause-overflow : goal.returns-in_err-rows-clause-overflow
-returns-in_err-rows-clause-overflow g c = λ h e.
+pub returns-clause-overflow : goal.returns-clause-overflow
+returns-clause-overflow g c = λ h e.
     let selection = c.args.selection.now in
     let asked = c.args.grouping.now in
     let are = kept_are selection.condition.now.tests (option_copied selection.matching) c.in-Ok.keys (other_rows (option_copied selection.others)) selection.table.now.rows c.in-Ok.ensures in
-    ap (group_answer asked.rollup asked.by.now asked.shown.now asked.having.now.tests) (sym are) ∙ c.in_err-rows.ensures.overflow h (search rules)
+    ap (group_answer asked.rollup asked.by.now asked.shown.now asked.having.now.tests) (sym are) ∙ c.answer.ensures.overflow h e

@@ -23,13 +23,15 @@ returns-in_default-clause-why g c =
 
 pub returns-clause-own : goal.returns-clause-own
 returns-clause-own g c =
-    own_put c.args.positions.now c.args.map.now c.fill.new.self c.requires.own c.in-Ok.key c.row_out.result (c.in-Ok.ensures ∙ ap (key_of c.args.positions.now) (sym c.row_out.ensures))
-    (subst (λ k. by_key c.fill.new.self ≡ insert (by_key c.args.map.now) (class_of k) (stored_key (by_key c.args.map.now) (class_of k) k, c.row_out.result)) (sym c.in-Ok.ensures) (added_is (by_key c.args.map.now) (by_key c.fill.new.self) (key_of c.args.positions.now c.args.row.now) c.row_out.result c.requires.vacant.absent (subst (λ k. by_key c.fill.new.self ≡ insert (by_key c.args.map.now) (class_of k) (k, c.row_out.result)) c.in-Ok.ensures c.in-Ok-fill.ensures.entries)))
+    let key = c.in-Ok.ensures ∙ ap (key_of c.args.positions.now) c.cells.ensures in
+    own_put c.args.positions.now c.args.map.now c.fill.new.self c.requires.own c.in-Ok.key c.row_out.result (key ∙ ap (key_of c.args.positions.now) (sym c.row_out.ensures))
+    (subst (λ k. by_key c.fill.new.self ≡ insert (by_key c.args.map.now) (class_of k) (stored_key (by_key c.args.map.now) (class_of k) k, c.row_out.result)) (sym key) (added_is (by_key c.args.map.now) (by_key c.fill.new.self) (key_of c.args.positions.now c.args.row.now) c.row_out.result c.requires.vacant.absent (subst (λ k. by_key c.fill.new.self ≡ insert (by_key c.args.map.now) (class_of k) (k, c.row_out.result)) key c.in-Ok-fill.ensures.entries)))
 
 pub returns-clause-ok : goal.returns-clause-ok
 returns-clause-ok g c =
-    subst (λ row. IsPermutation (row ∷ delete c.args.positions.now (rows_in c.args.map.now) (key_of c.args.positions.now row)) (rows_in c.fill.new.self)) c.row_out.ensures (rows_put c.args.positions.now c.args.map.now c.fill.new.self c.requires.own c.in-Ok.key c.row_out.result (c.in-Ok.ensures ∙ ap (key_of c.args.positions.now) (sym c.row_out.ensures))
-    (subst (λ k. by_key c.fill.new.self ≡ insert (by_key c.args.map.now) (class_of k) (stored_key (by_key c.args.map.now) (class_of k) k, c.row_out.result)) (sym c.in-Ok.ensures) (added_is (by_key c.args.map.now) (by_key c.fill.new.self) (key_of c.args.positions.now c.args.row.now) c.row_out.result c.requires.vacant.absent (subst (λ k. by_key c.fill.new.self ≡ insert (by_key c.args.map.now) (class_of k) (k, c.row_out.result)) c.in-Ok.ensures c.in-Ok-fill.ensures.entries)))
+    let key = c.in-Ok.ensures ∙ ap (key_of c.args.positions.now) c.cells.ensures in
+    subst (λ row. IsPermutation (row ∷ delete c.args.positions.now (rows_in c.args.map.now) (key_of c.args.positions.now row)) (rows_in c.fill.new.self)) c.row_out.ensures (rows_put c.args.positions.now c.args.map.now c.fill.new.self c.requires.own c.in-Ok.key c.row_out.result (key ∙ ap (key_of c.args.positions.now) (sym c.row_out.ensures))
+    (subst (λ k. by_key c.fill.new.self ≡ insert (by_key c.args.map.now) (class_of k) (stored_key (by_key c.args.map.now) (class_of k) k, c.row_out.result)) (sym key) (added_is (by_key c.args.map.now) (by_key c.fill.new.self) (key_of c.args.positions.now c.args.row.now) c.row_out.result c.requires.vacant.absent (subst (λ k. by_key c.fill.new.self ≡ insert (by_key c.args.map.now) (class_of k) (k, c.row_out.result)) key c.in-Ok-fill.ensures.entries)))
     c.iter.result c.iter-2.result c.iter.ensures.slots c.iter.ensures.all c.iter-2.ensures.slots c.iter-2.ensures.all)
 
 pub returns-clause-few : goal.returns-clause-few

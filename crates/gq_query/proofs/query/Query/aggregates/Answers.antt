@@ -21,6 +21,6 @@ pub returns-clause-groups : goal.returns-clause-groups
 returns-clause-groups g c = λ h.
     let by = c.args.self.now.by.now in
     let rows = kept_rows c.args.self.now in
-    groups_shown by c.args.shown.now rows c.in_ok-groups.groups.items c.sort_groups.new.groups.items
-    (subst (λ l. IsPermutation (groups (record { by = by; aggs = l }) rows) (map answered c.in_ok-groups.groups.items)) (c.as_slice.ensures.value ∙ c.in-Ok.ensures) (c.in_ok-groups.ensures.groups h))
-    c.in-Ok-sort_groups.ensures.moved c.in-Ok-sort_groups.ensures.ascending
+    groups_shown by c.args.shown.now rows c.in_ok-groups.groups c.sort.new.self
+    (subst (λ l. IsPermutation (groups (record { by = by; aggs = l }) rows) (map answered c.in_ok-groups.groups)) (c.as_slice.ensures.value ∙ c.in-Ok.ensures) (c.in_ok-groups.ensures.groups h))
+    c.sort.ensures.moved c.sort.ensures.ascending

@@ -4,5 +4,5 @@ use Rattle.gq_query.proofs.query.Query.counts.Goals as goal
 
 pub returns-clause-counts : goal.returns-clause-counts
 returns-clause-counts g c = λ h.
-    counts_shown c.args.self.now.by.now c.args.column (kept_rows c.args.self.now) c.in_ok-counts.counts.items c.sort_groups.new.groups.items
-    (c.in_ok-counts.ensures.counts h) c.in-Ok.ensures.moved c.in-Ok.ensures.ascending
+    counts_shown c.args.self.now.by.now c.args.column (kept_rows c.args.self.now) c.in_ok-counts.counts c.sort.new.self
+    (c.in_ok-counts.ensures.counts h) c.sort.ensures.moved c.sort.ensures.ascending

@@ -49,5 +49,5 @@ returns-clause-counts g c = λ h.
     let same : distinct_groups c.as_slice-4.result.now c.place_of-place.result given ≡ distinct_groups by c.args.column mine
     = (λ i. distinct_groups (by_there i) (place i) (map (cells_in (used i)) (filter keep (c.rows.ensures.rows i)))) ∙ distinct_placed by c.args.column mine in
     let pushed = c.in_ok-group_distinct.ensures.groups h given refl [] (sym c.new-sink.ensures) in
-    let found : c.into_vec.result.items ≡ pushed.0 = c.into_vec.ensures ∙ sym pushed.2 in
+    let found = sym pushed.2 in
     subst (IsPermutation (distinct_groups by c.args.column mine)) (sym found) (subst (λ gs. IsPermutation gs pushed.0) same pushed.1)

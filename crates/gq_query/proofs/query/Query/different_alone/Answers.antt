@@ -6,12 +6,12 @@ use Rattle.gq_query.proofs.KeepingLemmas.{all_kept}
 use Rattle.gq_query.proofs.SpellingLemmas.{distinct_alone, plain_rows}
 use Rattle.gq_query.proofs.query.Query.different_alone.Goals as goal
 
-pub returns-in-Ok-rows_of-clause-rows : goal.returns-in-Ok-rows_of-clause-rows
-returns-in-Ok-rows_of-clause-rows g c = λ h.
+pub returns-in-Ok-clause-rows : goal.returns-in-Ok-clause-rows
+returns-in-Ok-clause-rows g c = λ h.
     let by = c.args.self.now.by.now in
     let table = c.args.self.now.table.now in
     let mine = kept_rows c.args.self.now in
     let fit = all_kept (fits_columns table.heading.columns) (is_kept c.args.self.now.kept.now) table.rows c.requires.fitting in
-    c.in-Ok-rows_of.ensures
-    ∙ distinct_shown by mine c.in_ok-groups.groups.items c.sort_groups.new.groups.items (c.in_ok-groups.ensures.keys h) c.in-Ok.ensures.moved c.in-Ok.ensures.ascending
+    c.in-Ok.ensures
+    ∙ distinct_shown by mine c.in_ok-groups.groups c.sort.new.self (c.in_ok-groups.ensures.keys h) c.sort.ensures.moved c.sort.ensures.ascending
     ∙ distinct_alone by mine c.requires.some (plain_rows table.heading.columns by mine fit c.requires.alone)

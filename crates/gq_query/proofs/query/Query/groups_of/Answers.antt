@@ -59,7 +59,7 @@ returns-clause-groups g c = λ h.
     let same : groups c.in-Ok-place_spec.spec given ≡ groups spec rows
     = (λ i. groups (asked i) (map (cells_in (used i)) (filter keep (c.rows.ensures.rows i)))) ∙ groups_placed spec rows in
     let pushed = c.in_ok-spent.ensures.groups h given refl [] (sym c.new-sink.ensures) in
-    let all : c.into_vec.result.items ≡ pushed.0 = c.into_vec.ensures ∙ sym pushed.2 in
+    let all = sym pushed.2 in
     subst (λ l. IsPermutation (groups spec rows) (map answered l)) (sym all) (subst (λ gs. IsPermutation gs (map answered pushed.0)) same pushed.1)
 
 pub returns-clause-spent : goal.returns-clause-spent

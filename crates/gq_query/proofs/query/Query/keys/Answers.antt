@@ -56,5 +56,5 @@ returns-clause-keys g c = λ h.
     let same : keys c.in-Ok-place_columns.by.items given ≡ keys by mine
     = (λ i. keys (by_there i) (map (cells_in (used i)) (filter keep (c.rows.ensures.rows i)))) ∙ keys_of_placed by mine c.requires.some in
     let pushed = c.in_ok-distinct.ensures.keys h given refl [] (sym c.new-sink.ensures) in
-    let found : c.into_vec.result.items ≡ pushed.0 = c.into_vec.ensures ∙ sym pushed.2 in
+    let found = sym pushed.2 in
     subst (IsPermutation (bare_keys by mine)) (sym found) (subst (λ ks. IsPermutation (map (λ key. (key, [])) ks) pushed.0) same pushed.1)

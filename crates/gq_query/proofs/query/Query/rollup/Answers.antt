@@ -1,6 +1,7 @@
 use Rattle.std.proofs.Common.{◌≡◌, ◌<◌, ◌+◌, IsTrue, length, sym, subst, rules, arith}
-use Rattle.std.proofs.lemmas.Grind.{common_steps}
+use Rattle.gq_group.proofs.AccessLemmas.{leaves-trans}
 use Rattle.gq_query.specs.Keeping.{kept_rows}
+use Rattle.gq_query.specs.Sources.{no_runs}
 use Rattle.gq_query.proofs.RollupLemmas.{Risen, SoFar, all_levels, all_risen, level_refused, one_level_more, risen_more, total_level, total_risen}
 use Rattle.gq_query.proofs.query.Query.rollup.Goals as goal
 
@@ -11,7 +12,7 @@ levels-init g c =
     let honest = (g.S.RunStore.runs c.args.store.now).honest in
     let budget = c.args.self.now.budget.entries in
     record {
-      rows = λ h. total_level by c.args.shown.now c.args.condition.now.tests rows c.in_ok-rows.rows.items (c.in_ok-rows.ensures.rows h);
+      rows = λ h. total_level by c.args.shown.now c.args.condition.now.tests rows c.in_ok-rows.rows (c.in_ok-rows.ensures.rows h);
       risen = subst (Risen honest budget by rows c.args.spent 0) (sym c.both_spent-total.ensures) (total_risen honest budget by rows c.args.spent c.in_ok-rows.work c.in_ok-rows.ensures.spent);
       others = c.level.ensures.others;
     }
@@ -20,7 +21,7 @@ pub returns-in_err-more-clause-overflow : goal.returns-in_err-more-clause-overfl
 returns-in_err-more-clause-overflow g c = λ h e.
     let below : c.levels.fewer < length c.args.self.now.by.now = omega arith in
     let still = subst IsTrue (sym c.levels.invariant.others.same_honest) h in
-    level_refused c.args.self.now.by.now c.args.shown.now c.args.condition.now.tests (kept_rows c.args.self.now) c.levels.fewer c.levels.rows.items below (c.levels.invariant.rows h) (c.in_err-more.ensures.overflow still (search rules))
+    level_refused c.args.self.now.by.now c.args.shown.now c.args.condition.now.tests (kept_rows c.args.self.now) c.levels.fewer c.levels.rows below (c.levels.invariant.rows h) (c.in_err-more.ensures.overflow still (search rules))
 
 pub levels-preserved : goal.levels-preserved
 levels-preserved g c =
@@ -35,16 +36,16 @@ levels-preserved g c =
     let still = λ (h : IsTrue honest). subst IsTrue (sym c.levels.invariant.others.same_honest) h in
     let more = risen_more honest budget by rows c.args.spent level c.levels.total c.in_ok-more.work below (λ h. c.in_ok-more.ensures.spent (still h)) c.levels.invariant.risen in
     record {
-      rows = λ h. subst (SoFar by shown tests rows (level + 1)) (sym c.in-Ok.ensures.items)
-          (one_level_more by shown tests rows level c.levels.rows.items c.in_ok-more.more.items below (c.levels.invariant.rows h) (c.in_ok-more.ensures.rows (still h)));
+      rows = λ h. subst (SoFar by shown tests rows (level + 1)) (sym c.in-Ok.ensures.appended)
+          (one_level_more by shown tests rows level c.levels.rows c.in_ok-more.more below (c.levels.invariant.rows h) (c.in_ok-more.ensures.rows (still h)));
       risen = subst (Risen honest budget by rows c.args.spent (level + 1)) (sym c.both_spent-total-in-levels.ensures) more;
-      others = grind (arith, common_steps);
+      others = leaves-trans no_runs no_runs no_runs _ _ _ c.levels.invariant.others c.level-in-levels.ensures.others;
     }
 
 pub returns-clause-rows : goal.returns-clause-rows
 returns-clause-rows g c = λ h.
     let end : c.levels.fewer ≡ length c.args.self.now.by.now = omega arith in
-    all_levels c.args.self.now.by.now c.args.shown.now c.args.condition.now.tests (kept_rows c.args.self.now) c.levels.fewer c.levels.rows.items end (c.levels.invariant.rows h)
+    all_levels c.args.self.now.by.now c.args.shown.now c.args.condition.now.tests (kept_rows c.args.self.now) c.levels.fewer c.levels.rows end (c.levels.invariant.rows h)
 
 pub returns-clause-spent : goal.returns-clause-spent
 returns-clause-spent g c =

@@ -21,5 +21,5 @@ returns-in-Ok-clause-rows g c = λ h.
     let mine = kept_rows c.args.self.now in
     let fit = all_kept (fits_columns table.heading.columns) (is_kept c.args.self.now.kept.now) table.rows c.requires.fitting in
     sym (answer_alone by mine c.args.shown.now (plain_rows table.heading.columns by mine fit c.requires.alone))
-    ∙ shown_answer by c.args.shown.now mine c.in_ok-groups.groups.items (c.in_ok-groups.ensures.groups h)
+    ∙ shown_answer by c.args.shown.now mine c.in_ok-groups.groups (c.in_ok-groups.ensures.groups h)
     ∙ ap Some (sym c.in-Ok.ensures)

@@ -11,7 +11,7 @@ returns-clause-groups g c = λ h.
     let rows = kept_rows c.args.self.now in
     let shown = c.args.shown.now in
     let end : c.shown.place ≡ length shown = omega arith in
-    subst (λ l. AreShown by l rows c.shown.groups.items) (ap (λ n. so_far n shown) end ∙ so_far_all shown) (c.shown.invariant.groups h)
+    subst (λ l. AreShown by l rows c.shown.groups) (ap (λ n. so_far n shown) end ∙ so_far_all shown) (c.shown.invariant.groups h)
 
 pub show_next-requires-clause-columns : goal.show_next-requires-clause-columns
 show_next-requires-clause-columns g c = grind (arith, common_steps)

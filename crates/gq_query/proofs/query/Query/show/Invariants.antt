@@ -9,6 +9,6 @@ abbrev pub invariant-shown : goal.invariant-shown
 invariant-shown g l =
     let runs = g.S.RunStore.runs in
     record {
-      groups : IsTrue (runs l.fn.store).honest → AreShown l.self.by.now (so_far l.place l.shown) (kept_rows l.self) l.groups.items;
+      groups : IsTrue (runs l.fn.store).honest → AreShown l.self.by.now (so_far l.place l.shown) (kept_rows l.self) l.groups;
       others : LeavesOthers no_runs no_runs (runs l.fn.store) (runs l.store);
     }

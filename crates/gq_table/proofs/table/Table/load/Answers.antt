@@ -7,7 +7,7 @@ use Rattle.gq_table.specs.Changes.{IsLoaded}
 use Rattle.gq_table.specs.Keyed.{OwnKeys, by_key, rows_in}
 use Rattle.gq_table.specs.Refusing.{load_refusal, WhyNotLoaded}
 use Rattle.gq_table.specs.Stored.{IsStored, rows_of}
-use Rattle.gq_table.specs.declared.rows.Rows.TheVariants.{Listed}
+use Rattle.gq_table.specs.declared.rows.Storage.TheVariants.{Listed}
 use Rattle.gq_table.proofs.StandingLemmas.{table, rows_limit}
 use Rattle.gq_table.proofs.StoredLemmas.{loaded_keyed, loaded_listed, keyed_own, keyed_some, staged_fit, IsListed, LoadKeyed, LoadListed}
 use Rattle.gq_table.proofs.table.Table.load.Goals as goal
@@ -34,8 +34,8 @@ pub invariant_of-self-in-Listed : goal.invariant_of-self-in-Listed
 invariant_of-self-in-Listed g c =
     (loaded_listed c.args.limits.now.bounds c.args.limits.now.in_range c.self.inside.schema c.args.staged.rows (staged_fit c.self.inside.schema c.args.staged.heading c.into_rows-rows.result c.args.staged.rows (c.requires ∙ sym (ap (λ (t : PlainTable). t.heading) c.self.view_is)) c.into_rows-rows.ensures.stored c.into_rows-rows.ensures.rows)
     c.self.inside.rows (Listed c.load_listed.new.list) c.load_listed.result (subst IsListed (sym c.in-Listed.is) tt) tt c.self.invariant
-    (subst (λ r. LoadListed c.args.limits.now.bounds.rows c.args.staged.rows (rows_of r) c.load_listed.new.list.items c.load_listed.result) (sym c.in-Listed.is)
-    (subst (λ l. LoadListed c.args.limits.now.bounds.rows l c.in-Listed.list.items c.load_listed.new.list.items c.load_listed.result) (ap rows_of (sym c.in-Listed-rows.is) ∙ c.into_rows-rows.ensures.rows)
+    (subst (λ r. LoadListed c.args.limits.now.bounds.rows c.args.staged.rows (rows_of r) c.load_listed.new.list c.load_listed.result) (sym c.in-Listed.is)
+    (subst (λ l. LoadListed c.args.limits.now.bounds.rows l c.in-Listed.list c.load_listed.new.list c.load_listed.result) (ap rows_of (sym c.in-Listed-rows.is) ∙ c.into_rows-rows.ensures.rows)
     (record { ok = c.load_listed.ensures.ok; few = c.load_listed.ensures.few; err = c.load_listed.ensures.err; why = c.load_listed.ensures.why })))).stored
 
 pub returns-in-Keyed-clause-ok : goal.returns-in-Keyed-clause-ok
@@ -68,11 +68,11 @@ returns-in-Keyed-clause-unchanged g c =
 
 pub returns-in-Listed-clause-ok : goal.returns-in-Listed-clause-ok
 returns-in-Listed-clause-ok g c =
-    subst (λ t. OnOk c.load_listed.result (IsLoaded t c.args.staged.rows (table c.self.inside.schema c.load_listed.new.list.items))) c.self.view_is
+    subst (λ t. OnOk c.load_listed.result (IsLoaded t c.args.staged.rows (table c.self.inside.schema c.load_listed.new.list))) c.self.view_is
     (loaded_listed c.args.limits.now.bounds c.args.limits.now.in_range c.self.inside.schema c.args.staged.rows (staged_fit c.self.inside.schema c.args.staged.heading c.into_rows-rows.result c.args.staged.rows (c.requires ∙ sym (ap (λ (t : PlainTable). t.heading) c.self.view_is)) c.into_rows-rows.ensures.stored c.into_rows-rows.ensures.rows)
     c.self.inside.rows (Listed c.load_listed.new.list) c.load_listed.result (subst IsListed (sym c.in-Listed.is) tt) tt c.self.invariant
-    (subst (λ r. LoadListed c.args.limits.now.bounds.rows c.args.staged.rows (rows_of r) c.load_listed.new.list.items c.load_listed.result) (sym c.in-Listed.is)
-    (subst (λ l. LoadListed c.args.limits.now.bounds.rows l c.in-Listed.list.items c.load_listed.new.list.items c.load_listed.result) (ap rows_of (sym c.in-Listed-rows.is) ∙ c.into_rows-rows.ensures.rows)
+    (subst (λ r. LoadListed c.args.limits.now.bounds.rows c.args.staged.rows (rows_of r) c.load_listed.new.list c.load_listed.result) (sym c.in-Listed.is)
+    (subst (λ l. LoadListed c.args.limits.now.bounds.rows l c.in-Listed.list c.load_listed.new.list c.load_listed.result) (ap rows_of (sym c.in-Listed-rows.is) ∙ c.into_rows-rows.ensures.rows)
     (record { ok = c.load_listed.ensures.ok; few = c.load_listed.ensures.few; err = c.load_listed.ensures.err; why = c.load_listed.ensures.why })))).ok
 
 pub returns-in-Listed-clause-taken : goal.returns-in-Listed-clause-taken
@@ -80,8 +80,8 @@ returns-in-Listed-clause-taken g c =
     subst (λ t. OnOk c.load_listed.result (load_refusal c.args.limits.now.bounds t c.args.staged.rows ≡ None)) c.self.view_is
     (loaded_listed c.args.limits.now.bounds c.args.limits.now.in_range c.self.inside.schema c.args.staged.rows (staged_fit c.self.inside.schema c.args.staged.heading c.into_rows-rows.result c.args.staged.rows (c.requires ∙ sym (ap (λ (t : PlainTable). t.heading) c.self.view_is)) c.into_rows-rows.ensures.stored c.into_rows-rows.ensures.rows)
     c.self.inside.rows (Listed c.load_listed.new.list) c.load_listed.result (subst IsListed (sym c.in-Listed.is) tt) tt c.self.invariant
-    (subst (λ r. LoadListed c.args.limits.now.bounds.rows c.args.staged.rows (rows_of r) c.load_listed.new.list.items c.load_listed.result) (sym c.in-Listed.is)
-    (subst (λ l. LoadListed c.args.limits.now.bounds.rows l c.in-Listed.list.items c.load_listed.new.list.items c.load_listed.result) (ap rows_of (sym c.in-Listed-rows.is) ∙ c.into_rows-rows.ensures.rows)
+    (subst (λ r. LoadListed c.args.limits.now.bounds.rows c.args.staged.rows (rows_of r) c.load_listed.new.list c.load_listed.result) (sym c.in-Listed.is)
+    (subst (λ l. LoadListed c.args.limits.now.bounds.rows l c.in-Listed.list c.load_listed.new.list c.load_listed.result) (ap rows_of (sym c.in-Listed-rows.is) ∙ c.into_rows-rows.ensures.rows)
     (record { ok = c.load_listed.ensures.ok; few = c.load_listed.ensures.few; err = c.load_listed.ensures.err; why = c.load_listed.ensures.why })))).taken
 
 pub returns-in-Listed-clause-refused : goal.returns-in-Listed-clause-refused
@@ -89,17 +89,17 @@ returns-in-Listed-clause-refused g c =
     subst (λ t. IfErr c.load_listed.result (WhyNotLoaded c.args.limits.now.bounds t c.args.staged.rows)) c.self.view_is
     (loaded_listed c.args.limits.now.bounds c.args.limits.now.in_range c.self.inside.schema c.args.staged.rows (staged_fit c.self.inside.schema c.args.staged.heading c.into_rows-rows.result c.args.staged.rows (c.requires ∙ sym (ap (λ (t : PlainTable). t.heading) c.self.view_is)) c.into_rows-rows.ensures.stored c.into_rows-rows.ensures.rows)
     c.self.inside.rows (Listed c.load_listed.new.list) c.load_listed.result (subst IsListed (sym c.in-Listed.is) tt) tt c.self.invariant
-    (subst (λ r. LoadListed c.args.limits.now.bounds.rows c.args.staged.rows (rows_of r) c.load_listed.new.list.items c.load_listed.result) (sym c.in-Listed.is)
-    (subst (λ l. LoadListed c.args.limits.now.bounds.rows l c.in-Listed.list.items c.load_listed.new.list.items c.load_listed.result) (ap rows_of (sym c.in-Listed-rows.is) ∙ c.into_rows-rows.ensures.rows)
+    (subst (λ r. LoadListed c.args.limits.now.bounds.rows c.args.staged.rows (rows_of r) c.load_listed.new.list c.load_listed.result) (sym c.in-Listed.is)
+    (subst (λ l. LoadListed c.args.limits.now.bounds.rows l c.in-Listed.list c.load_listed.new.list c.load_listed.result) (ap rows_of (sym c.in-Listed-rows.is) ∙ c.into_rows-rows.ensures.rows)
     (record { ok = c.load_listed.ensures.ok; few = c.load_listed.ensures.few; err = c.load_listed.ensures.err; why = c.load_listed.ensures.why })))).refused
 
 pub returns-in-Listed-clause-unchanged : goal.returns-in-Listed-clause-unchanged
 returns-in-Listed-clause-unchanged g c =
-    subst (λ t. OnErr c.load_listed.result ((table c.self.inside.schema c.load_listed.new.list.items) ≡ t)) c.self.view_is
+    subst (λ t. OnErr c.load_listed.result ((table c.self.inside.schema c.load_listed.new.list) ≡ t)) c.self.view_is
     (loaded_listed c.args.limits.now.bounds c.args.limits.now.in_range c.self.inside.schema c.args.staged.rows (staged_fit c.self.inside.schema c.args.staged.heading c.into_rows-rows.result c.args.staged.rows (c.requires ∙ sym (ap (λ (t : PlainTable). t.heading) c.self.view_is)) c.into_rows-rows.ensures.stored c.into_rows-rows.ensures.rows)
     c.self.inside.rows (Listed c.load_listed.new.list) c.load_listed.result (subst IsListed (sym c.in-Listed.is) tt) tt c.self.invariant
-    (subst (λ r. LoadListed c.args.limits.now.bounds.rows c.args.staged.rows (rows_of r) c.load_listed.new.list.items c.load_listed.result) (sym c.in-Listed.is)
-    (subst (λ l. LoadListed c.args.limits.now.bounds.rows l c.in-Listed.list.items c.load_listed.new.list.items c.load_listed.result) (ap rows_of (sym c.in-Listed-rows.is) ∙ c.into_rows-rows.ensures.rows)
+    (subst (λ r. LoadListed c.args.limits.now.bounds.rows c.args.staged.rows (rows_of r) c.load_listed.new.list c.load_listed.result) (sym c.in-Listed.is)
+    (subst (λ l. LoadListed c.args.limits.now.bounds.rows l c.in-Listed.list c.load_listed.new.list c.load_listed.result) (ap rows_of (sym c.in-Listed-rows.is) ∙ c.into_rows-rows.ensures.rows)
     (record { ok = c.load_listed.ensures.ok; few = c.load_listed.ensures.few; err = c.load_listed.ensures.err; why = c.load_listed.ensures.why })))).unchanged
 
 pub load_listed-requires : goal.load_listed-requires

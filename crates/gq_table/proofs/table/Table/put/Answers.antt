@@ -6,7 +6,7 @@ use Rattle.gq_table.specs.Changes.{IsPut}
 use Rattle.gq_table.specs.Keyed.{OwnKeys, by_key, rows_in}
 use Rattle.gq_table.specs.Refusing.{row_refusal, WhyNotPut}
 use Rattle.gq_table.specs.Stored.{IsStored, rows_of}
-use Rattle.gq_table.specs.declared.rows.Rows.TheVariants.{Listed}
+use Rattle.gq_table.specs.declared.rows.Storage.TheVariants.{Listed}
 use Rattle.gq_table.proofs.StandingLemmas.{table, key_in_range}
 use Rattle.gq_table.proofs.StoredLemmas.{upserted_keyed, upserted_listed, keyed_own, IsListed, PutListed}
 use Rattle.gq_table.proofs.table.Table.put.Goals as goal
@@ -29,7 +29,7 @@ pub invariant_of-self-in-Listed : goal.invariant_of-self-in-Listed
 invariant_of-self-in-Listed g c =
     (upserted_listed c.args.limits.now.bounds c.args.limits.now.in_range c.self.inside.schema c.args.row.now (subst (λ t. fits_columns t.heading.columns c.args.row.now ≡ true) (sym c.self.view_is) c.requires.fits) (subst (λ t. has_null t.heading.key c.args.row.now ≡ false) (sym c.self.view_is) c.requires.keyed)
     c.self.inside.rows (Listed c.put_listed.new.rows) c.put_listed.result (subst IsListed (sym c.in-Listed.is) tt) tt c.self.invariant
-    (subst (λ r. PutListed c.args.limits.now.bounds.rows c.args.row.now (rows_of r) c.put_listed.new.rows.items c.put_listed.result) (sym c.in-Listed.is)
+    (subst (λ r. PutListed c.args.limits.now.bounds.rows c.args.row.now (rows_of r) c.put_listed.new.rows c.put_listed.result) (sym c.in-Listed.is)
     (record { ok = c.put_listed.ensures.ok; few = c.put_listed.ensures.few; err = c.put_listed.ensures.err; why = c.put_listed.ensures.why }))).stored
 
 pub returns-in-Keyed-clause-ok : goal.returns-in-Keyed-clause-ok

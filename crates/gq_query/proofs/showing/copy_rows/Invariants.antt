@@ -1,9 +1,0 @@
-use Rattle.std.proofs.Common.{◌≡◌, ◌++◌}
-use Rattle.gq_query.proofs.showing.copy_rows.Given as goal
-
-abbrev pub invariant-loop-row : goal.invariant-loop-row
-invariant-loop-row g l = record {
-  can_next : (goal.iterator-loop-row g).can_next l.row-iterator;
-  is_finite : (goal.iterator-loop-row g).is_finite l.row-iterator;
-  copied : l.rows.items ++ l.row-iterator ≡ l.table.rows;
-}

@@ -1,0 +1,33 @@
+-- Groups in one list of cells.
+use Rattle.std.specs.Prelude.{◌≡◌, ◌≤◌, ◌++◌, List, [], length, drop, nat_le, ◌&&◌, if◌then◌else◌}
+use Rattle.std.specs.Ordering.{nat_cmp, ordering_then}
+use Rattle.std.specs.declared.cmp.Ordering.{Ordering}
+use Rattle.gq_row.specs.declared.value.Value.{Value}
+use Rattle.gq_row.specs.Lists.{part}
+use Rattle.gq_row.specs.Order.{compare_keys}
+use Rattle.gq_group.specs.Groups.{Group}
+use Rattle.gq_query.specs.declared.group_list.GroupSpan.{GroupSpan}
+use Rattle.gq_query.specs.Fronts.{IsFrontOf}
+
+-- a list that begins with another
+abbrev pub IsLonger : List Value → List Value → Type 0
+IsLonger old new = new ≡ old ++ drop (length old) new
+
+-- the group that stands at a span: its key, and what stands behind it
+abbrev pub group_at : List Value → GroupSpan → Group
+group_at cells span = (part cells span.start span.middle, part cells span.middle span.end)
+
+-- a span lies within a list, and its front is that of the key there
+pub record IsGroupAt (cells : List Value) (span : GroupSpan) : Type 0 where
+  pub keyed : span.start ≤ span.middle
+  pub valued : span.middle ≤ span.end
+  pub within : span.end ≤ length cells
+  pub fronted : IsFrontOf (part cells span.start span.middle) span.front
+
+-- the key that stands at a span, or none where the span does not lie within the list
+abbrev pub key_in : List Value → GroupSpan → List Value
+key_in cells span = if nat_le span.start span.middle && nat_le span.middle (length cells) then part cells span.start span.middle else []
+
+-- spans are compared by the two words of their fronts, and by their keys where these tie
+abbrev pub compare_at : List Value → GroupSpan → GroupSpan → Ordering
+compare_at cells a b = ordering_then (ordering_then (nat_cmp a.front.high b.front.high) (nat_cmp a.front.low b.front.low)) (compare_keys (key_in cells a) (key_in cells b))

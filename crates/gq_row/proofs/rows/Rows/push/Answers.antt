@@ -1,0 +1,28 @@
+use Rattle.std.proofs.Common.{◌≡◌, ◌++◌, ◌∷◌, ◌∙◌, [], length, map, ap, rules}
+use Rattle.gq_row.specs.declared.rows.Span.{Span}
+use Rattle.gq_row.specs.Lists.{row_at}
+use Rattle.gq_row.proofs.RowsLemmas.{row_pushed, rows_kept}
+use Rattle.gq_row.proofs.rows.Rows.push.Goals as goal
+
+pub returns-clause-pushed : goal.returns-clause-pushed
+returns-clause-pushed c =
+    let xs = c.self.inside.cells.items in
+    let row = c.args.row.now.items in
+    let span : Span = record { start = c.len-start.result; end = c.len-end.result } in
+    let cells : c.append.new.self.items ≡ xs ++ row = search rules in
+    let spans : c.push.new.self.items ≡ c.self.inside.spans.items ++ span ∷ [] = search rules in
+    let low : c.len-start.result ≡ length xs = search rules in
+    let high : c.len-end.result ≡ length c.append.new.self.items = search rules in
+    (λ i. map (row_at (cells i)) (spans i))
+    ∙ row_pushed xs row c.self.inside.spans.items span low (high ∙ ap length cells) c.self.invariant
+    ∙ ap (λ l. l ++ row ∷ []) c.self.view_is
+
+pub returns-in_err-push-clause-unchanged : goal.returns-in_err-push-clause-unchanged
+returns-in_err-push-clause-unchanged c =
+    let xs = c.self.inside.cells.items in
+    let row = c.args.row.now.items in
+    let cells : c.append.new.self.items ≡ xs ++ row = search rules in
+    let spans : c.push.new.self.items ≡ c.self.inside.spans.items = search rules in
+    let still : map (row_at c.append.new.self.items) c.push.new.self.items ≡ c.args.self.now =
+    (λ i. map (row_at (cells i)) (spans i)) ∙ rows_kept xs row c.self.inside.spans.items c.self.invariant ∙ c.self.view_is in
+    search rules

@@ -1,0 +1,153 @@
+//! Many rows in one list.
+ghost use Rattle.std.specs.Prelude.{◌≡◌, ◌<◌, ◌≤◌, ◌==◌, ◌++◌, ◌∷◌, [], All, OnOk, OnErr, length, map, take, slice_index_or};
+ghost use Rattle.std.specs.List.{swap};
+ghost use Rattle.gq_row.specs.Lists.{IsPart, row_at};
+
+use crate::value::Value;
+use std::alloc::{AllocError, Global};
+use std::marker::Model;
+
+/// Where a row stands in a list of cells: from the first position up to the second, which it leaves out.
+#[derive(Clone, Copy)]
+pub struct Span {
+    pub start: usize,
+    pub end: usize,
+}
+
+/// Rows whose cells stand one behind the other in one list, seen as the list of rows. They take two
+/// requests for memory in all, where a [`Row`](crate::Row) of each would take one a row. What moves,
+/// swaps or leaves out rows moves spans, and no cell.
+#[derive(Drop)]
+pub struct Rows {
+    cells: Vec<Value>,
+    spans: Vec<Span>,
+}
+
+impl Model for Rows {
+    ghost use Rattle.std.specs.Prelude.{List, All, map};
+    ghost use Rattle.gq_row.specs.declared.value.Value.{Value as Cell};
+    ghost use Rattle.gq_row.specs.Lists.{IsPart, row_at};
+
+    ghost Value = { List (List Cell) };
+
+    ghost view = { λ r. map (row_at r.cells.items) r.spans.items };
+
+    ghost invariant = { λ r. All (IsPart r.cells.items) r.spans.items };
+}
+
+impl Rows {
+    /// No row. It takes no memory.
+    pub fn new(alloc: Global) -> Rows
+        ensures { result ≡ [] }
+    {
+        Rows {
+            cells: Vec::new(alloc),
+            spans: Vec::new(alloc),
+        }
+    }
+
+    /// The rows that stand at these spans of a list of cells, without a copy.
+    pub fn of(cells: Vec<Value>, spans: Vec<Span>) -> Rows
+        requires { All (IsPart cells.items) spans.items }
+        ensures { result ≡ map (row_at cells.items) spans.items }
+    {
+        Rows { cells, spans }
+    }
+
+    /// Makes room for so many rows of so many cells each.
+    pub fn reserve(&mut self, rows: usize, width: usize) -> Result<(), AllocError>
+        ensures { self.new ≡ self.old }
+    {
+        self.spans.reserve(rows)?;
+        self.cells.reserve(rows.saturating_mul(width))
+    }
+
+    /// The number of rows.
+    #[inline]
+    pub fn len(&self) -> usize
+        ensures { result ≡ length self.now }
+    {
+        self.spans.len()
+    }
+
+    #[inline]
+    pub fn is_empty(&self) -> bool
+        ensures { result ≡ (length self.now == 0) }
+    {
+        self.spans.is_empty()
+    }
+
+    /// The values of the row at a position, counted from 0.
+    #[inline]
+    pub fn row(&self, position: usize) -> &[Value]
+        requires { position < length self.now }
+        ensures { result.now ≡ slice_index_or self.now position [] }
+    {
+        let span = self.spans[position];
+        &self.cells[span.start..span.end]
+    }
+
+    /// Puts a row behind the others. Its values move out of the list that it is lent.
+    pub fn push(&mut self, row: &mut Vec<Value>) -> Result<(), AllocError>
+        ensures pushed { OnOk result (self.new ≡ self.old ++ row.old.items ∷ []) }
+        ensures moved { OnOk result (row.new.items ≡ []) }
+        ensures unchanged { OnErr result (self.new ≡ self.old) }
+    {
+        let start = self.cells.len();
+        self.cells.append(row)?;
+        let end = self.cells.len();
+        self.spans.push(Span { start, end })?;
+        Ok(())
+    }
+
+    /// Puts a copy of a row behind the others.
+    pub fn push_copy(&mut self, alloc: Global, row: &[Value]) -> Result<(), AllocError>
+        ensures { OnOk result (self.new ≡ self.old ++ row.now ∷ []) }
+    {
+        let start = self.cells.len();
+        for value in row {
+            self.cells.push(value.copy(alloc)?)?;
+        }
+        let end = self.cells.len();
+        self.spans.push(Span { start, end })?;
+        Ok(())
+    }
+
+    /// Puts all rows of another list behind the others. They move.
+    pub fn append(&mut self, more: Rows) -> Result<(), AllocError>
+        ensures appended { OnOk result (self.new ≡ self.old ++ more) }
+        ensures unchanged { OnErr result (self.new ≡ self.old) }
+    {
+        let Rows {
+            mut cells,
+            mut spans,
+        } = more;
+        self.spans.reserve(spans.len())?;
+        let start = self.cells.len();
+        self.cells.append(&mut cells)?;
+        for i in 0..spans.len() {
+            let span = spans[i];
+            spans[i] = Span {
+                start: start + span.start,
+                end: start + span.end,
+            };
+        }
+        self.spans.append(&mut spans)?;
+        Ok(())
+    }
+
+    /// Lets two rows change places.
+    pub fn swap(&mut self, a: usize, b: usize)
+        requires { (a < length self.old) × (b < length self.old) }
+        ensures { self.new ≡ swap self.old a b }
+    {
+        self.spans.swap(a, b);
+    }
+
+    /// Leaves out all rows but the first, so many.
+    pub fn truncate(&mut self, rows: usize)
+        ensures { self.new ≡ take rows self.old }
+    {
+        self.spans.truncate(rows);
+    }
+}
