@@ -2,8 +2,14 @@
 # `groupsh`. ./test holds its options to those of --help.
 
 _groupsh() {
-  local word=${COMP_WORDS[COMP_CWORD]} before=
-  ((COMP_CWORD > 0)) && before=${COMP_WORDS[COMP_CWORD - 1]}
+  local word=${COMP_WORDS[COMP_CWORD]} at=$((COMP_CWORD - 1)) before=
+  # Bash takes the sign of `--seed=7` for a word.
+  if [[ $word == "=" ]]; then
+    word=
+  elif ((at > 0)) && [[ ${COMP_WORDS[at]} == "=" ]]; then
+    ((at--))
+  fi
+  ((at >= 0)) && before=${COMP_WORDS[at]}
   case $before in
     --budget) COMPREPLY=() ;;
     --seed) mapfile -t COMPREPLY < <(compgen -W "random" -- "$word") ;;

@@ -47,33 +47,35 @@ def order(value):
     """Null first, then numbers, then texts by their bytes, those without case by their folds."""
     if value is None:
         return (0, 0, b"")
-    if isinstance(value, int):
+    if type(value) is int:
         return (1, value, b"")
-    return (2, 0, value.fold if isinstance(value, NoCase) else value.encode())
+    return (2, 0, value.fold if type(value) is NoCase else value.encode())
 
 
 def order_of_cells(row):
     """By all cells from the left, and where they are the same by the bytes of those without case."""
-    return [order(value) for value in row] + [value.encode() for value in row if isinstance(value, NoCase)]
+    spelled = [value.encode() for value in row if type(value) is NoCase]
+    return [order(value) for value in row] + spelled
 
 
-def order_of_spellings(value):
-    return order_of_cells([value])
+def order_of_spellings(text):
+    return text.fold, text.encode()
 
 
-def shown_key(key, keys):
-    """What is shown of keys that are the same as this one: the least spelling of each value."""
-    if not any(isinstance(value, NoCase) for value in key):
-        return key
-    return tuple(min(values, key=order_of_spellings) for values in zip(*keys))
+def extreme(choose, values):
+    """The least or the greatest of numbers, of texts, whose characters are ordered as their bytes, or of texts without case;
+    None of no values, and of nulls."""
+    if not values or values[0] is None:
+        return None
+    return choose(values, key=order_of_spellings) if isinstance(values[0], NoCase) else choose(values)
 
 
 AGGREGATES = {
     "count": len,
     "count distinct": lambda values: len(set(values)),
     "sum": lambda values: sum(values) if values else None,
-    "min": lambda values: min(values, key=order_of_spellings, default=None),
-    "max": lambda values: max(values, key=order_of_spellings, default=None),
+    "min": lambda values: extreme(min, values),
+    "max": lambda values: extreme(max, values),
 }
 
 
@@ -214,19 +216,30 @@ class Example:
         rows = sorted(self.rows(name), key=lambda row: order_of_cells([row[i] for i in columns]))
         self.ask(["show", spelled(name)], names, rows)
 
-    def aggregates(self, name, rows, shown):
-        """What is shown of the rows of a group."""
+    def aggregates(self, name, shown):
+        """What tells each aggregate that is shown, of the rows of a group."""
         for word, column in shown:
-            values = rows if column == "*" else [value for value, in self.cells(name, rows, [column])]
-            yield AGGREGATES[word]([value for value in values if value is not None])
+            tell = AGGREGATES[word]
+            if column == "*":
+                yield tell
+            else:
+                place = self.tables[name][0].index(column)
+                yield lambda rows, tell=tell, i=place: tell([row[i] for row in rows if row[i] is not None])
+
+    def shown_key(self, name, key, rows, columns):
+        """What is shown of the key that some rows have in some columns: where it has a text without case, the least of each."""
+        if not any(isinstance(value, NoCase) for value in key):
+            return key
+        return [extreme(min, values) for values in zip(*self.cells(name, rows, columns))]
 
     def grouped(self, name, rows, by, shown):
         """The groups of rows by some columns, in order: the key as it is shown, and what is shown."""
         groups = {} if by else {(): []}
         for row, key in zip(rows, self.cells(name, rows, by)):
             groups.setdefault(key, []).append(row)
+        told = list(self.aggregates(name, shown))
         return [
-            [*shown_key(key, self.cells(name, groups[key], by)), *self.aggregates(name, groups[key], shown)]
+            [*self.shown_key(name, key, groups[key], by), *(tell(groups[key]) for tell in told)]
             for key in sorted(groups, key=order_of_cells)
         ]
 
@@ -248,10 +261,7 @@ class Example:
         self.ask(words, ["level", *header], answer)
 
     def distinct(self, name, columns, where=()):
-        keys = {}
-        for key in self.cells(name, self.kept(name, where, None), columns):
-            keys.setdefault(key, []).append(key)
-        rows = [shown_key(key, keys[key]) for key in sorted(keys, key=order_of_cells)]
+        rows = self.grouped(name, self.kept(name, where, None), columns, [])
         words = ["distinct", spelled(name), "on", listed(columns), *spelled_tests("where", where)]
         self.ask(words, columns, rows)
 

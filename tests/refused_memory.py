@@ -6,16 +6,20 @@ LIBRARY is `refuse_memory.c`, made a shared library. Of each SCRIPT every reques
 in a run of its own, which must answer as with memory to spare, or one command `err 15 Memory` and all
 others as a run of the script without that command answers them: so no more than that command was lost,
 and nothing of it was kept. Refused before the script is read, the run must end with status 3 and say so.
-Prints how many runs there were, and each that is wrong; the status is 0 where none is.
+Some runs go side by side; where the arguments have `--spill DIR`, each process has a folder of its own there, which is to be
+empty at the end. Prints how many runs there were, and each that is wrong; the status is 0 where none is.
 """
 import io
 import os
 import subprocess
 import sys
-from concurrent.futures import ThreadPoolExecutor
+from concurrent.futures import ProcessPoolExecutor
+from functools import partial
 
 MEMORY = b"err 15 Memory\n"
 BEFORE = (3, b"", b"groupsh: out of memory\n")
+# How many requests are tried side by side before it is looked whether there are more.
+AT_ONCE = 32
 
 
 def commands_of(script):
@@ -43,8 +47,21 @@ class Runs:
     """Runs of one program with some arguments."""
 
     def __init__(self, program, library, arguments):
-        self.words = [program, *arguments]
-        self.library = library
+        self.program, self.library, self.arguments = program, library, arguments
+        self.spill = arguments[arguments.index("--spill") + 1] if "--spill" in arguments else None
+
+    def words(self):
+        """The command line, with a folder of this process's own."""
+        if self.spill is None:
+            return [self.program, *self.arguments]
+        own = os.path.join(self.spill, str(os.getpid()))
+        os.makedirs(own, exist_ok=True)
+        return [self.program, *(own if word == self.spill else word for word in self.arguments)]
+
+    def clear(self):
+        """Takes the processes' folders away, where they are empty."""
+        for name in os.listdir(self.spill) if self.spill else ():
+            os.rmdir(os.path.join(self.spill, name))
 
     def run(self, script, refused=0):
         """Status, replies and errors of a run, and whether the request with that number was refused."""
@@ -52,7 +69,7 @@ class Runs:
         environment = {"LD_PRELOAD": self.library, "REFUSED": str(refused), "TOLD": str(writing)}
         try:
             done = subprocess.run(
-                self.words, input=script, capture_output=True, env=environment, pass_fds=[writing], timeout=60
+                self.words(), input=script, capture_output=True, env=environment, pass_fds=[writing], timeout=60
             )
         finally:
             os.close(writing)
@@ -63,47 +80,47 @@ class Runs:
     def replies(self, script):
         return self.run(script)[0][1]
 
-    def rightful(self, script):
-        """What a run of the script may give where one request is refused."""
-        whole = self.run(script)[0]
-        answers = {whole, BEFORE}
-        for start, end in commands_of(script):
-            before = self.replies(script[:start])
-            others = self.replies(script[:start] + script[end:])
-            if others.startswith(before):
-                answers.add((1, before + MEMORY + others[len(before):], b""))
-        return answers
+    def without(self, script, span):
+        """What a run of the script may give where the command that stands there wants memory."""
+        start, end = span
+        before = self.replies(script[:start])
+        others = self.replies(script[:start] + script[end:])
+        return {(1, before + MEMORY + others[len(before):], b"")} if others.startswith(before) else set()
 
-    def wrong(self, script):
-        """How many requests were refused in turn, and those after which the run was wrong."""
-        rightful, wrong, request = self.rightful(script), [], 1
+    def rightful(self, script, pool):
+        """What a run of the script may give where one request is refused."""
+        answers = pool.map(partial(self.without, script), commands_of(script))
+        return {self.run(script)[0], BEFORE}.union(*answers)
+
+    def wrong(self, script, pool):
+        """How many requests were refused in turn, some at once, and those after which the run was wrong."""
+        rightful, wrong, first = self.rightful(script, pool), [], 1
         while True:
-            found, was_refused = self.run(script, request)
-            if found not in rightful:
-                wrong.append((request, found))
-            if not was_refused:
-                return request - 1, wrong
-            request += 1
+            requests = range(first, first + AT_ONCE)
+            for request, (found, was_refused) in zip(requests, pool.map(partial(self.run, script), requests, chunksize=4)):
+                if found not in rightful:
+                    wrong.append((request, found))
+                if not was_refused:
+                    return request - 1, wrong
+            first += AT_ONCE
 
 
 def main():
     cut = sys.argv.index("--")
     program, library, *arguments = sys.argv[1:cut]
     runs = Runs(program, library, arguments)
-    names = sys.argv[cut + 1:]
-
-    def judge(name):
-        with open(name, "rb") as file:
-            return runs.wrong(file.read())
-
     total, wrongs = 0, 0
-    with ThreadPoolExecutor(os.cpu_count()) as pool:
-        for name, (requests, wrong) in zip(names, pool.map(judge, names)):
+    with ProcessPoolExecutor(os.cpu_count()) as pool:
+        for name in sys.argv[cut + 1 :]:
+            with open(name, "rb") as file:
+                requests, wrong = runs.wrong(file.read(), pool)
             total, wrongs = total + requests, wrongs + len(wrong)
             for request, found in wrong:
                 print(f"{name}: request {request} refused: {found}")
+    runs.clear()
     print(f"{total} requests refused, {wrongs} wrong")
     sys.exit(wrongs != 0)
 
 
-main()
+if __name__ == "__main__":
+    main()
