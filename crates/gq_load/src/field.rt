@@ -8,7 +8,7 @@ ghost use Rattle.gq_load.specs.Numbers.{int_of};
 
 use crate::load_refusal::LoadRefusal;
 use crate::number::int_of;
-use gq_row::{Kind, Text, Value};
+use gq_row::{Kind, Value};
 use std::alloc::Global;
 use std::str;
 
@@ -37,8 +37,8 @@ pub(crate) fn write_value(
             *value = int_value(number, field)?;
             Ok(())
         }
-        Kind::Text => write_text(alloc, text_of(longest, number, field)?, value),
-        Kind::NoCase => write_no_case(alloc, text_of(longest, number, field)?, value),
+        Kind::Text => Ok(value.write_text(alloc, text_of(longest, number, field)?)?),
+        Kind::NoCase => Ok(value.write_without_case(alloc, text_of(longest, number, field)?)?),
     }
 }
 
@@ -75,28 +75,4 @@ fn text_of<'a>(longest: usize, number: u64, field: &'a [u8]) -> Result<&'a str, 
             Ok(text)
         }
     }
-}
-
-/// Writes a text over a value.
-fn write_text(alloc: Global, text: &str, value: &mut Value) -> Result<(), LoadRefusal>
-    ensures ok { OnOk result (value.new ≡ variant.Text text.now) }
-    ensures err { IfErr result (λ why. why ≡ Memory) }
-{
-    match value {
-        Value::Text(old) => old.write(alloc, text)?,
-        _ => *value = Value::Text(Text::of(alloc, text)?),
-    }
-    Ok(())
-}
-
-/// Writes a text without case over a value, as it is written.
-fn write_no_case(alloc: Global, text: &str, value: &mut Value) -> Result<(), LoadRefusal>
-    ensures ok { OnOk result (value.new ≡ variant.NoCase text.now) }
-    ensures err { IfErr result (λ why. why ≡ Memory) }
-{
-    match value {
-        Value::NoCase(old) => old.write(alloc, text)?,
-        _ => *value = Value::NoCase(Text::of(alloc, text)?),
-    }
-    Ok(())
 }

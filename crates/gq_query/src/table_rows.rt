@@ -1,11 +1,10 @@
 //! The rows of a table that are kept, as a source.
 ghost use Rattle.std.specs.Prelude.{◌≡◌, ◌<◌, ◌++◌, All, IfOk, OnOk, length};
 ghost use Rattle.gq_row.specs.Rows.{cells_in};
-ghost use Rattle.gq_row.specs.declared.value.Value.TheVariants as variant;
 
 use crate::kept::Kept;
 use gq_group::{Refusal, RowSource};
-use gq_row::{Key, Row, Text, Value};
+use gq_row::{Key, Row, Value};
 use gq_spill::RunStore;
 use gq_table::RowIter;
 use std::alloc::{AllocError, Global};
@@ -47,7 +46,7 @@ fn write_cells(
     ensures { OnOk result (cells.new ≡ cells_in columns.now row.now) }
 {
     for i in 0..columns.len() {
-        write_cell(alloc, &row[columns[i]], &mut cells[i])?;
+        cells[i].copy_from(alloc, &row[columns[i]])?;
     }
     Ok(())
 }
@@ -64,40 +63,6 @@ fn push_cells(
 {
     for column in columns {
         cells.push(row[*column].copy(alloc)?)?;
-    }
-    Ok(())
-}
-
-// Writes a value over another; a text over a text of its kind in its memory, where that is enough.
-#[inline]
-fn write_cell(alloc: Global, value: &Value, over: &mut Value) -> Result<(), AllocError>
-    ensures { OnOk result (over.new ≡ value.now) }
-{
-    match value {
-        Value::Null => *over = Value::Null,
-        Value::Int(n) => *over = Value::Int(*n),
-        Value::Text(text) => write_text(alloc, text, over)?,
-        Value::NoCase(text) => write_without_case(alloc, text, over)?,
-    }
-    Ok(())
-}
-
-fn write_text(alloc: Global, text: &Text, over: &mut Value) -> Result<(), AllocError>
-    ensures { OnOk result (over.new ≡ variant.Text text.now) }
-{
-    match over {
-        Value::Text(old) => old.copy_from(alloc, text)?,
-        _ => *over = Value::Text(text.copy(alloc)?),
-    }
-    Ok(())
-}
-
-fn write_without_case(alloc: Global, text: &Text, over: &mut Value) -> Result<(), AllocError>
-    ensures { OnOk result (over.new ≡ variant.NoCase text.now) }
-{
-    match over {
-        Value::NoCase(old) => old.copy_from(alloc, text)?,
-        _ => *over = Value::NoCase(text.copy(alloc)?),
     }
     Ok(())
 }

@@ -7,7 +7,7 @@ ghost use Rattle.gq_record.specs.Records.{IsStorable, IsCell, IsText, record_of,
 
 use crate::kinds::{INT, NO_CASE, NULL, TEXT};
 use byteorder::{BigEndian, ByteOrder};
-use gq_row::{Row, Text, Value};
+use gq_row::{Row, Value};
 use std::alloc::{AllocError, Global};
 
 /// The length at the front, and what follows it; `None` where there are fewer than four bytes.
@@ -65,28 +65,6 @@ fn take_text(bytes: &[u8]) -> Option<(&str, &[u8])>
     }
 }
 
-// Writes a text over a value; over a text of its kind in its memory, where that is enough.
-fn write_text(alloc: Global, text: &str, over: &mut Value) -> Result<(), AllocError>
-    ensures { OnOk result (over.new ≡ variant.Text text.now) }
-{
-    match over {
-        Value::Text(old) => old.write(alloc, text)?,
-        _ => *over = Value::Text(Text::of(alloc, text)?),
-    }
-    Ok(())
-}
-
-// Writes a text without case over a value, likewise.
-fn write_without_case(alloc: Global, text: &str, over: &mut Value) -> Result<(), AllocError>
-    ensures { OnOk result (over.new ≡ variant.NoCase text.now) }
-{
-    match over {
-        Value::NoCase(old) => old.write(alloc, text)?,
-        _ => *over = Value::NoCase(Text::of(alloc, text)?),
-    }
-    Ok(())
-}
-
 // Writes the value at the front over another, and gives what follows it.
 #[tactic(auto, unfolding(crate::specs::Records::value_bytes))]
 fn take_value<'a>(
@@ -118,14 +96,14 @@ fn take_value<'a>(
             let Some((text, rest)) = take_text(rest) else {
                 return Ok(None);
             };
-            write_text(alloc, text, over)?;
+            over.write_text(alloc, text)?;
             Ok(Some(rest))
         }
         NO_CASE => {
             let Some((text, rest)) = take_text(rest) else {
                 return Ok(None);
             };
-            write_without_case(alloc, text, over)?;
+            over.write_without_case(alloc, text)?;
             Ok(Some(rest))
         }
         _ => Ok(None),

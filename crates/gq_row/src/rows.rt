@@ -102,7 +102,8 @@ impl Rows {
 
     /// Puts a copy of a row behind the others.
     pub fn push_copy(&mut self, alloc: Global, row: &[Value]) -> Result<(), AllocError>
-        ensures { OnOk result (self.new ≡ self.old ++ row.now ∷ []) }
+        ensures pushed { OnOk result (self.new ≡ self.old ++ row.now ∷ []) }
+        ensures unchanged { OnErr result (self.new ≡ self.old) }
     {
         let start = self.cells.len();
         for value in row {

@@ -1,12 +1,12 @@
-use Rattle.std.proofs.Common.{◌≡◌, ◌++◌, ◌∷◌, ◌∙◌, [], length, map, ap, rules, arith}
+use Rattle.std.proofs.Common.{◌≡◌, ◌++◌, ◌∷◌, ◌∙◌, [], length, map, take, ap, rules, arith}
 use Rattle.gq_row.specs.declared.rows.Span.{Span}
 use Rattle.std.proofs.lemmas.Grind.{common_steps}
 use Rattle.gq_row.specs.Lists.{row_at}
-use Rattle.gq_row.proofs.RowsLemmas.{row_pushed}
+use Rattle.gq_row.proofs.RowsLemmas.{row_pushed, rows_kept}
 use Rattle.gq_row.proofs.rows.Rows.push_copy.Goals as goal
 
-pub returns : goal.returns
-returns c =
+pub returns-clause-pushed : goal.returns-clause-pushed
+returns-clause-pushed c =
     let xs = c.self.inside.cells.items in
     let row = c.args.row.now in
     let span : Span = record { start = c.len-start.result; end = c.len-end.result } in
@@ -17,3 +17,32 @@ returns c =
     (λ i. map (row_at (cells i)) (spans i))
     ∙ row_pushed xs row c.self.inside.spans.items span low (high ∙ ap length cells) c.self.invariant
     ∙ ap (λ l. l ++ row ∷ []) c.self.view_is
+
+pub returns-in_err-copy-clause-unchanged : goal.returns-in_err-copy-clause-unchanged
+returns-in_err-copy-clause-unchanged c =
+    let xs = c.self.inside.cells.items in
+    let came = take c.loop-value.value-index c.args.row.now in
+    let cells : c.loop-value.self-inside.cells.items ≡ xs ++ came = search rules in
+    let still : map (row_at c.loop-value.self-inside.cells.items) c.self.inside.spans.items ≡ c.args.self.now =
+    (λ i. map (row_at (cells i)) c.self.inside.spans.items) ∙ rows_kept xs came c.self.inside.spans.items c.self.invariant ∙ c.self.view_is in
+    search rules
+
+pub returns-in_err-push-clause-unchanged : goal.returns-in_err-push-clause-unchanged
+returns-in_err-push-clause-unchanged c =
+    let xs = c.self.inside.cells.items in
+    let came = take c.loop-value.value-index c.args.row.now in
+    let same : c.push.new.self.items ≡ c.loop-value.self-inside.cells.items = search rules in
+    let cells : c.loop-value.self-inside.cells.items ≡ xs ++ came = search rules in
+    let still : map (row_at c.push.new.self.items) c.self.inside.spans.items ≡ c.args.self.now =
+    (λ i. map (row_at ((same ∙ cells) i)) c.self.inside.spans.items) ∙ rows_kept xs came c.self.inside.spans.items c.self.invariant ∙ c.self.view_is in
+    search rules
+
+pub returns-in_err-push-2-clause-unchanged : goal.returns-in_err-push-2-clause-unchanged
+returns-in_err-push-2-clause-unchanged c =
+    let xs = c.self.inside.cells.items in
+    let row = c.args.row.now in
+    let cells : c.loop-value.self-inside.cells.items ≡ xs ++ row = grind (arith, common_steps) in
+    let spans : c.push-2.new.self.items ≡ c.self.inside.spans.items = search rules in
+    let still : map (row_at c.loop-value.self-inside.cells.items) c.push-2.new.self.items ≡ c.args.self.now =
+    (λ i. map (row_at (cells i)) (spans i)) ∙ rows_kept xs row c.self.inside.spans.items c.self.invariant ∙ c.self.view_is in
+    search rules
