@@ -55,7 +55,8 @@ pub fn stage<H: KeyHash<Key> + Copy>(
     };
     // It grows as keys come, as records may share theirs: rows that lie close are found faster.
     let mut staged = table.new_like()?;
-    let count = stage_rows(alloc, &mut reader, &mut staged, bytes, limits)?;
+    let lines = line_ends(bytes).min(limits.bounds.rows);
+    let count = stage_rows(alloc, &mut reader, &mut staged, lines, limits)?;
     Ok((staged, count))
 }
 
@@ -63,31 +64,23 @@ pub fn stage<H: KeyHash<Key> + Copy>(
 // replaced another: then hardly one of the others is expected to, and no growth on the way moves rows.
 // Where there is no memory for that the table goes on growing.
 #[cold]
-fn make_room<H: KeyHash<Key> + Copy>(
-    staged: &mut Table<H>,
-    count: u64,
-    bytes: &[u8],
-    limits: &Limits,
-)
+fn make_room<H: KeyHash<Key> + Copy>(staged: &mut Table<H>, count: u64, lines: usize)
     ensures heading { staged.new.heading ≡ staged.old.heading }
     ensures rows { IsPermutation staged.old.rows staged.new.rows }
 {
-    if count < 4_096 || (staged.len() as u64) < count - count / 64 {
-        return;
-    }
-    let lines = line_ends(bytes).min(limits.bounds.rows);
-    if count >= lines as u64 / 8 {
+    let differ = count - count / 64 <= staged.len() as u64;
+    if differ && 4_096 <= count && lines as u64 / 8 <= count {
         let _ = staged.reserve(lines);
     }
 }
 
-// Puts the row of a record, counted from 0, of the payload with these bytes.
+// Puts the row of a record, counted from 0, of a payload of so many lines.
 #[inline]
 fn put_row<H: KeyHash<Key> + Copy>(
     staged: &mut Table<H>,
     row: &mut Row,
     count: u64,
-    bytes: &[u8],
+    lines: usize,
     limits: &Limits,
 ) -> Result<(), TableRefusal>
     requires fits { IsTrue (fits_columns staged.old.heading.columns row.old) }
@@ -97,7 +90,7 @@ fn put_row<H: KeyHash<Key> + Copy>(
 {
     staged.put(row, limits)?;
     if count.is_power_of_two() {
-        make_room(staged, count, bytes, limits);
+        make_room(staged, count, lines);
     }
     Ok(())
 }
@@ -110,7 +103,7 @@ fn stage_rows<H: KeyHash<Key> + Copy>(
     alloc: Global,
     reader: &mut RowReader<'_>,
     staged: &mut Table<H>,
-    bytes: &[u8],
+    lines: usize,
     limits: &Limits,
 ) -> Result<u64, Refused>
     requires heading { reader.old.heading ≡ staged.old.heading }
@@ -126,7 +119,7 @@ fn stage_rows<H: KeyHash<Key> + Copy>(
             Err(fault) => return Err(refused_by(fault)),
             Ok(false) => return Ok(count),
             Ok(true) => {
-                if put_row(staged, &mut row, count, bytes, limits).is_err() {
+                if put_row(staged, &mut row, count, lines, limits).is_err() {
                     return Err(Refused::from(Refusal::Memory));
                 }
             }
