@@ -153,14 +153,15 @@ fn front_len(
     Ok(low)
 }
 
-/// The words that can stand behind a front, as messages show them.
+/// Those of some words that can stand behind a front.
 fn words_behind(
     alloc: Global,
     front: &[u8],
     search: &Search,
+    among: &[(&'static str, &'static str)],
 ) -> Result<Vec<(&'static str, &'static str)>, AllocError> {
     let mut words = Vec::new(alloc);
-    for (shown, spelled) in WORDS {
+    for (shown, spelled) in among {
         let mut longer = Vec::from_slice(alloc, front)?;
         longer.extend_from_slice(spelled.as_bytes())?;
         let word = Search {
@@ -172,7 +173,7 @@ fn words_behind(
             ..*search
         };
         if leads(alloc, longer.as_slice(), &word)? {
-            words.push((shown, spelled))?;
+            words.push((*shown, *spelled))?;
         }
     }
     Ok(words)
@@ -218,7 +219,7 @@ pub fn diagnose(alloc: Global, line: &[u8], limits: &Limits) -> Result<Diagnosis
     Ok(Diagnosis {
         front,
         piece: pieces.get(count).copied().unwrap_or(end),
-        words: words_behind(alloc, text, &search)?,
+        words: words_behind(alloc, text, &search, &WORDS)?,
         whole: says_command(alloc, text, limits)?,
     })
 }

@@ -20,7 +20,7 @@ use Rattle.gq_row.specs.declared.comparison.Comparison.TheVariants as comparison
 use Rattle.gq_clause.specs.declared.condition.Test.{Test}
 use Rattle.gq_clause.specs.declared.condition.Test.TheVariants.{Compare, IsNull, IsNotNull}
 use Rattle.gq_clause.specs.Words.{Bytes, some, separated, clause, parenthesized, name_words, names_words, literal_words, literals_words, aggregate_words, aggregates_words, operand_words, comparison_word, test_words, tests_words}
-use Rattle.gq_clause.specs.Reading.{name_at, literal_at, items_within, names_at, literals_at, in_parentheses, clause_at, counted_at, aggregate_within, aggregate_behind, aggregate_at, aggregates_at, operand_at, comparison_at, null_test_behind, compared_at, test_at, tests_at}
+use Rattle.gq_clause.specs.Reading.{name_at, literal_at, items_within, names_at, literals_at, in_parentheses, clause_at, counted_at, aggregate_within, aggregate_behind, aggregate_at, aggregates_at, operand_at, comparison_at, null_test_behind, right_at, compared_at, test_at, tests_at}
 
 -- a terminal by its number
 terminal_at : ℕ → Terminal
@@ -318,11 +318,14 @@ null_sound a before ts x rest is e =
 compared_sound : (a : Operand) (before ts : List Token) (x : Test) (rest : List Token) → before ≡ operand_words a ++ ts → compared_at a ts ≡ Some (x, rest) → before ≡ test_words x ++ rest
 unfolding sign_words
 compared_sound a before ts x rest is e =
-    let o = bind_some (comparison_at ts) (λ sign. operand_at sign.1 >>= λ b. Some (Compare a sign.0 b.0, b.1)) (x, rest) e in
-    let b = bind_some (operand_at o.0.1) (λ b. Some (Compare a o.0.0 b.0, b.1)) (x, rest) o.2 in
+    let f : (Comparison × Operand) × List Token → Option (Test × List Token) = λ right. Some (Compare a right.0.0 right.0.1, right.1) in
+    let r = bind_some (right_at ts) f (x, rest) e in
+    let o = bind_some (comparison_at ts) (λ sign. operand_at sign.1 >>= λ b. Some ((sign.0, b.0), b.1)) r.0 r.1 in
+    let b = bind_some (operand_at o.0.1) (λ b. Some ((o.0.0, b.0), b.1)) r.0 o.2 in
+    let last : Some (Compare a o.0.0 b.0.0, b.0.1) ≡ Some (x, rest) = ap (λ found. found >>= f) b.2 ∙ r.2 in
     let back : List Token = Fixed (comparison_word o.0.0) ∷ operand_words b.0.0 in
     let tail : ts ≡ back ++ b.0.1 = comparison_sound ts o.0.0 o.0.1 o.1 ∙ ap (λ (l : List Token). Fixed (comparison_word o.0.0) ∷ l) (operand_sound o.0.1 b.0.0 b.0.1 b.1) in
-    joined (operand_words a) back before ts b.0.1 is tail ∙ read_is test_words (Compare a o.0.0 b.0.0) x b.0.1 rest b.2
+    joined (operand_words a) back before ts b.0.1 is tail ∙ read_is test_words (Compare a o.0.0 b.0.0) x b.0.1 rest last
 
 test_sound : Sound test_at test_words
 unfolding test_at

@@ -13,9 +13,10 @@ use Rattle.gq_row.specs.declared.value.Value.TheVariants as value
 use Rattle.gq_clause.specs.declared.condition.Operand.{Operand}
 use Rattle.gq_clause.specs.declared.condition.Operand.TheVariants as operand
 use Rattle.gq_clause.specs.declared.condition.Test.{Test}
+use Rattle.gq_row.specs.declared.comparison.Comparison.{Comparison}
 use Rattle.gq_clause.specs.declared.condition.Test.TheVariants.{Compare, IsNull, IsNotNull}
 use Rattle.gq_clause.specs.Words.{some, literals_words, tests_words, test_words, tests_clause, is_literal, is_operand, is_test, are_literals, are_tests}
-use Rattle.gq_clause.specs.Reading.{literal_at, items_within, literals_at, clause_at, aggregate_behind, operand_at, comparison_at, null_test_behind, compared_at, test_at, tests_at}
+use Rattle.gq_clause.specs.Reading.{literal_at, items_within, literals_at, clause_at, aggregate_behind, operand_at, comparison_at, null_test_behind, right_at, compared_at, test_at, tests_at}
 use Rattle.gq_clause.proofs.Sound.{both, bind_some, guard_some, pair_is, chosen, literals_sound, tests_sound, clause_sound}
 
 -- what is read is valid
@@ -89,9 +90,12 @@ null_valid a h ts x rest e =
 
 compared_valid : (a : Operand) → is_operand a ≡ true → Valid is_test (compared_at a)
 compared_valid a h ts x rest e =
-    let o = bind_some (comparison_at ts) (λ sign. operand_at sign.1 >>= λ b. Some (Compare a sign.0 b.0, b.1)) (x, rest) e in
-    let b = bind_some (operand_at o.0.1) (λ b. Some (Compare a o.0.0 b.0, b.1)) (x, rest) o.2 in
-    valid_is is_test (Compare a o.0.0 b.0.0) x b.0.1 rest b.2 (both (is_operand a) (is_operand b.0.0) h (operand_valid o.0.1 b.0.0 b.0.1 b.1))
+    let f : (Comparison × Operand) × List Token → Option (Test × List Token) = λ right. Some (Compare a right.0.0 right.0.1, right.1) in
+    let r = bind_some (right_at ts) f (x, rest) e in
+    let o = bind_some (comparison_at ts) (λ sign. operand_at sign.1 >>= λ b. Some ((sign.0, b.0), b.1)) r.0 r.1 in
+    let b = bind_some (operand_at o.0.1) (λ b. Some ((o.0.0, b.0), b.1)) r.0 o.2 in
+    let last : Some (Compare a o.0.0 b.0.0, b.0.1) ≡ Some (x, rest) = ap (λ found. found >>= f) b.2 ∙ r.2 in
+    valid_is is_test (Compare a o.0.0 b.0.0) x b.0.1 rest last (both (is_operand a) (is_operand b.0.0) h (operand_valid o.0.1 b.0.0 b.0.1 b.1))
 
 test_valid : Valid is_test test_at
 unfolding test_at

@@ -118,9 +118,13 @@ null_test_behind a ts = elim (skip terminal.Not ts) [
   | Some after ↦ skip terminal.Null after >>= λ rest. Some (IsNotNull a, rest)
 ]
 
+-- a sign, and what stands to the right of it
+abbrev pub right_at : List Token → Option ((Comparison × Operand) × List Token)
+right_at ts = comparison_at ts >>= λ sign. operand_at sign.1 >>= λ b. Some ((sign.0, b.0), b.1)
+
 -- the test that begins with the operand and a sign, behind the operand
 abbrev pub compared_at : Operand → List Token → Option (Test × List Token)
-compared_at a ts = comparison_at ts >>= λ sign. operand_at sign.1 >>= λ b. Some (Compare a sign.0 b.0, b.1)
+compared_at a ts = right_at ts >>= λ right. Some (Compare a right.0.0 right.0.1, right.1)
 
 unfoldable pub test_at : List Token → Option (Test × List Token)
 test_at ts = operand_at ts >>= λ a. elim (skip terminal.Is a.1) [ None ↦ compared_at a.0 a.1 | Some after ↦ null_test_behind a.0 after ]

@@ -1,9 +1,11 @@
 //! Tokens as clauses: one function for each rule of the grammar, which takes the tokens that it reads
 //! from the front of those that are left.
-ghost use Rattle.std.specs.Prelude.{◌≡◌};
+ghost use Rattle.std.specs.Prelude.{◌≡◌, ◌∷◌, List};
 ghost use Rattle.gq_token.specs.Results.{Gives};
 ghost use Rattle.gq_token.specs.Queue.{skip};
-ghost use Rattle.gq_clause.specs.Reading.{name_at, literal_at, names_at, literals_at, in_parentheses, clause_at, counted_at, aggregate_within, aggregate_behind, aggregate_at, aggregates_at, operand_at, comparison_at, null_test_behind, test_at, tests_at};
+ghost use Rattle.gq_token.specs.declared.token.Token.{Token as Item};
+ghost use Rattle.gq_token.specs.declared.token.Token.TheVariants.{Fixed};
+ghost use Rattle.gq_clause.specs.Reading.{name_at, literal_at, names_at, literals_at, in_parentheses, clause_at, counted_at, aggregate_within, aggregate_behind, aggregate_at, aggregates_at, operand_at, comparison_at, right_at, null_test_behind, test_at, tests_at};
 
 use crate::aggregate::Aggregate;
 use crate::condition::{Operand, Test};
@@ -173,17 +175,28 @@ fn operand_of(tokens: &mut Tokens) -> Result<Operand, ParseError>
     }
 }
 
+/// The comparison that a sign says.
+#[tactic(auto, unfolding(crate::specs::Reading::comparison_at))]
+fn comparison_by(sign: Terminal) -> Result<Comparison, ParseError>
+    ensures { (rest : List Item) → Gives (λ comparison. (comparison, rest)) result (comparison_at (Fixed sign ∷ rest)) }
+{
+    match sign {
+        Terminal::Equal => Ok(Comparison::Equal),
+        Terminal::NotEqual => Ok(Comparison::NotEqual),
+        Terminal::Less => Ok(Comparison::Less),
+        Terminal::LessEqual => Ok(Comparison::LessEqual),
+        Terminal::Greater => Ok(Comparison::Greater),
+        Terminal::GreaterEqual => Ok(Comparison::GreaterEqual),
+        _ => Err(ParseError::Syntax),
+    }
+}
+
 #[tactic(auto, unfolding(crate::specs::Reading::comparison_at))]
 fn comparison_of(tokens: &mut Tokens) -> Result<Comparison, ParseError>
     ensures { Gives (λ comparison. (comparison, tokens.new)) result (comparison_at tokens.old) }
 {
     match tokens.take() {
-        Some(Token::Fixed(Terminal::Equal)) => Ok(Comparison::Equal),
-        Some(Token::Fixed(Terminal::NotEqual)) => Ok(Comparison::NotEqual),
-        Some(Token::Fixed(Terminal::Less)) => Ok(Comparison::Less),
-        Some(Token::Fixed(Terminal::LessEqual)) => Ok(Comparison::LessEqual),
-        Some(Token::Fixed(Terminal::Greater)) => Ok(Comparison::Greater),
-        Some(Token::Fixed(Terminal::GreaterEqual)) => Ok(Comparison::GreaterEqual),
+        Some(Token::Fixed(sign)) => comparison_by(sign),
         _ => Err(ParseError::Syntax),
     }
 }
@@ -193,13 +206,23 @@ fn comparison_of(tokens: &mut Tokens) -> Result<Comparison, ParseError>
 fn null_test_behind(operand: Operand, tokens: &mut Tokens) -> Result<Test, ParseError>
     ensures { Gives (λ test. (test, tokens.new)) result (null_test_behind operand tokens.old) }
 {
-    if tokens.skip(Terminal::Not) {
-        expect(tokens, Terminal::Null)?;
+    let negated = tokens.skip(Terminal::Not);
+    // One way out: each writes out the drop of the operand.
+    expect(tokens, Terminal::Null)?;
+    if negated {
         Ok(Test::IsNotNull(operand))
     } else {
-        expect(tokens, Terminal::Null)?;
         Ok(Test::IsNull(operand))
     }
+}
+
+/// A sign, and what stands to the right of it.
+fn right_of(tokens: &mut Tokens) -> Result<(Comparison, Operand), ParseError>
+    ensures { Gives (λ right. (right, tokens.new)) result (right_at tokens.old) }
+{
+    let comparison = comparison_of(tokens)?;
+    let right = operand_of(tokens)?;
+    Ok((comparison, right))
 }
 
 #[tactic(auto, unfolding(crate::specs::Reading::test_at))]
@@ -210,8 +233,7 @@ fn test_of(tokens: &mut Tokens) -> Result<Test, ParseError>
     if tokens.skip(Terminal::Is) {
         return null_test_behind(left, tokens);
     }
-    let comparison = comparison_of(tokens)?;
-    let right = operand_of(tokens)?;
+    let (comparison, right) = right_of(tokens)?;
     Ok(Test::Compare(left, comparison, right))
 }
 

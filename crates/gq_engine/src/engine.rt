@@ -157,7 +157,7 @@ impl<H: KeyHash<Key> + Copy, S: RunStore> Engine<H, S> {
                     exists,
                     having,
                 };
-                return self.group(table, clauses);
+                return self.group(table.as_str(), &clauses);
             }
             Command::Distinct { table, on, tests } => return self.distinct(table, on, tests),
         }
@@ -258,19 +258,19 @@ impl<H: KeyHash<Key> + Copy, S: RunStore> Engine<H, S> {
         Ok(Reply::Rows { header, rows })
     }
 
-    fn group(&mut self, name: Text, clauses: GroupClauses) -> Result<Reply, Refused>
+    fn group(&mut self, name: &str, clauses: &GroupClauses) -> Result<Reply, Refused>
         ensures comes { ComesOver true (setting_of S.runs self.old).honest
-            (grouped (database self.old) name clauses)
+            (grouped (database self.old) name.now clauses.now)
             result (database self.old) (database self.new) }
         ensures faults { FaultsHappened (reply_of result ∷ []) (failures_of S.runs self.old)
             (failures_of S.runs self.new) }
         ensures setting { setting_of S.runs self.new ≡ setting_of S.runs self.old }
         ensures spent { GroupSpends (setting_of S.runs self.old).honest (budget_of self.old)
-            (database self.old) name clauses (reply_of result) (spent_of self.old) (spent_of self.new) }
+            (database self.old) name.now clauses.now (reply_of result) (spent_of self.old) (spent_of self.new) }
         ensures budget { budget_of self.new ≡ budget_of self.old }
     {
-        let asked = asked_of(self.alloc, &self.catalog, name.as_str(), &clauses)?;
-        let header = header_of(self.alloc, clauses.by, clauses.shown.as_slice())?;
+        let header = header_of(self.alloc, &clauses.by, clauses.shown.as_slice())?;
+        let asked = asked_of(self.alloc, &self.catalog, name, clauses)?;
         let (hasher, store) = (self.hasher, &mut self.store);
         let (budget, spent) = (self.budget, self.spent);
         let (rows, spent) = rows_grouped(self.alloc, hasher, &asked, store, budget, spent)?;

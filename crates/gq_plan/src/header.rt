@@ -1,5 +1,5 @@
 //! The headers of replies.
-ghost use Rattle.std.specs.Prelude.{◌≡◌, IfOk};
+ghost use Rattle.std.specs.Prelude.{◌≡◌, ◌++◌, IfOk, OnOk};
 ghost use Rattle.gq_command.specs.Commands.{column_names};
 ghost use Rattle.gq_plan.specs.Headers.{called, group_header, text_of};
 
@@ -23,19 +23,30 @@ pub fn names_of(alloc: Global, columns: &[Column]) -> Result<Sequence<Text>, All
 /// aggregates.
 pub fn header_of(
     alloc: Global,
-    by: By,
+    by: &By,
     aggregates: &[Aggregate],
 ) -> Result<Sequence<Text>, AllocError>
-    ensures { IfOk result (λ header. header ≡ group_header by aggregates.now) }
+    ensures { IfOk result (λ header. header ≡ group_header by.now aggregates.now) }
 {
-    let mut names = by.columns.into_vec();
+    let mut names = Vec::new(alloc);
     if by.rollup {
-        names.insert(0, Text::of(alloc, "level")?)?;
+        names.push(Text::of(alloc, "level")?)?;
     }
+    push_copies(alloc, &mut names, by.columns.as_slice())?;
     for aggregate in aggregates {
         names.push(text_of(alloc, aggregate)?)?;
     }
     Ok(Sequence::new(names))
+}
+
+// Puts copies of names behind others.
+fn push_copies(alloc: Global, names: &mut Vec<Text>, more: &[Text]) -> Result<(), AllocError>
+    ensures { OnOk result (names.new.items ≡ names.old.items ++ more.now) }
+{
+    for name in more {
+        names.push(name.copy(alloc)?)?;
+    }
+    Ok(())
 }
 
 fn text_of(alloc: Global, aggregate: &Aggregate) -> Result<Text, AllocError>
