@@ -3,10 +3,11 @@
     bench.py GROUPSH [ROWS]
 
 A table has a number of its own for each row, a key, and a number from 0 to 999. Few (a hundred), many (a tenth) or all of the
-keys differ, and they are numbers or texts. Each program reads the same CSV file, counts, sums and takes the least and the
-greatest number of each key, and writes its answer in the order of the keys. The programs take turns, three rounds, and
-the least processor time of each counts, with the greatest memory of it. Answers are compared: where one differs from
-groupsh's, that is said, and the status is 1.
+keys differ, or a fifth of them, for which groupsh keeps 10,000 groups at once; they are numbers, or texts of 8 to 16 letters.
+Each program reads the same CSV file, counts, sums and takes the least and the greatest number of each key, and writes its
+answer in the order of the keys. "load" is groupsh reading the file alone. The programs take turns, three rounds, and the least
+processor time of each counts, with the greatest memory of it. Answers are compared: where one differs from groupsh's,
+that is said, and the status is 1.
 """
 
 import os
@@ -20,11 +21,19 @@ ROUNDS = 3
 QUERY = "count(*), sum(x), min(x), max(x)"
 
 
+def text_of(number):
+    """A text of 8 to 16 letters, another for each number."""
+    digits = "".join(chr(ord("a") + int(digit)) for digit in str(number))
+    return digits + "y" + "stationer"[: 6 + number % 4]
+
+
 def shapes(rows):
-    """The name of each shape, and the key of a row by its number."""
-    for name, keys in (("few", min(100, rows)), ("many", max(1, rows // 10)), ("all", rows)):
-        yield f"{name} numbers", "int", lambda n, keys=keys: str((n * 2654435761 + 12345) % keys)
-        yield f"{name} texts", "text", lambda n, keys=keys: f"city {(n * 2654435761 + 12345) % keys:07d}"
+    """The name of each shape, the key of a row by its number, and how many groups groupsh keeps at once."""
+    sizes = (("few", min(100, rows), None), ("many", max(1, rows // 10), None), ("fifth", max(1, rows // 5), 10_000), ("all", rows, None))
+    for name, keys, budget in sizes:
+        place = lambda n, keys=keys: (n * 2654435761 + 12345) % keys
+        yield f"{name} numbers", "int", lambda n, place=place: str(place(n)), budget
+        yield f"{name} texts", "text", lambda n, place=place: text_of(place(n)), budget
 
 
 def write_rows(path, rows, key):
@@ -36,16 +45,26 @@ def write_rows(path, rows, key):
             file.write(f"{n},{key(n)},{chance.randrange(1000)}\n")
 
 
-def groupsh(program, folder, kind, rows):
-    script = os.path.join(folder, "script.gq")
+def script_of(folder, name, kind, query):
+    """A script that loads the rows, and asks the query."""
+    script = os.path.join(folder, name)
     with open(script, "w") as file, open(os.path.join(folder, "rows.csv")) as table:
         file.write(f"create s (id int, city {kind}, x int)\nload s\n")
         shutil.copyfileobj(table, file)
-        file.write(f"\\.\ngroup s by city show {QUERY}\n")
-    return [program, script]
+        file.write(f"\\.\n{query}")
+    return script
 
 
-def sqlite3(program, folder, kind, rows):
+def groupsh(program, folder, kind, budget):
+    script = script_of(folder, "script.gq", kind, f"group s by city show {QUERY}\n")
+    return [program, *(["--budget", str(budget)] if budget else []), script]
+
+
+def load(program, folder, kind, budget):
+    return [program, script_of(folder, "load.gq", kind, "")]
+
+
+def sqlite3(program, folder, kind, budget):
     script = os.path.join(folder, "script.sql")
     with open(script, "w") as file:
         file.write(f"create table s (id int, city {kind}, x int);\n.mode csv\n.import --skip 1 {folder}/rows.csv s\n")
@@ -53,7 +72,7 @@ def sqlite3(program, folder, kind, rows):
     return ["sh", "-c", f"{program} :memory: <{script}"]
 
 
-def mawk(program, folder, kind, rows):
+def mawk(program, folder, kind, budget):
     text = (
         'NR > 1 { n = ++count[$2]; sum[$2] += $3; if (n == 1 || $3 < least[$2]) least[$2] = $3;'
         ' if (n == 1 || $3 > most[$2]) most[$2] = $3 }'
@@ -83,19 +102,19 @@ def run(command, output):
 
 def main():
     rows = int(sys.argv[2]) if len(sys.argv) > 2 else 1_000_000
-    programs = {"groupsh": (groupsh, sys.argv[1])}
+    programs = {"groupsh": (groupsh, sys.argv[1]), "load": (load, sys.argv[1])}
     for name, makes in (("sqlite3", sqlite3), ("mawk", mawk)):
         where = shutil.which(name)
         if where:
             programs[name] = (makes, where)
     print(f"{rows} rows; group by city: {QUERY}; processor seconds (and MB), the least of {ROUNDS} rounds")
-    others = [name for name in programs if name != "groupsh"]
+    others = [name for name in programs if name not in ("groupsh", "load")]
     print(f"{'keys':14}" + "".join(f"{name:>18}" for name in programs) + "".join(f"{name + '/groupsh':>18}" for name in others))
     differ = False
-    for shape, kind, key in shapes(rows):
+    for shape, kind, key, budget in shapes(rows):
         with tempfile.TemporaryDirectory() as folder:
             write_rows(os.path.join(folder, "rows.csv"), rows, key)
-            commands = {name: makes(where, folder, kind, rows) for name, (makes, where) in programs.items()}
+            commands = {name: makes(where, folder, kind, budget) for name, (makes, where) in programs.items()}
             least = {name: (float("inf"), 0.0) for name in programs}
             answers = {}
             for _ in range(ROUNDS):

@@ -13,6 +13,7 @@ use Rattle.gq_row.specs.declared.schema.Kind.{Kind}
 use Rattle.gq_row.specs.declared.schema.Kind.TheVariants as kind
 use Rattle.gq_row.specs.Fitting.{goes_in, fits_columns}
 use Rattle.gq_row.specs.Folding.{folded}
+use Rattle.gq_row.proofs.FittingLemmas.{as_long}
 use Rattle.gq_row.specs.Order.{same_key}
 use Rattle.gq_row.specs.Repeats.{without_repeats}
 use Rattle.gq_row.specs.Rows.{cell, cells_in, key_of}
@@ -329,12 +330,6 @@ all_fit_placed columns spec (row ∷ rows) fits h =
     (has_placed used spec.by row (by_used spec))
     (fits_placed_cells used spec.aggs row (aggs_used spec) (all_weaker (can_take columns) (λ a. counts_all a.0 || takes a.0 (cell row a.1)) (λ a k. takes_cell columns row a.0 a.1 parts.0 k) spec.aggs h)))
     (all_fit_placed columns spec rows parts.1 h)
-
-as_long : (columns : List Column) (row : List Value) → fits_columns columns row ≡ true → length row ≡ length columns
-as_long [] [] h = refl
-as_long [] (v ∷ row) h = absurd (false≢true h)
-as_long (c ∷ columns) [] h = absurd (false≢true h)
-as_long (c ∷ columns) (v ∷ row) h = ap (λ n. suc n) (as_long columns row (and_parts (goes_in c.kind v) (fits_columns columns row) h).1)
 
 -- each row of a table has the cells that are used
 pub rows_ready : (columns : List Column) (used : List ℕ) (rows : List (List Value)) → list_all (fits_columns columns) rows ≡ true → All (λ column. column < length columns) used

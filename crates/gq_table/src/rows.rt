@@ -2,7 +2,7 @@
 ghost use Rattle.std.specs.Prelude.{◌≡◌, length};
 ghost use Rattle.std.specs.Iterator.{YieldsFirstRef, item_count};
 
-use gq_row::{Key, Row, Rows, Value};
+use gq_row::{Grid, Key, Row, Value};
 use std::marker::Model;
 use sw_flat::{FlatMap, Iter};
 use sw_probe::KeyHash;
@@ -12,14 +12,14 @@ use sw_probe::KeyHash;
 #[derive(Drop)]
 pub enum Storage<H: KeyHash<Key>> {
     Keyed(FlatMap<Key, Row, H>),
-    Listed(Rows),
+    Listed(Grid),
 }
 
 /// What is still to come of them: entries of the map, or the list from a place on.
 #[derive(Drop)]
 pub enum Rest<'a, H: KeyHash<Key>> {
     Entries(Iter<'a, Key, Row, H>),
-    Places(&'a Rows, usize),
+    Places(&'a Grid, usize),
 }
 
 /// The rows of a table that are still to come, seen as their list.

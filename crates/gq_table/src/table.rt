@@ -1,5 +1,5 @@
 //! One table: its schema, and its rows.
-ghost use Rattle.std.specs.Prelude.{◌≡◌, ◌+◌, ◌<◌, ◌≤◌, ◌⊎◌, ◌++◌, ◌∷◌, [], IsTrue, IfOk, IfErr, OnOk, OnErr, None, false, length, IsPermutation};
+ghost use Rattle.std.specs.Prelude.{◌≡◌, ◌+◌, ◌<◌, All, ◌≤◌, ◌⊎◌, ◌++◌, ◌∷◌, [], IsTrue, IfOk, IfErr, OnOk, OnErr, None, false, length, IsPermutation};
 ghost use Rattle.gq_row.specs.Fitting.{fits_columns, has_null};
 ghost use Rattle.gq_row.specs.Tables.{has_row};
 ghost use Rattle.gq_table.specs.Changes.{IsPut, IsLoaded, IsDeleted, named_key};
@@ -13,7 +13,7 @@ use crate::keyed::{delete_keyed, put_keyed, reserve_keyed, row_out};
 use crate::load::load_keyed;
 use crate::refusal::TableRefusal;
 use crate::rows::{RowIter, Storage};
-use gq_row::{Key, Limits, Row, Rows, Schema, Value};
+use gq_row::{Grid, Key, Limits, Row, Schema, Value};
 use std::alloc::{AllocError, Global};
 use std::marker::Model;
 use sw_flat::FlatMap;
@@ -53,7 +53,7 @@ impl<H: KeyHash<Key> + Copy> Table<H> {
                 alloc,
                 schema,
                 hasher,
-                rows: Storage::Listed(Rows::new(alloc)),
+                rows: Storage::Listed(Grid::new(alloc)),
             };
         }
         Table {
@@ -223,10 +223,11 @@ fn count_keyed<H: KeyHash<Key>>(map: &FlatMap<Key, Row, H>) -> usize
 // and its memory is left for another row.
 fn put_listed(
     alloc: Global,
-    rows: &mut Rows,
+    rows: &mut Grid,
     row: &mut Row,
     most: usize,
 ) -> Result<(), TableRefusal>
+    requires { All (λ other. length other ≡ length row.old) rows.old }
     ensures ok { OnOk result (rows.new ≡ rows.old ++ row.old ∷ []) }
     ensures few { OnOk result (length rows.old < most) }
     ensures err { OnErr result (rows.new ≡ rows.old) }
@@ -246,8 +247,9 @@ fn put_listed(
 }
 
 // Puts rows at the end of a list, where no more than `most` then stand there: all or none.
-fn load_listed(list: &mut Rows, rows: Rows, most: usize) -> Result<(), TableRefusal>
-    requires { most ≤ 16777216 }
+fn load_listed(list: &mut Grid, rows: Grid, most: usize) -> Result<(), TableRefusal>
+    requires few { most ≤ 16777216 }
+    requires even { All (λ row. All (λ other. length other ≡ length row) list.old) rows }
     ensures ok { OnOk result (list.new ≡ list.old ++ rows) }
     ensures few { OnOk result (length list.old + length rows ≤ most) }
     ensures err { OnErr result (list.new ≡ list.old) }

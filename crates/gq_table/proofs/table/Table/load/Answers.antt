@@ -1,8 +1,8 @@
-use Rattle.std.proofs.Common.{◌≡◌, ◌<◌, IsTrue, length, sym, ap, subst, ◌∙◌, None, arith}
+use Rattle.std.proofs.Common.{◌≡◌, ◌<◌, IsTrue, length, refl, sym, ap, subst, ◌∙◌, None}
 use Rattle.std.specs.Prelude.{OnOk, OnErr, IfErr}
-use Rattle.std.proofs.lemmas.Grind.{common_steps}
 use Rattle.gq_row.specs.Headings.{Heading}
 use Rattle.gq_row.specs.Tables.{PlainTable, keys_differ}
+use Rattle.gq_row.proofs.FittingLemmas.{each_as_long}
 use Rattle.gq_table.specs.Changes.{IsLoaded}
 use Rattle.gq_table.specs.Keyed.{OwnKeys, by_key, rows_in}
 use Rattle.gq_table.specs.Refusing.{load_refusal, WhyNotLoaded}
@@ -103,4 +103,10 @@ returns-in-Listed-clause-unchanged g c =
     (record { ok = c.load_listed.ensures.ok; few = c.load_listed.ensures.few; err = c.load_listed.ensures.err; why = c.load_listed.ensures.why })))).unchanged
 
 pub load_listed-requires : goal.load_listed-requires
-load_listed-requires g c = grind (arith, common_steps)
+load_listed-requires g c =
+    let staged = c.in-Listed-rows.staged in
+    let fits = staged_fit c.self.inside.schema c.args.staged.heading (Listed staged) staged (c.requires ∙ sym (ap (λ (t : PlainTable). t.heading) c.self.view_is)) (subst (IsStored c.args.staged.heading) c.in-Listed-rows.is c.into_rows-rows.ensures.stored) refl in
+    record {
+      few = rows_limit c.args.limits.now.bounds c.args.limits.now.in_range;
+      even = each_as_long c.self.inside.schema.columns c.in-Listed.list staged (subst (IsStored c.self.inside.schema) c.in-Listed.is c.self.invariant).standing.fitting fits;
+    }

@@ -2,6 +2,7 @@ use Rattle.std.proofs.Common.{◌≡◌, ◌<◌, All, length, true, false, sym,
 use Rattle.std.specs.Prelude.{OnOk, OnErr, IfErr}
 use Rattle.std.proofs.lemmas.Grind.{common_steps}
 use Rattle.gq_row.specs.Fitting.{fits_columns, has_null}
+use Rattle.gq_row.proofs.FittingLemmas.{all_as_long, as_long}
 use Rattle.gq_table.specs.Changes.{IsPut}
 use Rattle.gq_table.specs.Keyed.{OwnKeys, by_key, rows_in}
 use Rattle.gq_table.specs.Refusing.{row_refusal, WhyNotPut}
@@ -18,6 +19,12 @@ put_keyed-requires g c =
       columns = subst (All (λ position. position < length c.args.row.now)) (sym c.key.ensures.positions) (key_in_range c.self.inside.schema c.args.row.now c.key.ensures.heading (subst (λ t. fits_columns t.heading.columns c.args.row.now ≡ true) (sym c.self.view_is) c.requires.fits));
       own = subst (λ k. OwnKeys k (by_key c.in-Keyed.map)) (sym c.key.ensures.positions) (keyed_own c.self.inside.schema.key c.in-Keyed.map stored.placed);
     }
+
+pub put_listed-requires : goal.put_listed-requires
+put_listed-requires g c =
+    let columns = c.self.inside.schema.columns in
+    let fits = subst (λ t. fits_columns t.heading.columns c.args.row.now ≡ true) (sym c.self.view_is) c.requires.fits in
+    all_as_long columns c.in-Listed.rows (length c.args.row.now) (subst (IsStored c.self.inside.schema) c.in-Listed.is c.self.invariant).standing.fitting (as_long columns c.args.row.now fits)
 
 pub invariant_of-self : goal.invariant_of-self
 invariant_of-self g c =
