@@ -159,7 +159,9 @@ impl<H: KeyHash<Key> + Copy, S: RunStore> Engine<H, S> {
                 };
                 return self.group(table.as_str(), &clauses);
             }
-            Command::Distinct { table, on, tests } => return self.distinct(table, on, tests),
+            Command::Distinct { table, on, tests } => {
+                return self.distinct(table.as_str(), on, tests.as_slice());
+            }
         }
     }
 
@@ -278,15 +280,10 @@ impl<H: KeyHash<Key> + Copy, S: RunStore> Engine<H, S> {
         Ok(Reply::Rows { header, rows })
     }
 
-    fn distinct(
-        &mut self,
-        name: Text,
-        on: Sequence<Text>,
-        tests: Sequence<Test>,
-    ) -> Result<Reply, Refused>
-        requires { is_command (Command.Distinct name on tests) ≡ true }
+    fn distinct(&mut self, name: &str, on: Sequence<Text>, tests: &[Test]) -> Result<Reply, Refused>
+        requires { is_command (Command.Distinct name.now on tests.now) ≡ true }
         ensures comes { ComesOver true (setting_of S.runs self.old).honest
-            (told_apart (database self.old) name on tests)
+            (told_apart (database self.old) name.now on tests.now)
             result (database self.old) (database self.new) }
         ensures faults { FaultsHappened (reply_of result ∷ []) (failures_of S.runs self.old)
             (failures_of S.runs self.new) }
@@ -294,8 +291,8 @@ impl<H: KeyHash<Key> + Copy, S: RunStore> Engine<H, S> {
         ensures spent { spent_of self.new ≡ spent_of self.old }
         ensures budget { budget_of self.new ≡ budget_of self.old }
     {
-        let table = self.catalog.get(name.as_str()).ok_or(Refusal::NoTable)?;
-        let plan = plan_distinct(self.alloc, table.schema(), on.as_slice(), tests.as_slice())?;
+        let table = self.catalog.get(name).ok_or(Refusal::NoTable)?;
+        let plan = plan_distinct(self.alloc, table.schema(), on.as_slice(), tests)?;
         let (hasher, store) = (self.hasher, &mut self.store);
         let rows = rows_different(self.alloc, hasher, table, &plan, store, self.budget)?;
         Ok(Reply::Rows { header: on, rows })

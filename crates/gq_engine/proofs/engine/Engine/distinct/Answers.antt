@@ -18,24 +18,24 @@ use Rattle.gq_engine.proofs.engine.Engine.distinct.Goals as goal
 pub returns-in_err-table-clause-comes : goal.returns-in_err-table-clause-comes
 returns-in_err-table-clause-comes g c =
     let db = database c.args.self.now in
-    let steps = distinct db c.args.name c.args.on c.args.tests in
+    let steps = distinct db c.args.name.now c.args.on c.args.tests.now in
     let p = err_from_is_err_and c.from_residual.result c.from_residual.ensures.1 in
     let m = missed c.get.result c.in_err-table.field-0.0 NoTable c.in_err-table.ensures.value in
-    rw p.1 (Plainly (refuses steps NoTable p.0 db (p.2 ∙ ap unnumbered m.1) (distinct_none db c.args.name c.args.on c.args.tests (search rules))))
+    rw p.1 (Plainly (refuses steps NoTable p.0 db (p.2 ∙ ap unnumbered m.1) (distinct_none db c.args.name.now c.args.on c.args.tests.now (search rules))))
 
 pub returns-in_err-plan-clause-comes : goal.returns-in_err-plan-clause-comes
 returns-in_err-plan-clause-comes g c =
     let db = database c.args.self.now in
     let table = c.in_ok-table.table.now in
-    let found : table_at db c.args.name ≡ Some table = search rules in
+    let found : table_at db c.args.name.now ≡ Some table = search rules in
     let p = err_from_is_err_and c.from_residual-in_err-plan.result c.from_residual-in_err-plan.ensures.1 in
-    let why = subst (λ (w : Refused). (w ≡ unnumbered Memory) ⊎ (distinct_plan table.heading.columns c.args.on c.args.tests ≡ Err w)) (sym p.2) (rw (c.schema.ensures, c.as_slice.ensures, c.as_slice-2.ensures) at c.in_err-plan.ensures.refused) in
-    rw p.1 (Plainly (distinct_comes db c.args.name c.args.on c.args.tests table found p.0 why))
+    let why = subst (λ (w : Refused). (w ≡ unnumbered Memory) ⊎ (distinct_plan table.heading.columns c.args.on c.args.tests.now ≡ Err w)) (sym p.2) (rw (c.schema.ensures, c.as_slice.ensures) at c.in_err-plan.ensures.refused) in
+    rw p.1 (Plainly (distinct_comes db c.args.name.now c.args.on c.args.tests.now table found p.0 why))
 
 pub rows_different-requires-clause-some : goal.rows_different-requires-clause-some
 rows_different-requires-clause-some g c =
     let each : length c.in_ok-plan.plan.on ≡ length c.args.on = rw c.as_slice.ensures at c.in_ok-plan.ensures.each in
-    subst (λ n. 0 < n) (sym each) (some_on (database c.args.self.now) c.args.name c.args.on c.args.tests c.requires)
+    subst (λ n. 0 < n) (sym each) (some_on (database c.args.self.now) c.args.name.now c.args.on c.args.tests.now c.requires)
 
 pub rows_different-requires-clause-on : goal.rows_different-requires-clause-on
 rows_different-requires-clause-on g c = rw c.schema.ensures at c.in_ok-plan.ensures.within
@@ -46,12 +46,12 @@ returns-in_err-rows-clause-comes g c =
     let table = c.in_ok-table.table.now in
     let plan = c.in_ok-plan.plan in
     let honest = (g.S.RunStore.runs c.args.self.now.store).honest in
-    let found : table_at db c.args.name ≡ Some table = search rules in
-    let told : distinct_plan table.heading.columns c.args.on c.args.tests ≡ Ok plan = rw (c.schema.ensures, c.as_slice.ensures, c.as_slice-2.ensures) at c.in_ok-plan.ensures.told in
-    let steps = distinct_planned db c.args.name c.args.on c.args.tests table found plan told in
+    let found : table_at db c.args.name.now ≡ Some table = search rules in
+    let told : distinct_plan table.heading.columns c.args.on c.args.tests.now ≡ Ok plan = rw (c.schema.ensures, c.as_slice.ensures) at c.in_ok-plan.ensures.told in
+    let steps = distinct_planned db c.args.name.now c.args.on c.args.tests.now table found plan told in
     let p = err_from_is_err_and c.from_residual-in_err-rows.result c.from_residual-in_err-rows.ensures.1 in
     let due = subst (λ (w : Refused). GroupsOver honest (some_or SumRange (Some (keys_planned plan table))) (Err w)) (sym p.2) c.in_err-rows.ensures.rows in
-    rw p.1 (refused_over db honest (distinct db c.args.name c.args.on c.args.tests) c.args.on (Some (keys_planned plan table)) steps p.0 due)
+    rw p.1 (refused_over db honest (distinct db c.args.name.now c.args.on c.args.tests.now) c.args.on (Some (keys_planned plan table)) steps p.0 due)
 
 pub returns-clause-comes : goal.returns-clause-comes
 returns-clause-comes g c =
@@ -59,7 +59,7 @@ returns-clause-comes g c =
     let table = c.in_ok-table.table.now in
     let plan = c.in_ok-plan.plan in
     let honest = (g.S.RunStore.runs c.args.self.now.store).honest in
-    let found : table_at db c.args.name ≡ Some table = search rules in
-    let told : distinct_plan table.heading.columns c.args.on c.args.tests ≡ Ok plan = rw (c.schema.ensures, c.as_slice.ensures, c.as_slice-2.ensures) at c.in_ok-plan.ensures.told in
-    let steps = distinct_planned db c.args.name c.args.on c.args.tests table found plan told in
-    shown_over db honest (distinct db c.args.name c.args.on c.args.tests) c.args.on (Some (keys_planned plan table)) steps c.args.on c.in_ok-rows.rows refl c.in_ok-rows.ensures.rows
+    let found : table_at db c.args.name.now ≡ Some table = search rules in
+    let told : distinct_plan table.heading.columns c.args.on c.args.tests.now ≡ Ok plan = rw (c.schema.ensures, c.as_slice.ensures) at c.in_ok-plan.ensures.told in
+    let steps = distinct_planned db c.args.name.now c.args.on c.args.tests.now table found plan told in
+    shown_over db honest (distinct db c.args.name.now c.args.on c.args.tests.now) c.args.on (Some (keys_planned plan table)) steps c.args.on c.in_ok-rows.rows refl c.in_ok-rows.ensures.rows
