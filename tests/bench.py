@@ -10,6 +10,7 @@ processor time of each counts, with the greatest memory of it. Answers are compa
 that is said, and the status is 1.
 """
 
+import filecmp
 import os
 import random
 import shutil
@@ -82,11 +83,11 @@ def mawk(program, folder, kind, budget):
     return ["sh", "-c", f"{program} -F, '{text}' {folder}/rows.csv | LC_ALL=C sort -t, -k1,1{order[1:]}"]
 
 
-def lines_of(name, output):
-    """The rows of an answer: groupsh's come behind four replies' lines, and sqlite3 puts texts with spaces in quotes."""
-    with open(output, "rb") as file:
-        lines = file.read().replace(b"\r\n", b"\n").replace(b'"', b"").splitlines()
-    return lines[4:] if name == "groupsh" else lines
+def keep_rows(name, output, kept):
+    """Puts the rows of an answer into a file: groupsh's come behind four replies' lines, and sqlite3 puts texts with spaces in
+    quotes. Not within this program, whose own size would count as that of the programs that it starts."""
+    first = 5 if name == "groupsh" else 1
+    subprocess.run(["sh", "-c", f"tail -n +{first} {output} | tr -d '\\r\"' >{kept}"], check=True)
 
 
 def run(command, output):
@@ -116,17 +117,16 @@ def main():
             write_rows(os.path.join(folder, "rows.csv"), rows, key)
             commands = {name: makes(where, folder, kind, budget) for name, (makes, where) in programs.items()}
             least = {name: (float("inf"), 0.0) for name in programs}
-            answers = {}
             for _ in range(ROUNDS):
                 for name, command in commands.items():
                     output = os.path.join(folder, "answer")
                     least[name] = min(least[name], run(command, output))
-                    answers[name] = lines_of(name, output)
+                    keep_rows(name, output, os.path.join(folder, name))
             cells = "".join(f"{seconds:10.2f} ({memory:5.0f})" for seconds, memory in least.values())
             ratios = "".join(f"{least[name][0] / least['groupsh'][0]:18.1f}" for name in others)
             print(f"{shape:14}{cells}{ratios}", flush=True)
             for name in others:
-                if answers[name] != answers["groupsh"]:
+                if not filecmp.cmp(os.path.join(folder, name), os.path.join(folder, "groupsh"), shallow=False):
                     print(f"the answer of {name} differs")
                     differ = True
     sys.exit(differ)
