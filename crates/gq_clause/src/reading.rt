@@ -1,6 +1,6 @@
 //! Tokens as clauses: one function for each rule of the grammar, which takes the tokens that it reads
 //! from the front of those that are left.
-ghost use Rattle.std.specs.Prelude.{◌≡◌, ◌∷◌, List};
+ghost use Rattle.std.specs.Prelude.{◌∷◌, List};
 ghost use Rattle.gq_token.specs.Results.{Gives};
 ghost use Rattle.gq_token.specs.Queue.{skip};
 ghost use Rattle.gq_token.specs.declared.token.Token.{Token as Item};

@@ -1,7 +1,6 @@
 //! Fields of data records as values.
-ghost use Rattle.std.specs.Prelude.{◌≡◌, OnOk, IfErr};
+ghost use Rattle.std.specs.Prelude.{◌≡◌};
 ghost use Rattle.gq_row.specs.declared.value.Value.TheVariants as variant;
-ghost use Rattle.gq_load.specs.declared.load_refusal.LoadRefusal.TheVariants.{Memory};
 ghost use Rattle.gq_load.specs.Answers.{Gives};
 ghost use Rattle.gq_load.specs.Fields.{is_null_field, int_value, text_value, value_of};
 ghost use Rattle.gq_load.specs.Numbers.{int_of};

@@ -1,8 +1,7 @@
 //! Rows from records.
-ghost use Rattle.std.specs.Prelude.{◌≡◌, ◌≤◌, ◌<◌, ℕ, ◌^◌, All, List, ◌++◌, length, take, IfOk, OnOk, IfSome, IfNone, FitsSigned};
+ghost use Rattle.std.specs.Prelude.{◌≡◌, ◌≤◌, ◌<◌, ℕ, ◌^◌, All, List, ◌++◌, length, take, IfOk, IfSome, IfNone, FitsSigned};
 ghost use Rattle.std.specs.Int.{to_be_bytes, w32, w64};
 ghost use Rattle.gq_row.specs.declared.value.Value.{Value as Cell};
-ghost use Rattle.gq_row.specs.declared.value.Value.TheVariants as variant;
 ghost use Rattle.gq_record.specs.Records.{IsStorable, IsCell, IsText, record_of, body_of, value_bytes, with_length, number_bytes};
 
 use crate::kinds::{INT, NO_CASE, NULL, TEXT};

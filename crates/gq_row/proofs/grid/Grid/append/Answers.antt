@@ -1,5 +1,4 @@
-use Rattle.std.proofs.Common.{◌≡◌, ◌++◌, ◌∙◌, ◌+◌, ◌*◌, ◌<◌, [], List, ℕ, zero, suc, length, ap, subst, sym, rules, All}
-use Rattle.gq_row.specs.declared.value.Value.{Value}
+use Rattle.std.proofs.Common.{◌≡◌, ◌++◌, ◌∙◌, ◌+◌, ◌*◌, [], ap, sym, rules}
 use Rattle.gq_row.specs.Lists.{rows_of_length}
 use Rattle.gq_row.proofs.GridLemmas.{grown, even_with, no_rows}
 use Rattle.std.proofs.lemmas.List.{append-nil}

@@ -1,4 +1,4 @@
-use Rattle.std.proofs.Common.{◌≡◌, ◌++◌, ◌∷◌, ◌∙◌, ◌+◌, ◌*◌, [], length, ap, subst, sym, rules}
+use Rattle.std.proofs.Common.{◌≡◌, ◌++◌, ◌∙◌, ◌+◌, ◌*◌, length, ap, sym, rules}
 use Rattle.gq_row.specs.Lists.{rows_of_length}
 use Rattle.gq_row.proofs.GridLemmas.{grown, row_alone, times_one}
 use Rattle.gq_row.proofs.grid.Grid.push.Goals as goal

@@ -1,4 +1,4 @@
-use Rattle.std.proofs.Common.{◌≡◌, ◌<◌, ◌≤◌, ◌+◌, ◌-◌, ◌*◌, ◌∙◌, [], ℕ, take, drop, slice_index_or, ap, sym, arith}
+use Rattle.std.proofs.Common.{◌≡◌, ◌+◌, ◌-◌, ◌*◌, ◌∙◌, [], take, drop, slice_index_or, ap, sym, arith}
 use Rattle.gq_row.proofs.GridLemmas.{row_there, stands}
 use Rattle.gq_row.proofs.grid.Grid.row.Goals as goal
 
