@@ -1,0 +1,136 @@
+//! The index.
+ghost use Rattle.std.specs.Prelude.{◌≡◌, ◌<◌, ◌++◌, ◌∷◌, [], Some, length, OnOk, OnErr};
+ghost use Rattle.std.specs.List.{slice_get};
+ghost use Rattle.sw_table.specs.LaidOut.{hash_by};
+ghost use Rattle.sw_index.specs.Index.{IsFound, IsAbsent, IsAbsence, AreDifferent};
+
+use crate::found::{Absence, Found};
+use crate::numbered::{Known, Numbered};
+use crate::sought::Sought;
+use std::alloc::{AllocError, Global};
+use std::marker::Model;
+use sw_probe::{KeyHash, Keyed, Names};
+use sw_table::Table;
+
+/// Different keys in the order in which they came, each found by its hash.
+///
+/// Contracts see the list of keys, and the hasher.
+#[derive(Drop)]
+pub struct Index<K: Keyed, H: KeyHash<K>> {
+    keys: Vec<K>,
+    numbers: Table<Numbered, (), Known>,
+    hasher: H,
+}
+
+impl<K: Keyed, H: KeyHash<K>> Model for Index<K, H> {
+    ghost use Rattle.sw_table.specs.Entries.{entries};
+    ghost use Rattle.sw_table.specs.LaidOut.{hash_by};
+    ghost use Rattle.sw_index.specs.Index.{IndexView, IsIndexed, class_of_number};
+
+    ghost Value = { IndexView K H };
+
+    ghost view = { λ x. record { keys = x.keys.items; hasher = x.hasher } };
+
+    ghost invariant = { λ x. IsIndexed K.class (hash_by H.hash_of K.bytes x.hasher)
+        x.keys.items (entries class_of_number x.numbers) };
+}
+
+impl<K: Keyed, H: KeyHash<K>> Index<K, H> {
+    /// No key. It takes no memory.
+    pub fn new(alloc: Global, hasher: H) -> Index<K, H>
+        ensures keys { result.keys ≡ [] }
+        ensures hasher { result.hasher ≡ hasher }
+    {
+        Index {
+            keys: Vec::new(alloc),
+            numbers: Table::new(alloc, Known),
+            hasher,
+        }
+    }
+
+    /// How many keys there are.
+    #[inline]
+    pub fn len(&self) -> usize
+        ensures { result ≡ length self.now.keys }
+    {
+        self.keys.len()
+    }
+
+    /// How many keys there may be before the table of numbers grows.
+    #[inline]
+    pub fn room(&self) -> usize {
+        self.numbers.room()
+    }
+
+    /// The keys, in the order in which they came.
+    #[inline]
+    pub fn keys(&self) -> &[K]
+        ensures list { result.now ≡ self.now.keys }
+        ensures different { AreDifferent K.class self.now.keys }
+    {
+        self.keys.as_slice()
+    }
+
+    /// Where the key that `q` names stands. What [`Index::add`] takes to add one of its class, where it
+    /// is absent.
+    #[inline]
+    pub fn find<Q: Names<K>>(&self, q: &Q) -> Found
+        ensures found { IsFound K.class self.now.keys (Q.named q.now) result }
+        ensures absent { IsAbsent K.class (hash_by H.hash_of K.bytes self.now.hasher) self.now.keys
+            (Q.named q.now) result }
+    {
+        let hash = self.hasher.hash(q);
+        let sought = Sought {
+            keys: self.keys.as_slice(),
+            key: q,
+            hash,
+        };
+        match self.numbers.find(&sought) {
+            Some(slot) => Found::At(self.numbers.at(slot).0.number),
+            None => Found::Absent(Absence { hash }),
+        }
+    }
+
+    /// Adds a key of a class that [`Index::find`] told to be absent, behind all others. Refused for want
+    /// of memory, or where there are as many keys as a table takes, the index is as it was, and the key
+    /// is dropped.
+    #[inline]
+    pub fn add(&mut self, absence: Absence, key: K) -> Result<(), AllocError>
+    where
+        K: Drop,
+        requires { IsAbsence K.class (hash_by H.hash_of K.bytes self.old.hasher) self.old.keys
+            (K.class key) absence }
+        ensures added { OnOk result (self.new.keys ≡ self.old.keys ++ key ∷ []) }
+        ensures unchanged { OnErr result (self.new ≡ self.old) }
+        ensures hasher { self.new.hasher ≡ self.old.hasher }
+    {
+        let numbered = Numbered {
+            hash: absence.hash,
+            number: self.keys.len(),
+        };
+        self.keys.push(key)?;
+        let Ok(_) = self.numbers.place(numbered, ()) else {
+            let _ = self.keys.pop();
+            return Err(AllocError);
+        };
+        Ok(())
+    }
+
+    /// Makes room for so many keys in all, where there is memory for that.
+    pub fn make_room(&mut self, keys: usize)
+        ensures { self.new ≡ self.old }
+    {
+        let _ = self.numbers.reserve(keys);
+        let _ = self.keys.reserve(keys.saturating_sub(self.keys.len()));
+    }
+
+    /// The keys, to move out.
+    pub fn into_keys(self) -> Vec<K>
+    where
+        H: Drop,
+        ensures list { result.items ≡ self.keys }
+        ensures different { AreDifferent K.class self.keys }
+    {
+        self.keys
+    }
+}
