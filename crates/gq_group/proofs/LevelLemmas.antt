@@ -10,8 +10,6 @@ use Rattle.std.proofs.lemmas.List.Folds.{list_any-append}
 use Rattle.std.proofs.lemmas.List.Sums.{sum_by-cons}
 use Rattle.std.proofs.lemmas.List.Elements.{All-from_recursion, recursion_from_All, All-nil, All-cons}
 use Rattle.std.proofs.lemmas.List.Sorted.{IsPermutation-refl, IsPermutation-append, IsPermutation-trans, length_permutation, list_any-IsPermutation}
-use Rattle.sw_table.specs.View.{View}
-use Rattle.sw_table.specs.Entries.{entries}
 use Rattle.gq_row.specs.declared.value.Value.{Value}
 use Rattle.gq_row.specs.Classes.{class_of}
 use Rattle.gq_row.specs.Rows.{key_of}
@@ -20,7 +18,7 @@ use Rattle.gq_row.specs.Tables.{keys, of_key}
 use Rattle.gq_agg.specs.Running.{Running}
 use Rattle.gq_spill.specs.Runs.{Runs}
 use Rattle.gq_spill.specs.Writing.{Writing}
-use Rattle.gq_group.specs.Entries.{Pair, tallies, group_at}
+use Rattle.gq_group.specs.Entries.{listed, Pair, tallies, group_at}
 use Rattle.gq_group.specs.Groups.{Spec, Group, groups, group_of, keys_of, answered, all_fit, fits_spec, is_none, out_of_range, Pushes}
 use Rattle.gq_group.specs.Levels.{row_groups, lots, classes_at, class_at, class_by}
 use Rattle.gq_group.specs.Readings.{AreRows, Fit, IsWide, Parted, Numbers, Reads, left_lots}
@@ -117,113 +115,112 @@ with_columns spec column columns rows e = subst (λ by. keys_of by rows ≡ keys
 group_there : (spec : Spec) (rows : List (List Value)) → spec.by ≡ [] → is_some (group_at spec rows []) ≡ true
 group_there spec rows none = ap (λ by. is_some (cond {A = Option Pair} (list_any (same_key []) (keys_of by rows)) (Some ([], tallies spec.aggs (of_key spec.by rows []))) None)) none
 
-module _ {H : Type 0} where
-  -- so each row is taken then
-  has_all : (spec : Spec) (budget : ℕ) (done : List (List Value)) (m : View (List Value) (List Running) H) → spec.by ≡ [] → Resident spec budget done m → (row : List Value) → has_entry m (key_of spec.by row) ≡ true
-  has_all spec budget done m none resident row =
-      ap (λ by. has_entry m (key_of by row)) none ∙ ap is_some (resident.grouped []) ∙ group_there spec (taken spec m done) none
+-- so each row is taken then
+has_all : (spec : Spec) (budget : ℕ) (done : List (List Value)) (m : List Pair) → spec.by ≡ [] → Resident spec budget done m → (row : List Value) → has_entry m (key_of spec.by row) ≡ true
+has_all spec budget done m none resident row =
+    ap (λ by. has_entry m (key_of by row)) none ∙ ap is_some (resident.grouped []) ∙ group_there spec (taken spec m done) none
 
-  none_left : (spec : Spec) (budget : ℕ) (done : List (List Value)) (m : View (List Value) (List Running) H) → spec.by ≡ [] → Resident spec budget done m → left_over spec m done ≡ []
-  none_left spec budget done m none resident = filter_none (λ row. has_entry m (key_of spec.by row)) done (has_all spec budget done m none resident)
+none_left : (spec : Spec) (budget : ℕ) (done : List (List Value)) (m : List Pair) → spec.by ≡ [] → Resident spec budget done m → left_over spec m done ≡ []
+none_left spec budget done m none resident = filter_none (λ row. has_entry m (key_of spec.by row)) done (has_all spec budget done m none resident)
 
-  -- the groups of the rows are those of the rows that were taken, and those of the keys that are left
-  pub resident-parted : (spec : Spec) (budget : ℕ) (done : List (List Value)) (m : View (List Value) (List Running) H) → Resident spec budget done m
-      → IsPermutation (groups spec done) (groups spec (taken spec m done) ++ row_groups spec (left_over spec m done))
-  resident-parted spec budget done m resident = at spec.by refl
-    where
-      P : List (List Value × List (Option Value)) → Type 0
-      P l = IsPermutation (groups spec done) l
+-- the groups of the rows are those of the rows that were taken, and those of the keys that are left
+pub resident-parted : (spec : Spec) (budget : ℕ) (done : List (List Value)) (m : List Pair) → Resident spec budget done m
+    → IsPermutation (groups spec done) (groups spec (taken spec m done) ++ row_groups spec (left_over spec m done))
+resident-parted spec budget done m resident = at spec.by refl
+  where
+    P : List (List Value × List (Option Value)) → Type 0
+    P l = IsPermutation (groups spec done) l
 
-      at : (by : List ℕ) → spec.by ≡ by → IsPermutation (groups spec done) (groups spec (taken spec m done) ++ row_groups spec (left_over spec m done))
-      at [] e =
-          let all : taken spec m done ≡ done = filter_all (λ row. has_entry m (key_of spec.by row)) done (has_all spec budget done m e resident) in
-          let whole : groups spec done ≡ groups spec (taken spec m done) ++ row_groups spec (left_over spec m done)
-          = sym (append-nil (groups spec done)) ∙ ap (λ l. groups spec l ++ []) (sym all) ∙ ap (λ l. groups spec (taken spec m done) ++ row_groups spec l) (sym (none_left spec budget done m e resident)) in
-          subst P whole (IsPermutation-refl (groups spec done))
-      at (column ∷ columns) e =
-          let Q : List (List Value × List (Option Value)) → Type 0 = λ l. IsPermutation l (groups spec (taken spec m done) ++ row_groups spec (left_over spec m done)) in
-          let R : List (List Value × List (Option Value)) → Type 0 = λ l. IsPermutation (row_groups spec done) (l ++ row_groups spec (left_over spec m done)) in
-          subst Q (ap (map (group_of spec done)) (sym (with_columns spec column columns done e)))
-          (subst R (ap (map (group_of spec (taken spec m done))) (sym (with_columns spec column columns (taken spec m done) e)))
-          (groups_parted spec (has_entry m) done))
+    at : (by : List ℕ) → spec.by ≡ by → IsPermutation (groups spec done) (groups spec (taken spec m done) ++ row_groups spec (left_over spec m done))
+    at [] e =
+        let all : taken spec m done ≡ done = filter_all (λ row. has_entry m (key_of spec.by row)) done (has_all spec budget done m e resident) in
+        let whole : groups spec done ≡ groups spec (taken spec m done) ++ row_groups spec (left_over spec m done)
+        = sym (append-nil (groups spec done)) ∙ ap (λ l. groups spec l ++ []) (sym all) ∙ ap (λ l. groups spec (taken spec m done) ++ row_groups spec l) (sym (none_left spec budget done m e resident)) in
+        subst P whole (IsPermutation-refl (groups spec done))
+    at (column ∷ columns) e =
+        let Q : List (List Value × List (Option Value)) → Type 0 = λ l. IsPermutation l (groups spec (taken spec m done) ++ row_groups spec (left_over spec m done)) in
+        let R : List (List Value × List (Option Value)) → Type 0 = λ l. IsPermutation (row_groups spec done) (l ++ row_groups spec (left_over spec m done)) in
+        subst Q (ap (map (group_of spec done)) (sym (with_columns spec column columns done e)))
+        (subst R (ap (map (group_of spec (taken spec m done))) (sym (with_columns spec column columns (taken spec m done) e)))
+        (groups_parted spec (has_entry m) done))
 
-  -- a sum that is out of range among the rows that were taken is so among all
-  pub range-taken : (spec : Spec) (budget : ℕ) (done : List (List Value)) (m : View (List Value) (List Running) H) → Resident spec budget done m → out_of_range spec (taken spec m done) ≡ true → out_of_range spec done ≡ true
-  range-taken spec budget done m resident far =
-      list_any-IsPermutation (λ g. list_any is_none g.1) (groups spec done) _ (resident-parted spec budget done m resident)
-      ∙ list_any-append (λ g. list_any is_none g.1) (groups spec (taken spec m done)) (row_groups spec (left_over spec m done))
-      ∙ ap (λ b. b || list_any (λ g. list_any is_none g.1) (row_groups spec (left_over spec m done))) far
+-- a sum that is out of range among the rows that were taken is so among all
+pub range-taken : (spec : Spec) (budget : ℕ) (done : List (List Value)) (m : List Pair) → Resident spec budget done m → out_of_range spec (taken spec m done) ≡ true → out_of_range spec done ≡ true
+range-taken spec budget done m resident far =
+    list_any-IsPermutation (λ g. list_any is_none g.1) (groups spec done) _ (resident-parted spec budget done m resident)
+    ∙ list_any-append (λ g. list_any is_none g.1) (groups spec (taken spec m done)) (row_groups spec (left_over spec m done))
+    ∙ ap (λ b. b || list_any (λ g. list_any is_none g.1) (row_groups spec (left_over spec m done))) far
 
-  -- where a row is left, another was taken
-  left-fewer : (spec : Spec) (budget : ℕ) (done : List (List Value)) (m : View (List Value) (List Running) H) → 1 ≤ budget → Resident spec budget done m
-      → len (entries class_of m) ≡ length (keys_of spec.by (taken spec m done)) → 0 < length (left_over spec m done) → length (left_over spec m done) < length done
-  left-fewer spec budget done m some resident counted more = at spec.by refl
-    where
-      at : (by : List ℕ) → spec.by ≡ by → length (left_over spec m done) < length done
-      at [] e = let none : length (left_over spec m done) ≡ 0 = ap length (none_left spec budget done m e resident) in absurd (omega (arith, more, none))
-      at (column ∷ columns) e =
-          let both : length (taken spec m done) + length (left_over spec m done) ≡ length done
-          = length-filter_both (λ row. has_entry m (key_of spec.by row)) (λ row. not (has_entry m (key_of spec.by row))) (λ row. refl) done in
-          let same : length (keys_of spec.by (taken spec m done)) ≡ length (keys spec.by (taken spec m done)) = ap length (with_columns spec column columns (taken spec m done) e) in
-          let full : len (entries class_of m) ≡ budget = resident.full more in
-          omega (arith, both, same, full, some, counted, groups_le_rows spec (taken spec m done), length-map (keys spec.by (taken spec m done)) (group_of spec (taken spec m done)))
+-- where a row is left, another was taken
+left-fewer : (spec : Spec) (budget : ℕ) (done : List (List Value)) (m : List Pair) → 1 ≤ budget → Resident spec budget done m
+    → len (listed m) ≡ length (keys_of spec.by (taken spec m done)) → 0 < length (left_over spec m done) → length (left_over spec m done) < length done
+left-fewer spec budget done m some resident counted more = at spec.by refl
+  where
+    at : (by : List ℕ) → spec.by ≡ by → length (left_over spec m done) < length done
+    at [] e = let none : length (left_over spec m done) ≡ 0 = ap length (none_left spec budget done m e resident) in absurd (omega (arith, more, none))
+    at (column ∷ columns) e =
+        let both : length (taken spec m done) + length (left_over spec m done) ≡ length done
+        = length-filter_both (λ row. has_entry m (key_of spec.by row)) (λ row. not (has_entry m (key_of spec.by row))) (λ row. refl) done in
+        let same : length (keys_of spec.by (taken spec m done)) ≡ length (keys spec.by (taken spec m done)) = ap length (with_columns spec column columns (taken spec m done) e) in
+        let full : len (listed m) ≡ budget = resident.full more in
+        omega (arith, both, same, full, some, counted, groups_le_rows spec (taken spec m done), length-map (keys spec.by (taken spec m done)) (group_of spec (taken spec m done)))
 
-  -- ---- a whole reading
+-- ---- a whole reading
 
-  pub parted : (spec : Spec) (budget : ℕ) (class : List Value → ℕ) (n : ℕ) (honest : Bool) (before : List (List Value) → Type 0) (s t : Runs) (m : View (List Value) (List Running) H) (slots : List Slot) (level : Level) (holds : List Group → Type 0) (rows : List (List Value))
-      → ((k : List Value) → class k < n)
-      → (read : Reads spec budget class n honest before (λ left. left ≡ []) s level.rows_read level.rows_written level.runs level.columns m slots)
-      → IsTrue honest → before rows
-      → Pushes spec (taken spec m read.done) holds
-      → level.groups ≡ length (keys_of spec.by (taken spec m read.done))
-      → level.groups ≡ len (entries class_of m)
-      → ((parts : List (List (List Value))) → AllHeld s slots parts → AllHeld t slots parts)
-      → Parted spec budget rows slots t level holds
-  parted spec budget class n honest before s t m slots level holds rows few read h b pushes count kept stays =
-      let got = read.rest h rows b in
-      let same : rows ≡ read.done = got.1 ∙ ap (λ l. read.done ++ l) got.2 ∙ append-nil read.done in
-      let left : List (List Value) = left_over spec m read.done in
-      let parts : List (List (List Value)) = left_lots spec class n read.done m in
-      let out : List Group = pushes.0 in
-      let sizes : sum_by length parts ≡ length left = lots-length class spec.by 0 n left (λ k. let f : class k < n = few k in omega arith) (all_from-zero class spec.by left) in
-      let sent : length out ≡ level.groups
-      = omega (arith, length_permutation (groups spec (taken spec m read.done)) (map answered out) pushes.1, length-map out answered, length-map (keys_of spec.by (taken spec m read.done)) (group_of spec (taken spec m read.done)), count) in
-      let P : List (List Value × List (Option Value)) → Type 0 = λ l. IsPermutation l (map answered out ++ flat_map (row_groups spec) parts) in
-      record {
-        out = out;
-        parts = parts;
-        pushed = pushes.2;
-        held = stays parts read.held;
-        whole = subst P (ap (groups spec) (sym same))
-            (IsPermutation-trans _ _ _ (resident-parted spec budget read.done m read.resident)
-            (IsPermutation-append _ _ _ _ pushes.1 (lots-groups spec class 0 n left (λ k. let f : class k < n = few k in omega arith) (all_from-zero class spec.by left))));
-        wide = subst (IsWide level.columns) (sym same) read.wide;
-        fit = λ columns f. fit-lots spec columns class 0 n left (fit-filter spec columns (λ row. not (has_entry m (key_of spec.by row))) read.done (subst (Fit spec columns) same f));
-        read = omega (arith, read.counted, ap length same);
-        sent = sym sent;
-        few = omega (arith, sent, kept, read.resident.within);
-        full = λ more. let f : len (entries class_of m) ≡ budget = read.resident.full (omega (arith, sizes, more)) in omega (arith, sent, f, kept);
-        written = omega (arith, read.wrote, sizes);
-        fewer = omega (arith, sizes, ap length same, length-filter_both (λ row. has_entry m (key_of spec.by row)) (λ row. not (has_entry m (key_of spec.by row))) (λ row. refl) read.done);
-        began = sym read.began_runs;
-      }
+pub parted : (spec : Spec) (budget : ℕ) (class : List Value → ℕ) (n : ℕ) (honest : Bool) (before : List (List Value) → Type 0) (s t : Runs) (m : List Pair) (slots : List Slot) (level : Level) (holds : List Group → Type 0) (rows : List (List Value))
+    → ((k : List Value) → class k < n)
+    → (read : Reads spec budget class n honest before (λ left. left ≡ []) s level.rows_read level.rows_written level.runs level.columns m slots)
+    → IsTrue honest → before rows
+    → Pushes spec (taken spec m read.done) holds
+    → level.groups ≡ length (keys_of spec.by (taken spec m read.done))
+    → level.groups ≡ len (listed m)
+    → ((parts : List (List (List Value))) → AllHeld s slots parts → AllHeld t slots parts)
+    → Parted spec budget rows slots t level holds
+parted spec budget class n honest before s t m slots level holds rows few read h b pushes count kept stays =
+    let got = read.rest h rows b in
+    let same : rows ≡ read.done = got.1 ∙ ap (λ l. read.done ++ l) got.2 ∙ append-nil read.done in
+    let left : List (List Value) = left_over spec m read.done in
+    let parts : List (List (List Value)) = left_lots spec class n read.done m in
+    let out : List Group = pushes.0 in
+    let sizes : sum_by length parts ≡ length left = lots-length class spec.by 0 n left (λ k. let f : class k < n = few k in omega arith) (all_from-zero class spec.by left) in
+    let sent : length out ≡ level.groups
+    = omega (arith, length_permutation (groups spec (taken spec m read.done)) (map answered out) pushes.1, length-map out answered, length-map (keys_of spec.by (taken spec m read.done)) (group_of spec (taken spec m read.done)), count) in
+    let P : List (List Value × List (Option Value)) → Type 0 = λ l. IsPermutation l (map answered out ++ flat_map (row_groups spec) parts) in
+    record {
+      out = out;
+      parts = parts;
+      pushed = pushes.2;
+      held = stays parts read.held;
+      whole = subst P (ap (groups spec) (sym same))
+          (IsPermutation-trans _ _ _ (resident-parted spec budget read.done m read.resident)
+          (IsPermutation-append _ _ _ _ pushes.1 (lots-groups spec class 0 n left (λ k. let f : class k < n = few k in omega arith) (all_from-zero class spec.by left))));
+      wide = subst (IsWide level.columns) (sym same) read.wide;
+      fit = λ columns f. fit-lots spec columns class 0 n left (fit-filter spec columns (λ row. not (has_entry m (key_of spec.by row))) read.done (subst (Fit spec columns) same f));
+      read = omega (arith, read.counted, ap length same);
+      sent = sym sent;
+      few = omega (arith, sent, kept, read.resident.within);
+      full = λ more. let f : len (listed m) ≡ budget = read.resident.full (omega (arith, sizes, more)) in omega (arith, sent, f, kept);
+      written = omega (arith, read.wrote, sizes);
+      fewer = omega (arith, sizes, ap length same, length-filter_both (λ row. has_entry m (key_of spec.by row)) (λ row. not (has_entry m (key_of spec.by row))) (λ row. refl) read.done);
+      began = sym read.began_runs;
+    }
 
-  pub numbers : (spec : Spec) (budget bound : ℕ) (class : List Value → ℕ) (n : ℕ) (honest : Bool) (before : List (List Value) → Type 0) (s : Runs) (m : View (List Value) (List Running) H) (slots : List Slot) (level : Level)
-      → 1 ≤ budget → ((k : List Value) → class k < n)
-      → (read : Reads spec budget class n honest before (λ left. left ≡ []) s level.rows_read level.rows_written level.runs level.columns m slots)
-      → level.groups ≡ length (keys_of spec.by (taken spec m read.done)) → level.groups ≡ len (entries class_of m) → level.rows_read ≤ bound → level.runs ≤ level.rows_written
-      → Numbers budget bound slots level
-  numbers spec budget bound class n honest before s m slots level some few read count kept within runs =
-      let left : List (List Value) = left_over spec m read.done in
-      let sizes : sum_by length (left_lots spec class n read.done m) ≡ length left = lots-length class spec.by 0 n left (λ k. let f : class k < n = few k in omega arith) (all_from-zero class spec.by left) in
-      record {
-        read = within;
-        fewer = λ more. omega (arith, left-fewer spec budget read.done m some read.resident (sym kept ∙ count) (omega (arith, read.wrote, more)), read.wrote, read.counted);
-        waits = omega (arith, waits-held s slots (left_lots spec class n read.done m) read.held, sizes, read.wrote);
-        few = omega (arith, kept, read.resident.within);
-        runs = runs;
-        filled = filled-held s slots (left_lots spec class n read.done m) read.held;
-      }
+pub numbers : (spec : Spec) (budget bound : ℕ) (class : List Value → ℕ) (n : ℕ) (honest : Bool) (before : List (List Value) → Type 0) (s : Runs) (m : List Pair) (slots : List Slot) (level : Level)
+    → 1 ≤ budget → ((k : List Value) → class k < n)
+    → (read : Reads spec budget class n honest before (λ left. left ≡ []) s level.rows_read level.rows_written level.runs level.columns m slots)
+    → level.groups ≡ length (keys_of spec.by (taken spec m read.done)) → level.groups ≡ len (listed m) → level.rows_read ≤ bound → level.runs ≤ level.rows_written
+    → Numbers budget bound slots level
+numbers spec budget bound class n honest before s m slots level some few read count kept within runs =
+    let left : List (List Value) = left_over spec m read.done in
+    let sizes : sum_by length (left_lots spec class n read.done m) ≡ length left = lots-length class spec.by 0 n left (λ k. let f : class k < n = few k in omega arith) (all_from-zero class spec.by left) in
+    record {
+      read = within;
+      fewer = λ more. omega (arith, left-fewer spec budget read.done m some read.resident (sym kept ∙ count) (omega (arith, read.wrote, more)), read.wrote, read.counted);
+      waits = omega (arith, waits-held s slots (left_lots spec class n read.done m) read.held, sizes, read.wrote);
+      few = omega (arith, kept, read.resident.within);
+      runs = runs;
+      filled = filled-held s slots (left_lots spec class n read.done m) read.held;
+    }
 
 -- each class has its slot
 place_less : (level hash : ℕ) → class_at level hash < classes_at level

@@ -5,7 +5,7 @@ pub mod ChunkLemmas
 pub mod Costs
 pub mod FirstLemmas
 pub mod GoneLemmas
-pub mod LaidLemmas
+pub mod KeptLemmas
 pub mod LevelLemmas
 pub mod Lots
 pub mod MapGroups

@@ -2,7 +2,7 @@
 use Rattle.std.proofs.Common.{◌≡◌, ◌==◌, ℕ, suc, ◌+◌, ◌≤◌, Bool, true, false, cond, ◌||◌, List, [], ◌∷◌, ◌++◌, length, map, Option, Some, None, refl, sym, ap, subst, ◌∙◌, arith, count_by, IsPermutation, true≢false, append-nil, inl, inr, Result, Ok, Err}
 use Rattle.std.specs.Prelude.{is_some, IsSome, OnOk, IfOk}
 use Rattle.std.specs.Option.{option_map_or}
-use Rattle.std.specs.List.{AllByRecursion, list_any}
+use Rattle.std.specs.List.{AllByRecursion, list_any, slice_get}
 use Rattle.std.specs.Cmp.Lexicographic.{nat_list_cmp_total}
 use Rattle.std.specs.FinMap.{insert, get, len, from_entries, contains_key, empty, get-empty, get-insert, len-empty, len-insert}
 use Rattle.std.proofs.lemmas.Bool.{cases_lt, or_parts, or_from}
@@ -10,8 +10,7 @@ use Rattle.std.proofs.lemmas.List.Folds.{list_any-append}
 use Rattle.std.proofs.lemmas.List.{map-append, nil_from_length}
 use Rattle.std.proofs.lemmas.Bool.Decides.{nat_tests}
 use Rattle.std.proofs.lemmas.List.Sums.{sum_by-cons}
-use Rattle.sw_table.specs.View.{View, entry_at, IsFull}
-use Rattle.sw_table.specs.Entries.{Entries, entries}
+use Rattle.sw_table.specs.Entries.{Entries}
 use Rattle.sw_flat.specs.Maps.{ListsAll, stored_key}
 use Rattle.sw_flat.proofs.Classes.{same, same_is, same_itself, some_is}
 use Rattle.gq_row.specs.declared.value.Value.{Value}
@@ -26,7 +25,7 @@ use Rattle.gq_row.proofs.MovedLemmas.{IsPermutation-from_counts}
 use Rattle.gq_row.proofs.OrderLemmas.{same_key_exact, same_key_itself, same_key_equiv}
 use Rattle.gq_row.proofs.TableLemmas.{of_key-push}
 use Rattle.gq_agg.specs.Running.{Running}
-use Rattle.gq_group.specs.Entries.{Pair, tallies, group_at, Grouped, AreTallied}
+use Rattle.gq_group.specs.Entries.{Pair, listed, tallies, group_at, Grouped, AreTallied}
 use Rattle.gq_group.specs.Groups.{Spec, keys_of}
 
 -- ---- keys, with one row more
@@ -87,17 +86,17 @@ no_rows_of by rows k none = told (list_any (same_key k) (map (key_of by) rows)) 
 pub classes_same : (a b : List Value) → same (class_of a) (class_of b) ≡ same_key a b
 classes_same a b = told_class (same (class_of a) (class_of b)) a b (λ h. same_is (class_of a) (class_of b) h, λ e. same_itself (class_of a) (class_of b) e)
 
-pub grouped-step : {H : Type 0} (spec : Spec) (rows : List (List Value)) (row : List Value) (old new : View (List Value) (List Running) H) → Grouped spec rows old
-    → entries class_of new ≡ insert (entries class_of old) (class_of (key_of spec.by row)) (key_of spec.by row, tallies spec.aggs (of_key spec.by rows (key_of spec.by row) ++ row ∷ []))
+pub grouped-step : (spec : Spec) (rows : List (List Value)) (row : List Value) (old new : List Pair) → Grouped spec rows old
+    → listed new ≡ insert (listed old) (class_of (key_of spec.by row)) (key_of spec.by row, tallies spec.aggs (of_key spec.by rows (key_of spec.by row) ++ row ∷ []))
     → Grouped spec (rows ++ row ∷ []) new
 grouped-step spec rows row old new grouped put k =
     let mine : List Value = key_of spec.by row in
     ap (λ (m : Entries (List Value) (List Running)). get m (class_of k)) put
-    ∙ get-insert nat_list_cmp_total (entries class_of old) (class_of mine) (mine, tallies spec.aggs (of_key spec.by rows mine ++ row ∷ [])) (class_of k)
+    ∙ get-insert nat_list_cmp_total (listed old) (class_of mine) (mine, tallies spec.aggs (of_key spec.by rows mine ++ row ∷ [])) (class_of k)
     ∙ told (same_key k mine) refl
   where
     told : (b : Bool) → same_key k (key_of spec.by row) ≡ b
-        → cond (same (class_of k) (class_of (key_of spec.by row))) (Some (key_of spec.by row, tallies spec.aggs (of_key spec.by rows (key_of spec.by row) ++ row ∷ []))) (get (entries class_of old) (class_of k))
+        → cond (same (class_of k) (class_of (key_of spec.by row))) (Some (key_of spec.by row, tallies spec.aggs (of_key spec.by rows (key_of spec.by row) ++ row ∷ []))) (get (listed old) (class_of k))
         ≡ group_at spec (rows ++ row ∷ []) k
     told true e =
         let mine : List Value = key_of spec.by row in
@@ -105,7 +104,7 @@ grouped-step spec rows row old new grouped put k =
         let there : list_any (same_key k) (keys_of spec.by (rows ++ row ∷ [])) ≡ true = has_key-push spec.by rows row k ∙ ap (λ b. list_any (same_key k) (keys_of spec.by rows) || b) e ∙ or_true (list_any (same_key k) (keys_of spec.by rows)) in
         let its : of_key spec.by (rows ++ row ∷ []) k ≡ of_key spec.by rows mine ++ row ∷ []
         = of_key-push spec.by rows row k ∙ ap (λ b. of_key spec.by rows k ++ cond b (row ∷ []) []) ((same_key_equiv).symm mine k ∙ e) ∙ ap (λ x. of_key spec.by rows x ++ row ∷ []) is in
-        ap (λ b. cond b (Some (mine, tallies spec.aggs (of_key spec.by rows mine ++ row ∷ []))) (get (entries class_of old) (class_of k))) (same_itself (class_of k) (class_of mine) (ap class_of is))
+        ap (λ b. cond b (Some (mine, tallies spec.aggs (of_key spec.by rows mine ++ row ∷ []))) (get (listed old) (class_of k))) (same_itself (class_of k) (class_of mine) (ap class_of is))
         ∙ (λ i. Some (sym is i, tallies spec.aggs (sym its i)))
         ∙ sym (ap (λ b. cond b (Some (k, tallies spec.aggs (of_key spec.by (rows ++ row ∷ []) k))) None) there)
     told false e =
@@ -113,7 +112,7 @@ grouped-step spec rows row old new grouped put k =
         let there : list_any (same_key k) (keys_of spec.by (rows ++ row ∷ [])) ≡ list_any (same_key k) (keys_of spec.by rows) = has_key-push spec.by rows row k ∙ ap (λ b. list_any (same_key k) (keys_of spec.by rows) || b) e ∙ or_none (list_any (same_key k) (keys_of spec.by rows)) in
         let its : of_key spec.by (rows ++ row ∷ []) k ≡ of_key spec.by rows k
         = of_key-push spec.by rows row k ∙ ap (λ b. of_key spec.by rows k ++ cond b (row ∷ []) []) ((same_key_equiv).symm mine k ∙ e) ∙ append-nil (of_key spec.by rows k) in
-        ap (λ b. cond b (Some (mine, tallies spec.aggs (of_key spec.by rows mine ++ row ∷ []))) (get (entries class_of old) (class_of k))) (apart (same (class_of k) (class_of mine)) refl)
+        ap (λ b. cond b (Some (mine, tallies spec.aggs (of_key spec.by rows mine ++ row ∷ []))) (get (listed old) (class_of k))) (apart (same (class_of k) (class_of mine)) refl)
         ∙ grouped k
         ∙ (λ i. cond (sym there i) (Some (k, tallies spec.aggs (sym its i))) None)
       where
@@ -122,9 +121,9 @@ grouped-step spec rows row old new grouped put k =
         apart false f = refl
 
 -- the entry in which a row's key stands
-pub stands : {H : Type 0} (spec : Spec) (rows : List (List Value)) (m : View (List Value) (List Running) H) (i : ℕ) (k : List Value) → Grouped spec rows m
-    → get (entries class_of m) (class_of k) ≡ entry_at m i → IsFull m i → entry_at m i ≡ Some (k, tallies spec.aggs (of_key spec.by rows k))
-stands spec rows m i k grouped found full = told (list_any (same_key k) (keys_of spec.by rows)) (entry_at m i) (sym (grouped k) ∙ found) full
+pub stands : (spec : Spec) (rows : List (List Value)) (m : List Pair) (i : ℕ) (k : List Value) → Grouped spec rows m
+    → get (listed m) (class_of k) ≡ slice_get m i → IsSome (slice_get m i) → slice_get m i ≡ Some (k, tallies spec.aggs (of_key spec.by rows k))
+stands spec rows m i k grouped found full = told (list_any (same_key k) (keys_of spec.by rows)) (slice_get m i) (sym (grouped k) ∙ found) full
   where
     told : (b : Bool) (o : Option Pair) → cond b (Some (k, tallies spec.aggs (of_key spec.by rows k))) None ≡ o → IsSome o → o ≡ Some (k, tallies spec.aggs (of_key spec.by rows k))
     told true o e some = sym e
@@ -140,14 +139,14 @@ few_of_key by (row ∷ rows) k = kept (same_key (key_of by row) k) (few_of_key b
     kept false h = omega arith
 
 -- a row whose key is not there
-pub grouped-vacant : {H : Type 0} (spec : Spec) (rows : List (List Value)) (row : List Value) (old new : View (List Value) (List Running) H) → Grouped spec rows old
-    → get (entries class_of old) (class_of (key_of spec.by row)) ≡ None
-    → entries class_of new ≡ insert (entries class_of old) (class_of (key_of spec.by row)) (key_of spec.by row, tallies spec.aggs (row ∷ []))
+pub grouped-vacant : (spec : Spec) (rows : List (List Value)) (row : List Value) (old new : List Pair) → Grouped spec rows old
+    → get (listed old) (class_of (key_of spec.by row)) ≡ None
+    → listed new ≡ insert (listed old) (class_of (key_of spec.by row)) (key_of spec.by row, tallies spec.aggs (row ∷ []))
     → Grouped spec (rows ++ row ∷ []) new
 grouped-vacant spec rows row old new grouped absent put =
     let mine : List Value = key_of spec.by row in
     let none : of_key spec.by rows mine ≡ [] = no_rows_of spec.by rows mine (told (list_any (same_key mine) (keys_of spec.by rows)) (sym (grouped mine) ∙ absent)) in
-    grouped-step spec rows row old new grouped (put ∙ ap (λ l. insert (entries class_of old) (class_of mine) (mine, tallies spec.aggs (l ++ row ∷ []))) (sym none))
+    grouped-step spec rows row old new grouped (put ∙ ap (λ l. insert (listed old) (class_of mine) (mine, tallies spec.aggs (l ++ row ∷ []))) (sym none))
   where
     told : (b : Bool) → cond {A = Option Pair} b (Some (key_of spec.by row, tallies spec.aggs (of_key spec.by rows (key_of spec.by row)))) None ≡ None → b ≡ false
     told true e = absurd (true≢false (ap is_some e))
@@ -162,7 +161,7 @@ no_keys : (by : List ℕ) → (length by == 0) ≡ false → keys_of by [] ≡ [
 no_keys [] h = absurd (true≢false h)
 no_keys (c ∷ cs) h = refl
 
-pub grouped-start : {H : Type 0} (spec : Spec) (m : View (List Value) (List Running) H) → (length spec.by == 0) ≡ false → entries class_of m ≡ nothing → Grouped spec [] m
+pub grouped-start : (spec : Spec) (m : List Pair) → (length spec.by == 0) ≡ false → listed m ≡ nothing → Grouped spec [] m
 grouped-start spec m some none k =
     ap (λ (e : Entries (List Value) (List Running)). get e (class_of k)) none ∙ get-empty _ (class_of k)
     ∙ sym (ap (λ l. cond {A = Option Pair} (list_any (same_key k) l) (Some (k, tallies spec.aggs (of_key spec.by [] k))) None) (no_keys spec.by some))
@@ -183,7 +182,7 @@ alone_at value k false e =
     apart true f = absurd (true≢false (sym (same_key_itself k) ∙ ap (same_key k) (class_tells k [] (same_is (class_of k) (class_of []) f)) ∙ e))
     apart false f = refl
 
-pub grouped-start_alone : {H : Type 0} (spec : Spec) (m : View (List Value) (List Running) H) → (length spec.by == 0) ≡ true → entries class_of m ≡ insert nothing (class_of []) ([], tallies spec.aggs []) → Grouped spec [] m
+pub grouped-start_alone : (spec : Spec) (m : List Pair) → (length spec.by == 0) ≡ true → listed m ≡ insert nothing (class_of []) ([], tallies spec.aggs []) → Grouped spec [] m
 grouped-start_alone spec m none put k =
     let by : spec.by ≡ [] = nil_from_length spec.by (zero_length (length spec.by) none) in
     ap (λ (e : Entries (List Value) (List Running)). get e (class_of k)) put
@@ -199,9 +198,6 @@ put_alone {V} m n k v none is put =
     ∙ ap (λ x. insert empty (class_of []) (x, v)) (ap (λ (o : Option (List Value × V)). option_map_or (λ (p : List Value × V). p.0) o []) (get-empty _ (class_of [])))
 
 -- ---- the entries as a list that names no class twice
-
-abbrev pub listed : {V : Type 0} → List (List Value × V) → Entries (List Value) V
-listed {V} xs = from_entries (map (λ (p : List Value × V). (class_of p.0, p)) xs)
 
 len_listed : {V : Type 0} (xs : List (List Value × V)) → len (listed xs) ≤ length xs
 len_listed [] = rw len-empty (omega arith)
@@ -267,7 +263,7 @@ each_listed Q (x ∷ xs) h known =
 
 -- ---- what the list says of the groups
 
-pub all_tallied : {H : Type 0} (spec : Spec) (rows : List (List Value)) (m : View (List Value) (List Running) H) (xs : List Pair) → Grouped spec rows m → ListsAll class_of xs (entries class_of m) → AreTallied spec rows xs
+pub all_tallied : (spec : Spec) (rows : List (List Value)) (m : List Pair) (xs : List Pair) → Grouped spec rows m → ListsAll class_of xs (listed m) → AreTallied spec rows xs
 all_tallied spec rows m xs grouped all =
     each_listed (λ (p : Pair). p.1 ≡ tallies spec.aggs (of_key spec.by rows p.0)) xs (all.once ∙ ap len (sym all.all))
     (λ k p e. told (list_any (same_key k) (keys_of spec.by rows)) p k (sym (grouped k) ∙ ap (λ (n : Entries (List Value) (List Running)). get n (class_of k)) (sym all.all) ∙ e))
@@ -290,7 +286,7 @@ once ks k most = told (list_any (same_key k) ks) refl
     ]
     told false e = counted_none (same_key k) ks e
 
-pub all_keys : {H : Type 0} (spec : Spec) (rows : List (List Value)) (m : View (List Value) (List Running) H) (xs : List Pair) → Grouped spec rows m → ListsAll class_of xs (entries class_of m) → IsPermutation (keys_of spec.by rows) (map (λ (p : Pair). p.0) xs)
+pub all_keys : (spec : Spec) (rows : List (List Value)) (m : List Pair) (xs : List Pair) → Grouped spec rows m → ListsAll class_of xs (listed m) → IsPermutation (keys_of spec.by rows) (map (λ (p : Pair). p.0) xs)
 all_keys spec rows m xs grouped all =
     IsPermutation-from_counts same_key_equiv same_key_exact (keys_of spec.by rows) (map (λ (p : Pair). p.0) xs) (λ k.
     once (keys_of spec.by rows) k (at_most_once same_key_equiv (keys_of spec.by rows) (different_keys spec.by rows) k)

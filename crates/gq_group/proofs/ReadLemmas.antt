@@ -4,11 +4,11 @@ use Rattle.std.specs.Prelude.{IsTrue}
 use Rattle.std.specs.List.{sum_by}
 use Rattle.std.proofs.lemmas.List.Sums.{sum_by-cons}
 use Rattle.std.proofs.lemmas.Bool.Decides.{nat_tests}
-use Rattle.sw_table.specs.View.{View}
 use Rattle.gq_row.specs.declared.value.Value.{Value}
 use Rattle.gq_agg.specs.Running.{Running}
 use Rattle.gq_spill.specs.Runs.{Runs}
 use Rattle.gq_group.specs.Access.{RunSet, either, Apart, LeavesOthers, HasCause, GroupCause}
+use Rattle.gq_group.specs.Entries.{Pair}
 use Rattle.gq_group.specs.Groups.{Spec}
 use Rattle.gq_group.specs.Levels.{one_if_some, lots}
 use Rattle.gq_group.specs.Readings.{Places, Reads, IsWide, left_lots}
@@ -83,62 +83,61 @@ wide-step : (done : List (List Value)) (row : List Value) (count columns : ℕ) 
 wide-step [] row count columns counted wide = subst (λ n. length row ≡ cond (n == 0) (length row) columns) counted refl
 wide-step (d ∷ done) row count columns counted wide = wide ∙ ap (λ b. cond b (length row) columns) (sym (not_none count (omega (arith, counted))))
 
-module _ {H : Type 0} where
-  -- nothing was read so far
-  pub reads-none : (spec : Spec) (budget : ℕ) (class : List Value → ℕ) (n : ℕ) (honest : Bool) (before : List (List Value) → Type 0) (r : Runs) (m : View (List Value) (List Running) H) (slots : List Slot)
-      → Resident spec budget [] m → length slots ≡ n → AreEmpty slots → Reads spec budget class n honest before before r 0 0 0 0 m slots
-  reads-none spec budget class n honest before r m slots start same empty = record {
-    done = [];
-    counted = refl;
-    rest = λ h rows b. (rows, refl, b);
-    resident = start;
-    held = held-empty r class spec.by 0 n slots same empty;
-    wrote = refl;
-    began_runs = lots-none class spec.by 0 n;
-    wide = tt;
-  }
+-- nothing was read so far
+pub reads-none : (spec : Spec) (budget : ℕ) (class : List Value → ℕ) (n : ℕ) (honest : Bool) (before : List (List Value) → Type 0) (r : Runs) (m : List Pair) (slots : List Slot)
+    → Resident spec budget [] m → length slots ≡ n → AreEmpty slots → Reads spec budget class n honest before before r 0 0 0 0 m slots
+reads-none spec budget class n honest before r m slots start same empty = record {
+  done = [];
+  counted = refl;
+  rest = λ h rows b. (rows, refl, b);
+  resident = start;
+  held = held-empty r class spec.by 0 n slots same empty;
+  wrote = refl;
+  began_runs = lots-none class spec.by 0 n;
+  wide = tt;
+}
 
-  -- one row more was read and placed
-  pub reads-step : (spec : Spec) (budget : ℕ) (class : List Value → ℕ) (n : ℕ) (honest : Bool) (before now after : List (List Value) → Type 0) (r s t : Runs) (count written began columns w b : ℕ)
-      (m m' : View (List Value) (List Running) H) (slots slots' : List Slot) (row : List Value)
-      → Reads spec budget class n honest before now r count written began columns m slots
-      → (IsTrue honest → (rows : List (List Value)) → now rows → (rest : List (List Value)) × (rows ≡ row ∷ rest) × after rest)
-      → ((parts : List (List (List Value))) → AllHeld r slots parts → AllHeld s slots parts)
-      → Places spec budget class n row s t m m' slots slots' w b
-      → (wide : ℕ) → wide ≡ cond (count == 0) (length row) columns
-      → Reads spec budget class n honest before after t (count + 1) (written + w) (began + b) wide m' slots'
-  reads-step spec budget class n honest before now after r s t count written began columns w b m m' slots slots' row read next stays place wide is_wide =
-      let held : AllHeld s slots (left_lots spec class n read.done m) = stays (left_lots spec class n read.done m) read.held in
-      record {
-        done = read.done ++ row ∷ [];
-        counted = omega (arith, length-append read.done (row ∷ []), read.counted);
-        rest = λ h rows bef.
-            let left = read.rest h rows bef in
-            let more = next h left.0 left.2 in
-            (more.0, left.1 ∙ ap (λ l. read.done ++ l) more.1 ∙ sym (append_assoc read.done (row ∷ []) more.0), more.2);
-        resident = place.resident read.done read.resident;
-        held = place.held read.done read.resident held;
-        wrote = omega (arith, place.left read.done read.resident, read.wrote);
-        began_runs = omega (arith, place.runs read.done read.resident held, read.began_runs);
-        wide = subst (λ n. IsWide n (read.done ++ row ∷ [])) (sym is_wide) (wide-step read.done row count columns read.counted read.wide);
-      }
+-- one row more was read and placed
+pub reads-step : (spec : Spec) (budget : ℕ) (class : List Value → ℕ) (n : ℕ) (honest : Bool) (before now after : List (List Value) → Type 0) (r s t : Runs) (count written began columns w b : ℕ)
+    (m m' : List Pair) (slots slots' : List Slot) (row : List Value)
+    → Reads spec budget class n honest before now r count written began columns m slots
+    → (IsTrue honest → (rows : List (List Value)) → now rows → (rest : List (List Value)) × (rows ≡ row ∷ rest) × after rest)
+    → ((parts : List (List (List Value))) → AllHeld r slots parts → AllHeld s slots parts)
+    → Places spec budget class n row s t m m' slots slots' w b
+    → (wide : ℕ) → wide ≡ cond (count == 0) (length row) columns
+    → Reads spec budget class n honest before after t (count + 1) (written + w) (began + b) wide m' slots'
+reads-step spec budget class n honest before now after r s t count written began columns w b m m' slots slots' row read next stays place wide is_wide =
+    let held : AllHeld s slots (left_lots spec class n read.done m) = stays (left_lots spec class n read.done m) read.held in
+    record {
+      done = read.done ++ row ∷ [];
+      counted = omega (arith, length-append read.done (row ∷ []), read.counted);
+      rest = λ h rows bef.
+          let left = read.rest h rows bef in
+          let more = next h left.0 left.2 in
+          (more.0, left.1 ∙ ap (λ l. read.done ++ l) more.1 ∙ sym (append_assoc read.done (row ∷ []) more.0), more.2);
+      resident = place.resident read.done read.resident;
+      held = place.held read.done read.resident held;
+      wrote = omega (arith, place.left read.done read.resident, read.wrote);
+      began_runs = omega (arith, place.runs read.done read.resident held, read.began_runs);
+      wide = subst (λ n. IsWide n (read.done ++ row ∷ [])) (sym is_wide) (wide-step read.done row count columns read.counted read.wide);
+    }
 
-  -- all were read
-  pub reads-end : (spec : Spec) (budget : ℕ) (class : List Value → ℕ) (n : ℕ) (honest : Bool) (before now : List (List Value) → Type 0) (r s : Runs) (count written began columns : ℕ) (m : View (List Value) (List Running) H) (slots : List Slot)
-      → Reads spec budget class n honest before now r count written began columns m slots
-      → (IsTrue honest → (rows : List (List Value)) → now rows → rows ≡ [])
-      → ((parts : List (List (List Value))) → AllHeld r slots parts → AllHeld s slots parts)
-      → Reads spec budget class n honest before (λ left. left ≡ []) s count written began columns m slots
-  reads-end spec budget class n honest before now r s count written began columns m slots read over stays = record {
-    done = read.done;
-    counted = read.counted;
-    rest = λ h rows bef. let left = read.rest h rows bef in (left.0, left.1, over h left.0 left.2);
-    resident = read.resident;
-    held = stays (left_lots spec class n read.done m) read.held;
-    wrote = read.wrote;
-    began_runs = read.began_runs;
-    wide = read.wide;
-  }
+-- all were read
+pub reads-end : (spec : Spec) (budget : ℕ) (class : List Value → ℕ) (n : ℕ) (honest : Bool) (before now : List (List Value) → Type 0) (r s : Runs) (count written began columns : ℕ) (m : List Pair) (slots : List Slot)
+    → Reads spec budget class n honest before now r count written began columns m slots
+    → (IsTrue honest → (rows : List (List Value)) → now rows → rows ≡ [])
+    → ((parts : List (List (List Value))) → AllHeld r slots parts → AllHeld s slots parts)
+    → Reads spec budget class n honest before (λ left. left ≡ []) s count written began columns m slots
+reads-end spec budget class n honest before now r s count written began columns m slots read over stays = record {
+  done = read.done;
+  counted = read.counted;
+  rest = λ h rows bef. let left = read.rest h rows bef in (left.0, left.1, over h left.0 left.2);
+  resident = read.resident;
+  held = stays (left_lots spec class n read.done m) read.held;
+  wrote = read.wrote;
+  began_runs = read.began_runs;
+  wide = read.wide;
+}
 
 pub leaves-empty : (slots : List Slot) (a k : RunSet) (r : Runs) → AreEmpty slots → LeavesOthers (either a k) (either (either a (among slots)) k) r r
 leaves-empty slots a k r h = leaves-left a (either a (among slots)) k r r (others-empty slots a r h)

@@ -1,12 +1,12 @@
 -- A table of at most a budget of groups, with one row more.
 use Rattle.std.proofs.Common.{◌≡◌, ℕ, zero, suc, ◌+◌, ◌≤◌, ◌<◌, Bool, true, false, not, cond, ◌||◌, List, [], ◌∷◌, ◌++◌, length, Option, Some, None, refl, sym, ap, subst, ◌∙◌, arith, append-nil, true≢false, Result, Ok, Err}
-use Rattle.std.specs.Prelude.{is_some, filter, OnOk, OnErr}
+use Rattle.std.specs.Prelude.{is_some, IsSome, filter, OnOk, OnErr}
+use Rattle.std.specs.List.{slice_get}
 use Rattle.std.specs.Cmp.Lexicographic.{nat_list_cmp_total}
 use Rattle.std.specs.FinMap.{insert, get, len, get-empty, get-insert, len-insert, len-empty}
 use Rattle.std.proofs.lemmas.List.{nil_from_length}
 use Rattle.std.proofs.lemmas.List.Elements.{filter-append}
-use Rattle.sw_table.specs.View.{View, entry_at, IsFull}
-use Rattle.sw_table.specs.Entries.{Entries, entries}
+use Rattle.sw_table.specs.Entries.{Entries}
 use Rattle.gq_row.specs.declared.value.Value.{Value}
 use Rattle.gq_row.specs.Classes.{class_of}
 use Rattle.gq_row.specs.Order.{same_key}
@@ -14,7 +14,7 @@ use Rattle.gq_row.specs.Rows.{key_of}
 use Rattle.gq_row.specs.Tables.{of_key}
 use Rattle.gq_row.proofs.OrderLemmas.{same_key_exact, same_key_itself}
 use Rattle.gq_agg.specs.Running.{Running}
-use Rattle.gq_group.specs.Entries.{Pair, Grouped, tallies}
+use Rattle.gq_group.specs.Entries.{Pair, Grouped, listed, tallies}
 use Rattle.gq_group.specs.Groups.{Spec}
 use Rattle.gq_group.specs.Residents.{has_entry, taken, left_over, Resident, Offers}
 use Rattle.gq_group.specs.declared.resident_table.Offered.TheVariants.{Taken, Left}
@@ -53,10 +53,10 @@ fewer_pass p (x ∷ xs) = step (p x) (fewer_pass p xs)
 
 -- ---- one row more
 
-pub taken-push : {H : Type 0} (spec : Spec) (m : View (List Value) (List Running) H) (rows : List (List Value)) (row : List Value) → taken spec m (rows ++ row ∷ []) ≡ taken spec m rows ++ cond (has_entry m (key_of spec.by row)) (row ∷ []) []
+pub taken-push : (spec : Spec) (m : List Pair) (rows : List (List Value)) (row : List Value) → taken spec m (rows ++ row ∷ []) ≡ taken spec m rows ++ cond (has_entry m (key_of spec.by row)) (row ∷ []) []
 taken-push spec m rows row = filter-append (λ r. has_entry m (key_of spec.by r)) rows (row ∷ [])
 
-pub left-push : {H : Type 0} (spec : Spec) (m : View (List Value) (List Running) H) (rows : List (List Value)) (row : List Value) → left_over spec m (rows ++ row ∷ []) ≡ left_over spec m rows ++ cond (not (has_entry m (key_of spec.by row))) (row ∷ []) []
+pub left-push : (spec : Spec) (m : List Pair) (rows : List (List Value)) (row : List Value) → left_over spec m (rows ++ row ∷ []) ≡ left_over spec m rows ++ cond (not (has_entry m (key_of spec.by row))) (row ∷ []) []
 left-push spec m rows row = filter-append (λ r. not (has_entry m (key_of spec.by r))) rows (row ∷ [])
 
 -- ---- one entry more, or another value in one
@@ -65,52 +65,52 @@ or_true : (a b : Bool) → b ≡ true → (a || b) ≡ true
 or_true true b h = refl
 or_true false b h = h
 
-has-insert : {H : Type 0} (old new : View (List Value) (List Running) H) (key k : List Value) (p : Pair) → entries class_of new ≡ insert (entries class_of old) (class_of key) p → has_entry new k ≡ (same_key k key || has_entry old k)
+has-insert : (old new : List Pair) (key k : List Value) (p : Pair) → listed new ≡ insert (listed old) (class_of key) p → has_entry new k ≡ (same_key k key || has_entry old k)
 has-insert old new key k p put =
     ap (λ (m : Entries (List Value) (List Running)). is_some (get m (class_of k))) put
-    ∙ ap is_some (get-insert nat_list_cmp_total (entries class_of old) (class_of key) p (class_of k))
-    ∙ ap (λ b. is_some (cond b (Some p) (get (entries class_of old) (class_of k)))) (classes_same k key)
+    ∙ ap is_some (get-insert nat_list_cmp_total (listed old) (class_of key) p (class_of k))
+    ∙ ap (λ b. is_some (cond b (Some p) (get (listed old) (class_of k)))) (classes_same k key)
     ∙ told (same_key k key)
   where
-    told : (b : Bool) → is_some (cond b (Some p) (get (entries class_of old) (class_of k))) ≡ (b || has_entry old k)
+    told : (b : Bool) → is_some (cond b (Some p) (get (listed old) (class_of k))) ≡ (b || has_entry old k)
     told true = refl
     told false = refl
 
 -- a new value is no new key
-has-same : {H : Type 0} (old new : View (List Value) (List Running) H) (key : List Value) (p : Pair) → has_entry old key ≡ true → entries class_of new ≡ insert (entries class_of old) (class_of key) p → (k : List Value) → has_entry new k ≡ has_entry old k
+has-same : (old new : List Pair) (key : List Value) (p : Pair) → has_entry old key ≡ true → listed new ≡ insert (listed old) (class_of key) p → (k : List Value) → has_entry new k ≡ has_entry old k
 has-same old new key p there put k = has-insert old new key k p put ∙ told (same_key k key) refl
   where
     told : (b : Bool) → same_key k key ≡ b → (b || has_entry old k) ≡ has_entry old k
     told true e = sym (ap (λ x. has_entry old x) (same_key_exact k key e) ∙ there)
     told false e = refl
 
-pub absent : {H : Type 0} (m : View (List Value) (List Running) H) (key : List Value) → get (entries class_of m) (class_of key) ≡ None → has_entry m key ≡ false
+pub absent : (m : List Pair) (key : List Value) → get (listed m) (class_of key) ≡ None → has_entry m key ≡ false
 absent m key none = ap is_some none
 
-pub len-same : {H : Type 0} (old new : View (List Value) (List Running) H) (key : List Value) (p : Pair) → has_entry old key ≡ true → entries class_of new ≡ insert (entries class_of old) (class_of key) p → len (entries class_of new) ≡ len (entries class_of old)
+pub len-same : (old new : List Pair) (key : List Value) (p : Pair) → has_entry old key ≡ true → listed new ≡ insert (listed old) (class_of key) p → len (listed new) ≡ len (listed old)
 len-same old new key p there put =
     ap (λ (m : Entries (List Value) (List Running)). len m) put
-    ∙ len-insert nat_list_cmp_total (entries class_of old) (class_of key) p
-    ∙ ap (λ b. cond b (len (entries class_of old)) (len (entries class_of old) + 1)) there
+    ∙ len-insert nat_list_cmp_total (listed old) (class_of key) p
+    ∙ ap (λ b. cond b (len (listed old)) (len (listed old) + 1)) there
 
-pub len-more : {H : Type 0} (old new : View (List Value) (List Running) H) (key : List Value) (p : Pair) → has_entry old key ≡ false → entries class_of new ≡ insert (entries class_of old) (class_of key) p → len (entries class_of new) ≡ len (entries class_of old) + 1
+pub len-more : (old new : List Pair) (key : List Value) (p : Pair) → has_entry old key ≡ false → listed new ≡ insert (listed old) (class_of key) p → len (listed new) ≡ len (listed old) + 1
 len-more old new key p new_key put =
     ap (λ (m : Entries (List Value) (List Running)). len m) put
-    ∙ len-insert nat_list_cmp_total (entries class_of old) (class_of key) p
-    ∙ ap (λ b. cond b (len (entries class_of old)) (len (entries class_of old) + 1)) new_key
+    ∙ len-insert nat_list_cmp_total (listed old) (class_of key) p
+    ∙ ap (λ b. cond b (len (listed old)) (len (listed old) + 1)) new_key
 
 -- one entry more, or none where memory was wanting
-pub within-added : {H T E : Type 0} (result : Result T E) (old new : View (List Value) (List Running) H) (key : List Value) (p : Pair) (budget : ℕ)
-    → OnOk result (entries class_of new ≡ insert (entries class_of old) (class_of key) p) → OnErr result (new ≡ old)
-    → has_entry old key ≡ false → len (entries class_of old) < budget → len (entries class_of new) ≤ budget
+pub within-added : {T E : Type 0} (result : Result T E) (old new : List Pair) (key : List Value) (p : Pair) (budget : ℕ)
+    → OnOk result (listed new ≡ insert (listed old) (class_of key) p) → OnErr result (new ≡ old)
+    → has_entry old key ≡ false → len (listed old) < budget → len (listed new) ≤ budget
 within-added (Ok x) old new key p budget put same new_key space = let more = len-more old new key p new_key put in omega (arith, more, space)
-within-added (Err e) old new key p budget put same new_key space = let is = ap (λ (m : View (List Value) (List Running) _). len (entries class_of m)) same in omega (arith, is, space)
+within-added (Err e) old new key p budget put same new_key space = let is = ap (λ (m : List Pair). len (listed m)) same in omega (arith, is, space)
 
 -- ---- what an offer makes of the table
 
 -- the row's key has a group
-pub offers-occupied : {H : Type 0} (spec : Spec) (budget : ℕ) (rows : List (List Value)) (row : List Value) (old new : View (List Value) (List Running) H) (p : Pair) → Resident spec budget rows old
-    → has_entry old (key_of spec.by row) ≡ true → entries class_of new ≡ insert (entries class_of old) (class_of (key_of spec.by row)) p
+pub offers-occupied : (spec : Spec) (budget : ℕ) (rows : List (List Value)) (row : List Value) (old new : List Pair) (p : Pair) → Resident spec budget rows old
+    → has_entry old (key_of spec.by row) ≡ true → listed new ≡ insert (listed old) (class_of (key_of spec.by row)) p
     → Grouped spec (taken spec old rows ++ row ∷ []) new → Offers spec budget rows row old new Taken
 offers-occupied spec budget rows row old new p resident there put grouped =
     let key : List Value = key_of spec.by row in
@@ -132,8 +132,8 @@ offers-occupied spec budget rows row old new p resident there put grouped =
     }
 
 -- it has none, and there is space: then no row was left before
-pub offers-vacant : {H : Type 0} (spec : Spec) (budget : ℕ) (rows : List (List Value)) (row : List Value) (old new : View (List Value) (List Running) H) (p : Pair) → Resident spec budget rows old
-    → has_entry old (key_of spec.by row) ≡ false → len (entries class_of old) < budget → entries class_of new ≡ insert (entries class_of old) (class_of (key_of spec.by row)) p
+pub offers-vacant : (spec : Spec) (budget : ℕ) (rows : List (List Value)) (row : List Value) (old new : List Pair) (p : Pair) → Resident spec budget rows old
+    → has_entry old (key_of spec.by row) ≡ false → len (listed old) < budget → listed new ≡ insert (listed old) (class_of (key_of spec.by row)) p
     → Grouped spec (taken spec old rows ++ row ∷ []) new → Offers spec budget rows row old new Taken
 offers-vacant spec budget rows row old new p resident new_key space put grouped =
     let key : List Value = key_of spec.by row in
@@ -156,13 +156,13 @@ offers-vacant spec budget rows row old new p resident new_key space put grouped 
       left = left ∙ sym (append-nil (left_over spec old rows) ∙ none);
     }
   where
-    nothing_left : (n : ℕ) → (0 < n → len (entries class_of old) ≡ budget) → n ≡ 0
+    nothing_left : (n : ℕ) → (0 < n → len (listed old) ≡ budget) → n ≡ 0
     nothing_left zero full = refl
-    nothing_left (suc n) full = let is : len (entries class_of old) ≡ budget = full (omega arith) in absurd (omega (arith, is, space))
+    nothing_left (suc n) full = let is : len (listed old) ≡ budget = full (omega arith) in absurd (omega (arith, is, space))
 
 -- it has none, and there is no space
-pub offers-left : {H : Type 0} (spec : Spec) (budget : ℕ) (rows : List (List Value)) (row : List Value) (m : View (List Value) (List Running) H) (hash : ℕ) → Resident spec budget rows m
-    → has_entry m (key_of spec.by row) ≡ false → budget ≤ len (entries class_of m) → Offers spec budget rows row m m (Left hash)
+pub offers-left : (spec : Spec) (budget : ℕ) (rows : List (List Value)) (row : List Value) (m : List Pair) (hash : ℕ) → Resident spec budget rows m
+    → has_entry m (key_of spec.by row) ≡ false → budget ≤ len (listed m) → Offers spec budget rows row m m (Left hash)
 offers-left spec budget rows row m hash resident new_key full =
     let its : taken spec m (rows ++ row ∷ []) ≡ taken spec m rows = taken-push spec m rows row ∙ ap (λ b. taken spec m rows ++ cond b (row ∷ []) []) new_key ∙ append-nil (taken spec m rows) in
     record {
@@ -176,13 +176,13 @@ offers-left spec budget rows row m hash resident new_key full =
 
 -- ---- the entry in which a row's key stands
 
-pub record Found {H : Type 0} (spec : Spec) (budget : ℕ) (rows : List (List Value)) (m : View (List Value) (List Running) H) (i : ℕ) (key : List Value) : Type 0 where
+pub record Found (spec : Spec) (budget : ℕ) (rows : List (List Value)) (m : List Pair) (i : ℕ) (key : List Value) : Type 0 where
   pub few : length (of_key spec.by (taken spec m rows) key) ≤ length rows
-  pub entry : entry_at m i ≡ Some (key, tallies spec.aggs (of_key spec.by (taken spec m rows) key))
+  pub entry : slice_get m i ≡ Some (key, tallies spec.aggs (of_key spec.by (taken spec m rows) key))
   pub there : has_entry m key ≡ true
 
-pub found : {H : Type 0} (spec : Spec) (budget : ℕ) (rows : List (List Value)) (m : View (List Value) (List Running) H) (i : ℕ) (key : List Value) → Resident spec budget rows m
-    → get (entries class_of m) (class_of key) ≡ entry_at m i → IsFull m i → Found spec budget rows m i key
+pub found : (spec : Spec) (budget : ℕ) (rows : List (List Value)) (m : List Pair) (i : ℕ) (key : List Value) → Resident spec budget rows m
+    → get (listed m) (class_of key) ≡ slice_get m i → IsSome (slice_get m i) → Found spec budget rows m i key
 found spec budget rows m i key resident at full =
     let entry = stands spec (taken spec m rows) m i key resident.grouped at full in
     let few = few_of_key spec.by (taken spec m rows) key in
@@ -195,7 +195,7 @@ found spec budget rows m i key resident at full =
 
 -- ---- the start
 
-pub resident-start : {H : Type 0} (spec : Spec) (budget : ℕ) (m : View (List Value) (List Running) H) → Grouped spec [] m → len (entries class_of m) ≤ 1 → 1 ≤ budget → Resident spec budget [] m
+pub resident-start : (spec : Spec) (budget : ℕ) (m : List Pair) → Grouped spec [] m → len (listed m) ≤ 1 → 1 ≤ budget → Resident spec budget [] m
 resident-start spec budget m grouped few some = record {
   grouped = grouped;
   within = omega (arith, few, some);

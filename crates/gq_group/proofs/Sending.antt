@@ -4,15 +4,13 @@ use Rattle.std.specs.Prelude.{IsTrue, Some}
 use Rattle.std.specs.List.{list_any}
 use Rattle.std.proofs.lemmas.List.{length-map, map-append}
 use Rattle.std.proofs.lemmas.List.Sorted.{IsPermutation-map, list_any-IsPermutation, length_permutation}
-use Rattle.sw_table.specs.View.{View}
-use Rattle.sw_table.specs.Entries.{entries}
 use Rattle.sw_flat.specs.Maps.{ListsAll}
 use Rattle.gq_row.specs.declared.value.Value.{Value}
 use Rattle.gq_row.specs.Classes.{class_of}
 use Rattle.gq_row.specs.Tables.{of_key}
 use Rattle.gq_agg.specs.declared.kind.AggKind.{AggKind}
 use Rattle.gq_agg.specs.Running.{Running}
-use Rattle.gq_group.specs.Entries.{Pair, tallies, Grouped, AreTallied, Sent}
+use Rattle.gq_group.specs.Entries.{listed, Pair, tallies, Grouped, AreTallied, Sent}
 use Rattle.gq_group.specs.Groups.{Spec, Group, keys_of, group_of, answers, answered, groups, is_none, out_of_range}
 use Rattle.gq_group.proofs.MapGroups.{all_tallied, all_keys}
 
@@ -59,11 +57,11 @@ sent-step honest before now after all old new p values sent popped answer push =
 -- ---- what was sent of all groups
 
 -- the groups by their entries
-by_entries : {H : Type 0} (spec : Spec) (rows : List (List Value)) (m : View (List Value) (List Running) H) (xs : List Pair) → Grouped spec rows m → ListsAll class_of xs (entries class_of m) → IsPermutation (groups spec rows) (map (group_of spec rows) (keys_in xs))
+by_entries : (spec : Spec) (rows : List (List Value)) (m : List Pair) (xs : List Pair) → Grouped spec rows m → ListsAll class_of xs (listed m) → IsPermutation (groups spec rows) (map (group_of spec rows) (keys_in xs))
 by_entries spec rows m xs grouped all = IsPermutation-map (group_of spec rows) (keys_of spec.by rows) (keys_in xs) (all_keys spec rows m xs grouped all)
 
-pub sent-groups : {H : Type 0} (honest : Bool) (before now : List Group → Type 0) (all : List Pair) (m : View (List Value) (List Running) H) (spec : Spec) (rows : List (List Value))
-    → Sent honest before now all [] → ListsAll class_of all (entries class_of m) → Grouped spec rows m → (out : List Group) × IsPermutation (groups spec rows) (map answered out) × (IsTrue honest → (groups : List Group) → before groups → now (groups ++ out))
+pub sent-groups : (honest : Bool) (before now : List Group → Type 0) (all : List Pair) (m : List Pair) (spec : Spec) (rows : List (List Value))
+    → Sent honest before now all [] → ListsAll class_of all (listed m) → Grouped spec rows m → (out : List Group) × IsPermutation (groups spec rows) (map answered out) × (IsTrue honest → (groups : List Group) → before groups → now (groups ++ out))
 sent-groups honest before now all m spec rows sent lists grouped =
     let whole : all ≡ sent.gone = sent.whole ∙ append-nil sent.gone in
     let finished : map (group_of spec rows) (keys_in all) ≡ map answered sent.out
@@ -78,18 +76,18 @@ none_out (g ∷ out) = ap (λ b. b || list_any (λ x. list_any is_none x.1) (map
     none_in [] = refl
     none_in (v ∷ values) = none_in values
 
-pub sent-fine : {H : Type 0} (honest : Bool) (before now : List Group → Type 0) (all : List Pair) (m : View (List Value) (List Running) H) (spec : Spec) (rows : List (List Value))
-    → Sent honest before now all [] → ListsAll class_of all (entries class_of m) → Grouped spec rows m → out_of_range spec rows ≡ false
+pub sent-fine : (honest : Bool) (before now : List Group → Type 0) (all : List Pair) (m : List Pair) (spec : Spec) (rows : List (List Value))
+    → Sent honest before now all [] → ListsAll class_of all (listed m) → Grouped spec rows m → out_of_range spec rows ≡ false
 sent-fine honest before now all m spec rows sent lists grouped =
     let all_sent = sent-groups honest before now all m spec rows sent lists grouped in
     list_any-IsPermutation (λ g. list_any is_none g.1) (groups spec rows) (map answered all_sent.0) all_sent.1 ∙ none_out all_sent.0
 
-pub count_groups : {H : Type 0} (all : List Pair) (m : View (List Value) (List Running) H) (spec : Spec) (rows : List (List Value)) → ListsAll class_of all (entries class_of m) → Grouped spec rows m → length all ≡ length (keys_of spec.by rows)
+pub count_groups : (all : List Pair) (m : List Pair) (spec : Spec) (rows : List (List Value)) → ListsAll class_of all (listed m) → Grouped spec rows m → length all ≡ length (keys_of spec.by rows)
 count_groups all m spec rows lists grouped = sym (length-map all (λ (p : Pair). p.0)) ∙ length_permutation (keys_of spec.by rows) (keys_in all) (all_keys spec rows m all grouped lists)
 
 -- a sum that is refused is one of the groups'
-pub refused_one : {H : Type 0} (honest : Bool) (before now : List Group → Type 0) (all left rest : List Pair) (p : Pair) (m : View (List Value) (List Running) H) (spec : Spec) (rows : List (List Value))
-    → Sent honest before now all left → left ≡ p ∷ rest → ListsAll class_of all (entries class_of m) → Grouped spec rows m
+pub refused_one : (honest : Bool) (before now : List Group → Type 0) (all left rest : List Pair) (p : Pair) (m : List Pair) (spec : Spec) (rows : List (List Value))
+    → Sent honest before now all left → left ≡ p ∷ rest → ListsAll class_of all (listed m) → Grouped spec rows m
     → ((asked : List (AggKind × ℕ)) (its : List (List Value)) → p.1 ≡ tallies asked its → list_any is_none (answers asked its) ≡ true)
     → out_of_range spec rows ≡ true
 refused_one honest before now all left rest p m spec rows sent popped lists grouped none =

@@ -1,9 +1,8 @@
--- Groups in a map: each key with the running aggregates of its rows.
+-- Groups: each key with the running aggregates of its rows.
 use Rattle.std.specs.Prelude.{◌≡◌, ◌++◌, ℕ, Bool, IsTrue, List, map, if◌then◌else◌, Option, Some, None}
-use Rattle.std.specs.FinMap.{get}
+use Rattle.std.specs.FinMap.{get, from_entries}
 use Rattle.std.specs.List.{AllByRecursion, list_any}
-use Rattle.sw_table.specs.View.{View}
-use Rattle.sw_table.specs.Entries.{entries}
+use Rattle.sw_table.specs.Entries.{Entries}
 use Rattle.gq_row.specs.declared.value.Value.{Value}
 use Rattle.gq_row.specs.Classes.{class_of}
 use Rattle.gq_row.specs.Order.{same_key}
@@ -16,6 +15,10 @@ use Rattle.gq_group.specs.Groups.{Spec, Group, keys_of, column_of, group_of, ans
 abbrev pub Pair : Type 0
 Pair = List Value × List Running
 
+-- a list of keys and what each has, as a finite map by the classes of the keys
+abbrev pub listed : {V : Type 0} → List (List Value × V) → Entries (List Value) V
+listed {V} xs = from_entries (map (λ (p : List Value × V). (class_of p.0, p)) xs)
+
 -- the running aggregates of some rows
 abbrev pub tallies : List (AggKind × ℕ) → List (List Value) → List Running
 tallies aggs rows = map (λ a. tally a.0 (column_of a.1 rows)) aggs
@@ -24,9 +27,9 @@ tallies aggs rows = map (λ a. tally a.0 (column_of a.1 rows)) aggs
 abbrev pub group_at : Spec → List (List Value) → List Value → Option Pair
 group_at spec rows key = if list_any (same_key key) (keys_of spec.by rows) then Some (key, tallies spec.aggs (of_key spec.by rows key)) else None
 
--- the map has the groups of the rows, and nothing else
-abbrev pub Grouped : {H : Type 0} → Spec → List (List Value) → View (List Value) (List Running) H → Type 0
-Grouped spec rows m = (key : List Value) → get (entries class_of m) (class_of key) ≡ group_at spec rows key
+-- the list has the groups of the rows, and nothing else
+abbrev pub Grouped : Spec → List (List Value) → List Pair → Type 0
+Grouped spec rows m = (key : List Value) → get (listed m) (class_of key) ≡ group_at spec rows key
 
 -- each entry has the running aggregates of the rows of its key
 abbrev pub AreTallied : Spec → List (List Value) → List Pair → Type 0

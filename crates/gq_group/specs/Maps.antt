@@ -1,19 +1,22 @@
--- Groups in a map: keys beside the places of their running aggregates, which stand in one list.
-use Rattle.std.specs.Prelude.{◌≡◌, ◌+◌, ◌≤◌, ◌⊎◌, ℕ, true, List, [], ◌∷◌, take, drop, map, Some}
-use Rattle.std.specs.Option.{option_map}
+-- Groups in the order in which their keys came: the keys in one list, and their running aggregates in another.
+use Rattle.std.specs.Prelude.{◌≡◌, ◌+◌, ◌*◌, ◌≤◌, ◌⊎◌, ℕ, true, List, [], ◌∷◌, length, take, drop, map, Some, None, IsSome}
 use Rattle.std.specs.FinMap.{get}
-use Rattle.std.specs.List.{AllByRecursion, list_any}
-use Rattle.sw_table.specs.View.{View, table_view}
-use Rattle.sw_table.specs.Entries.{Entries}
+use Rattle.std.specs.List.{AllByRecursion, list_any, slice_get}
+use Rattle.sw_index.specs.Index.{AreDifferent}
+use Rattle.sw_index.specs.declared.found.Absence.{Absence}
+use Rattle.sw_index.specs.declared.found.Found.{Found}
+use Rattle.sw_index.specs.declared.found.Found.TheVariants.{At, Absent}
 use Rattle.gq_row.specs.declared.value.Value.{Value}
+use Rattle.gq_row.specs.Classes.{class_of}
 use Rattle.gq_agg.specs.declared.kind.AggKind.{AggKind}
 use Rattle.gq_agg.specs.Running.{Running}
-use Rattle.gq_group.specs.Entries.{Pair, tallies}
+use Rattle.gq_group.specs.Entries.{Pair, tallies, listed}
 use Rattle.gq_group.specs.Groups.{answers, is_none}
 
--- what contracts see: the key and the running aggregates in each slot, and how many of these a group has
+-- what contracts see: each key with its running aggregates, the hasher, and how many aggregates a group has
 pub record MapView (H : Type 0) : Type 0 where
-  pub map : View (List Value) (List Running) H
+  pub pairs : List Pair
+  pub hasher : H
   pub each : ℕ
 
 -- a key, and where its running aggregates begin
@@ -28,23 +31,43 @@ chunk each xs start = take each (drop start xs)
 abbrev pub pair_at : ℕ → List Running → Start → Pair
 pair_at each running s = (s.0, chunk each running s.1)
 
--- each slot's key with its running aggregates
-abbrev pub pairs_at : {H : Type 0} → ℕ → List Running → View (List Value) ℕ H → View (List Value) (List Running) H
-pairs_at each running starts = table_view (map (option_map (pair_at each running)) starts.places) starts.bytes starts.hasher
+-- where the running aggregates of each key begin, the first at a place
+abbrev pub starts_from : ℕ → ℕ → List (List Value) → List Start
+starts_from each at [] = []
+starts_from each at (key ∷ keys) = (key, at) ∷ starts_from each (at + each) keys
+
+-- each key with its running aggregates, which stand in the same order
+abbrev pub pairs_from : ℕ → ℕ → List Running → List (List Value) → List Pair
+pairs_from each at running keys = map (pair_at each running) (starts_from each at keys)
+
+-- no two keys are the same, and each has its running aggregates
+pub record AreKept (each : ℕ) (running : List Running) (keys : List (List Value)) : Type 0 where
+  pub different : AreDifferent class_of keys
+  pub whole : length running ≡ length keys * each
 
 -- two groups have no place of the list together
 abbrev pub NoneShared : ℕ → ℕ → ℕ → Type 0
 NoneShared each a b = (a + each ≤ b) ⊎ (b + each ≤ a)
 
--- The running aggregates of each key stand in the list, and no two keys have a place together.
-pub record Laid (each count : ℕ) (starts : Entries (List Value) ℕ) : Type 0 where
-  pub within : (c : List ℕ) (s : Start) → get starts c ≡ Some s → s.1 + each ≤ count
-  pub apart : (c d : List ℕ) (s t : Start) → get starts c ≡ Some s → get starts d ≡ Some t → (c ≡ d → ⊥) → NoneShared each s.1 t.1
-
--- the same of keys in a list
+-- no two of some groups have one, and all stand in the list
 abbrev pub AreLaid : ℕ → ℕ → List Start → Type 0
 AreLaid each count [] = Unit {0}
 AreLaid each count (s ∷ starts) = (s.1 + each ≤ count) × AllByRecursion (λ (t : Start). NoneShared each s.1 t.1) starts × AreLaid each count starts
+
+-- a number that was found is that of the group of a class
+abbrev pub IsGroup : List Pair → List ℕ → Found → Type 0
+IsGroup pairs c (At number) = IsSome (slice_get pairs number) × (get (listed pairs) c ≡ slice_get pairs number)
+IsGroup pairs c (Absent absence) = Unit {0}
+
+-- no group is of the class, and the hash is its own
+pub record HasNoGroup (hash : List ℕ → ℕ) (pairs : List Pair) (c : List ℕ) (absence : Absence) : Type 0 where
+  pub absent : get (listed pairs) c ≡ None
+  pub hashed : absence.hash ≡ hash c
+
+-- what is said of a class that was not found
+abbrev pub IsNoGroup : (List ℕ → ℕ) → List Pair → List ℕ → Found → Type 0
+IsNoGroup hash pairs c (At number) = Unit {0}
+IsNoGroup hash pairs c (Absent absence) = HasNoGroup hash pairs c absence
 
 -- the first of the groups that were left was taken: its key, and the values of its aggregates
 pub record Takes (key values : List Value) (old new : List Pair) : Type 0 where

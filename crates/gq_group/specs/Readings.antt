@@ -1,10 +1,9 @@
 -- What one reading of rows has done: the groups of some keys were pushed, and the rows of other keys stand in runs.
 use Rattle.std.specs.Prelude.{◌≡◌, ◌+◌, ◌<◌, ◌≤◌, ◌++◌, ℕ, Bool, IsTrue, All, List, [], ◌∷◌, length, map, IsPermutation}
 use Rattle.std.specs.List.{flat_map, sum_by, AllByRecursion}
-use Rattle.sw_table.specs.View.{View}
 use Rattle.gq_row.specs.declared.value.Value.{Value}
-use Rattle.gq_agg.specs.Running.{Running}
 use Rattle.gq_spill.specs.Runs.{Runs}
+use Rattle.gq_group.specs.Entries.{Pair}
 use Rattle.gq_group.specs.Groups.{Spec, Group, groups, answered, all_fit, OneWidth}
 use Rattle.gq_group.specs.Levels.{row_groups, lots, one_if_some}
 use Rattle.gq_group.specs.Residents.{Resident, left_over}
@@ -53,28 +52,27 @@ pub record Numbers (budget bound : ℕ) (slots : List Slot) (level : Level) : Ty
   pub runs : level.runs ≤ level.rows_written
   pub filled : Filled slots
 
-module _ {H : Type 0} where
-  -- the rows that are left, class by class
-  abbrev pub left_lots : Spec → (List Value → ℕ) → ℕ → List (List Value) → View (List Value) (List Running) H → List (List (List Value))
-  left_lots spec class n done m = lots class spec.by 0 n (left_over spec m done)
+-- the rows that are left, class by class
+abbrev pub left_lots : Spec → (List Value → ℕ) → ℕ → List (List Value) → List Pair → List (List (List Value))
+left_lots spec class n done m = lots class spec.by 0 n (left_over spec m done)
 
-  -- One row more was placed: in its group, or in the run of its class.
-  pub record Places (spec : Spec) (budget : ℕ) (class : List Value → ℕ) (n : ℕ) (row : List Value) (old new : Runs) (m m' : View (List Value) (List Running) H) (slots slots' : List Slot) (written began : ℕ) : Type 0 where
-    pub resident : (done : List (List Value)) → Resident spec budget done m → Resident spec budget (done ++ row ∷ []) m'
-    pub left : (done : List (List Value)) → Resident spec budget done m → length (left_over spec m' (done ++ row ∷ [])) ≡ length (left_over spec m done) + written
-    pub held : (done : List (List Value)) → Resident spec budget done m → AllHeld old slots (left_lots spec class n done m) → AllHeld new slots' (left_lots spec class n (done ++ row ∷ []) m')
-    pub runs : (done : List (List Value)) → Resident spec budget done m → AllHeld old slots (left_lots spec class n done m)
-        → sum_by one_if_some (left_lots spec class n (done ++ row ∷ []) m') ≡ sum_by one_if_some (left_lots spec class n done m) + began
-    pub one : written ≤ 1
-    pub one_began : began ≤ written
+-- One row more was placed: in its group, or in the run of its class.
+pub record Places (spec : Spec) (budget : ℕ) (class : List Value → ℕ) (n : ℕ) (row : List Value) (old new : Runs) (m m' : List Pair) (slots slots' : List Slot) (written began : ℕ) : Type 0 where
+  pub resident : (done : List (List Value)) → Resident spec budget done m → Resident spec budget (done ++ row ∷ []) m'
+  pub left : (done : List (List Value)) → Resident spec budget done m → length (left_over spec m' (done ++ row ∷ [])) ≡ length (left_over spec m done) + written
+  pub held : (done : List (List Value)) → Resident spec budget done m → AllHeld old slots (left_lots spec class n done m) → AllHeld new slots' (left_lots spec class n (done ++ row ∷ []) m')
+  pub runs : (done : List (List Value)) → Resident spec budget done m → AllHeld old slots (left_lots spec class n done m)
+      → sum_by one_if_some (left_lots spec class n (done ++ row ∷ []) m') ≡ sum_by one_if_some (left_lots spec class n done m) + began
+  pub one : written ≤ 1
+  pub one_began : began ≤ written
 
-  -- Rows were read. Over an honest store they are the first of those that were there, and gives says what is left.
-  pub record Reads (spec : Spec) (budget : ℕ) (class : List Value → ℕ) (n : ℕ) (honest : Bool) (before gives : List (List Value) → Type 0) (runs : Runs) (count written began columns : ℕ) (m : View (List Value) (List Running) H) (slots : List Slot) : Type 0 where
-    pub done : List (List Value)
-    pub counted : length done ≡ count
-    pub rest : IsTrue honest → (rows : List (List Value)) → before rows → (left : List (List Value)) × (rows ≡ done ++ left) × gives left
-    pub resident : Resident spec budget done m
-    pub held : AllHeld runs slots (left_lots spec class n done m)
-    pub wrote : length (left_over spec m done) ≡ written
-    pub began_runs : sum_by one_if_some (left_lots spec class n done m) ≡ began
-    pub wide : IsWide columns done
+-- Rows were read. Over an honest store they are the first of those that were there, and gives says what is left.
+pub record Reads (spec : Spec) (budget : ℕ) (class : List Value → ℕ) (n : ℕ) (honest : Bool) (before gives : List (List Value) → Type 0) (runs : Runs) (count written began columns : ℕ) (m : List Pair) (slots : List Slot) : Type 0 where
+  pub done : List (List Value)
+  pub counted : length done ≡ count
+  pub rest : IsTrue honest → (rows : List (List Value)) → before rows → (left : List (List Value)) × (rows ≡ done ++ left) × gives left
+  pub resident : Resident spec budget done m
+  pub held : AllHeld runs slots (left_lots spec class n done m)
+  pub wrote : length (left_over spec m done) ≡ written
+  pub began_runs : sum_by one_if_some (left_lots spec class n done m) ≡ began
+  pub wide : IsWide columns done

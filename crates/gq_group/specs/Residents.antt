@@ -1,34 +1,31 @@
 -- Which rows a map of groups has taken, and which of them are left.
 use Rattle.std.specs.Prelude.{◌≡◌, ◌≤◌, ◌<◌, ℕ, Bool, not, List, [], ◌∷◌, ◌++◌, length, filter}
 use Rattle.std.specs.FinMap.{contains_key, len}
-use Rattle.sw_table.specs.View.{View}
-use Rattle.sw_table.specs.Entries.{entries}
 use Rattle.gq_row.specs.declared.value.Value.{Value}
 use Rattle.gq_row.specs.Classes.{class_of}
 use Rattle.gq_row.specs.Rows.{key_of}
-use Rattle.gq_agg.specs.Running.{Running}
-use Rattle.gq_group.specs.Entries.{Grouped}
+use Rattle.gq_group.specs.Entries.{Pair, Grouped, listed}
 use Rattle.gq_group.specs.Groups.{Spec}
 use Rattle.gq_group.specs.declared.resident_table.Offered.{Offered}
 use Rattle.gq_group.specs.declared.resident_table.Offered.TheVariants.{Taken, Left}
 
 -- whether the map has the group of a key
-abbrev pub has_entry : {H : Type 0} → View (List Value) (List Running) H → List Value → Bool
-has_entry m key = contains_key (entries class_of m) (class_of key)
+abbrev pub has_entry : List Pair → List Value → Bool
+has_entry m key = contains_key (listed m) (class_of key)
 
 -- the rows whose keys have their groups in the map
-abbrev pub taken : {H : Type 0} → Spec → View (List Value) (List Running) H → List (List Value) → List (List Value)
+abbrev pub taken : Spec → List Pair → List (List Value) → List (List Value)
 taken spec m rows = filter (λ row. has_entry m (key_of spec.by row)) rows
 
 -- the other rows
-abbrev pub left_over : {H : Type 0} → Spec → View (List Value) (List Running) H → List (List Value) → List (List Value)
+abbrev pub left_over : Spec → List Pair → List (List Value) → List (List Value)
 left_over spec m rows = filter (λ row. not (has_entry m (key_of spec.by row))) rows
 
 -- The map has the groups of all rows of its keys. There are at most as many as the budget, and that many where a row is left.
-pub record Resident {H : Type 0} (spec : Spec) (budget : ℕ) (rows : List (List Value)) (m : View (List Value) (List Running) H) : Type 0 where
+pub record Resident (spec : Spec) (budget : ℕ) (rows : List (List Value)) (m : List Pair) : Type 0 where
   pub grouped : Grouped spec (taken spec m rows) m
-  pub within : len (entries class_of m) ≤ budget
-  pub full : 0 < length (left_over spec m rows) → len (entries class_of m) ≡ budget
+  pub within : len (listed m) ≤ budget
+  pub full : 0 < length (left_over spec m rows) → len (listed m) ≡ budget
 
 -- what is left of a row that was offered
 abbrev pub left_row : Offered → List Value → List (List Value)
@@ -36,7 +33,7 @@ left_row Taken row = []
 left_row (Left hash) row = row ∷ []
 
 -- One row more was offered: it is in its group, or it is one more that is left.
-pub record Offers {H : Type 0} (spec : Spec) (budget : ℕ) (rows : List (List Value)) (row : List Value) (old new : View (List Value) (List Running) H) (answer : Offered) : Type 0 where
+pub record Offers (spec : Spec) (budget : ℕ) (rows : List (List Value)) (row : List Value) (old new : List Pair) (answer : Offered) : Type 0 where
   pub resident : Resident spec budget (rows ++ row ∷ []) new
   pub left : left_over spec new (rows ++ row ∷ []) ≡ left_over spec old rows ++ left_row answer row
 

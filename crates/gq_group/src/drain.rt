@@ -1,9 +1,6 @@
-//! Groups that leave a map one by one.
-ghost use Rattle.std.specs.Prelude.{◌≡◌, ◌⊎◌, [], length, IfOk, IfErr, IfSome, IfNone, IsErrOf};
-ghost use Rattle.sw_table.specs.Entries.{entries};
-ghost use Rattle.sw_flat.specs.Maps.{ListsAll};
-ghost use Rattle.gq_row.specs.Classes.{class_of};
-ghost use Rattle.gq_group.specs.Maps.{pairs_at, Laid, Takes, Overflows};
+//! Groups that leave one by one.
+ghost use Rattle.std.specs.Prelude.{◌≡◌, ◌⊎◌, [], IfOk, IfErr, IfSome, IfNone, IsErrOf};
+ghost use Rattle.gq_group.specs.Maps.{pairs_from, AreKept, Takes, Overflows};
 
 use crate::aggs::take_values;
 use crate::refusal::Refusal;
@@ -11,47 +8,42 @@ use gq_agg::Agg;
 use gq_row::{Key, Value};
 use std::alloc::Global;
 use std::marker::Model;
-use sw_flat::FlatMap;
-use sw_probe::KeyHash;
-use sw_table::Walk;
 
 // Groups on their way out, seen as the list of those that are left.
 #[derive(Drop)]
-pub(crate) struct Drain<H: KeyHash<Key>> {
-    starts: FlatMap<Key, usize, H>,
-    walk: Walk,
+pub(crate) struct Drain {
+    keys: std::vec::IntoIter<Key>,
     running: Vec<Agg>,
     each: usize,
+    // Where the aggregates of the next begin.
+    start: usize,
 }
 
-impl<H: KeyHash<Key>> Model for Drain<H> {
-    ghost use Rattle.std.specs.Prelude.{List, map, length};
-    ghost use Rattle.sw_table.specs.Walks.{IsDraining, filled};
+impl Model for Drain {
+    ghost use Rattle.std.specs.Prelude.{◌≡◌, ◌+◌, ◌*◌, List, length};
+    ghost use Rattle.std.specs.Vec.Iter.{into_iter_items};
     ghost use Rattle.gq_group.specs.Entries.{Pair};
-    ghost use Rattle.gq_group.specs.Maps.{pair_at, AreLaid};
+    ghost use Rattle.gq_group.specs.Maps.{pairs_from};
 
     ghost Value = { List Pair };
 
-    ghost view = { λ d. map (pair_at d.each d.running.items) (filled d.starts.places) };
+    ghost view = { λ d. pairs_from d.each d.start d.running.items (into_iter_items d.keys) };
 
-    ghost invariant = { λ d. IsDraining d.starts d.walk ×
-        AreLaid d.each (length d.running.items) (filled d.starts.places) };
+    ghost invariant = { λ d. length d.running.items ≡ d.start +
+        length (into_iter_items d.keys) * d.each };
 }
 
-impl<H: KeyHash<Key>> Drain<H> {
-    // Those of a map, in the order of the slots.
-    pub(crate) fn new(starts: FlatMap<Key, usize, H>, running: Vec<Agg>, each: usize) -> Drain<H>
-        requires { Laid each (length running.items) (entries class_of starts) }
-        ensures { ListsAll class_of result
-            (entries class_of (pairs_at each running.items starts)) }
+impl Drain {
+    // Those of keys, whose aggregates stand in the same order.
+    pub(crate) fn new(keys: Vec<Key>, running: Vec<Agg>, each: usize) -> Drain
+        requires { AreKept each running.items keys.items }
+        ensures { result ≡ pairs_from each 0 running.items keys.items }
     {
-        let _ = starts.keys();
-        let walk = starts.walk();
         Drain {
-            starts,
-            walk,
+            keys: keys.into_iter(),
             running,
             each,
+            start: 0,
         }
     }
 
@@ -67,10 +59,12 @@ impl<H: KeyHash<Key>> Drain<H> {
         ensures overflow { IsErrOf result Refusal.SumRange → Overflows self.old }
         ensures cause { IfErr result (λ e. (e ≡ Refusal.SumRange) ⊎ (e ≡ Refusal.Memory)) }
     {
-        let Some((key, start)) = self.starts.drain_next(&mut self.walk) else {
+        let Some(key) = self.keys.next() else {
             return Ok(None);
         };
+        let start = self.start;
         let end = start + self.each;
+        self.start = end;
         values.clear();
         take_values(alloc, &mut self.running[start..end], values)?;
         Ok(Some(key))

@@ -1,11 +1,10 @@
 //! Groups of the rows of a source.
 ghost use Rattle.std.specs.Prelude.{◌≡◌, ◌+◌, ◌≤◌, ◌^◌, ◌++◌, [], ℕ, true, false, List, length, IsTrue, IfOk, OnOk, IfErr, IsErrOf};
 ghost use Rattle.std.specs.FinMap.{len};
-ghost use Rattle.sw_table.specs.Entries.{entries};
 ghost use Rattle.gq_row.specs.declared.value.Value.{Value as Cell};
 ghost use Rattle.gq_row.specs.Classes.{class_of};
 ghost use Rattle.gq_group.specs.Access.{Apart, either, LeavesOthers, HasCause, GroupCause};
-ghost use Rattle.gq_group.specs.Entries.{Grouped};
+ghost use Rattle.gq_group.specs.Entries.{Grouped, listed};
 ghost use Rattle.gq_group.specs.Groups.{Spec, Group, keys_of, Pushes, all_fit, out_of_range, OneWidth};
 ghost use Rattle.gq_group.specs.Work.{Spills};
 
@@ -43,17 +42,17 @@ pub(crate) fn push_all<H: KeyHash<Key> + Copy, S: RunStore, K: GroupSink<S>>(
     store: &mut S,
 ) -> Result<u64, Refusal>
     requires sink { K.is_ready sink.old (S.runs store.old) }
-    ensures sent { OnOk result ((spec : Spec) (rows : List (List Cell)) → Grouped spec rows all.map →
+    ensures sent { OnOk result ((spec : Spec) (rows : List (List Cell)) → Grouped spec rows all.pairs →
         Pushes spec rows (λ out. IsTrue (S.runs store.old).honest → (before : List Group) →
         K.holds sink.old (S.runs store.old) before →
         K.holds sink.new (S.runs store.new) (before ++ out))) }
     ensures count { IfOk result (λ n. (spec : Spec) (rows : List (List Cell)) →
-        Grouped spec rows all.map → n ≡ length (keys_of spec.by rows)) }
-    ensures entries { IfOk result (λ n. n ≡ len (entries class_of all.map)) }
+        Grouped spec rows all.pairs → n ≡ length (keys_of spec.by rows)) }
+    ensures entries { IfOk result (λ n. n ≡ len (listed all.pairs)) }
     ensures no_overflow { OnOk result ((spec : Spec) (rows : List (List Cell)) →
-        Grouped spec rows all.map → out_of_range spec rows ≡ false) }
+        Grouped spec rows all.pairs → out_of_range spec rows ≡ false) }
     ensures overflow { IsErrOf result Refusal.SumRange →
-        (spec : Spec) (rows : List (List Cell)) → Grouped spec rows all.map →
+        (spec : Spec) (rows : List (List Cell)) → Grouped spec rows all.pairs →
         out_of_range spec rows ≡ true }
     ensures sink { OnOk result (K.is_ready sink.new (S.runs store.new)) }
     ensures others { LeavesOthers (K.owns sink.old) (K.owns sink.new) (S.runs store.old)

@@ -82,16 +82,16 @@ fn place_row<H: KeyHash<Key> + Copy, S: RunStore>(
     requires fits { IsTrue (fits_spec spec.now row.now) }
     requires each { table.old.groups.each ≡ length spec.now.aggs }
     requires resident { (rows : List (List Cell)) × (length rows < 2 ^ 32) ×
-        Resident spec.now table.old.budget.entries rows table.old.groups.map }
+        Resident spec.now table.old.budget.entries rows table.old.groups.pairs }
     requires places { length slots.old.items ≡ classes_at level }
     requires ours { Ours slots.old.items (S.runs store.old) }
     ensures places { IfOk result (λ placed. Places spec.now table.old.budget.entries (class_by
-        (hash_by H.hash_of bytes_of table.old.groups.map.hasher) level) (classes_at level) row.now (S.runs
-        store.old) (S.runs store.new) table.old.groups.map table.new.groups.map slots.old.items slots.new.items
+        (hash_by H.hash_of bytes_of table.old.groups.hasher) level) (classes_at level) row.now (S.runs
+        store.old) (S.runs store.new) table.old.groups.pairs table.new.groups.pairs slots.old.items slots.new.items
         placed.written placed.began) }
     ensures budget { table.new.budget ≡ table.old.budget }
     ensures each { table.new.groups.each ≡ table.old.groups.each }
-    ensures hasher { OnOk result (table.new.groups.map.hasher ≡ table.old.groups.map.hasher) }
+    ensures hasher { OnOk result (table.new.groups.hasher ≡ table.old.groups.hasher) }
     ensures same_length { length slots.new.items ≡ classes_at level }
     ensures ours { Ours slots.new.items (S.runs store.new) }
     ensures others { LeavesOthers (among slots.old.items) (among slots.new.items) (S.runs
@@ -141,13 +141,13 @@ fn read_rows<H: KeyHash<Key> + Copy, S: RunStore, R: RowSource<S>>(
     requires rows { IsTrue (S.runs store.old).honest → (rows : List (List Cell)) ×
         R.gives source.old (S.runs store.old) rows × AreRows spec.now rows }
     requires each { table.old.groups.each ≡ length spec.now.aggs }
-    requires start { Resident spec.now table.old.budget.entries [] table.old.groups.map }
+    requires start { Resident spec.now table.old.budget.entries [] table.old.groups.pairs }
     requires places { length slots.old.items ≡ classes_at level }
     requires empty { AreEmpty slots.old.items }
     ensures read { IfOk result (λ taken. Reads spec.now table.old.budget.entries (class_by
-        (hash_by H.hash_of bytes_of table.old.groups.map.hasher) level) (classes_at level) (S.runs
+        (hash_by H.hash_of bytes_of table.old.groups.hasher) level) (classes_at level) (S.runs
         store.old).honest (R.gives source.old (S.runs store.old)) (λ left. left ≡ []) (S.runs
-        store.new) taken.rows_read taken.rows_written taken.runs taken.columns table.new.groups.map
+        store.new) taken.rows_read taken.rows_written taken.runs taken.columns table.new.groups.pairs
         slots.new.items) }
     ensures bound { IfOk result (λ taken. taken.rows_read ≤ R.bound source.old) }
     ensures less_runs { IfOk result (λ taken. taken.runs ≤ taken.rows_written) }

@@ -1,11 +1,11 @@
 //! The groups that are kept in memory.
 ghost use Rattle.std.specs.Prelude.{◌≡◌, ◌≤◌, ◌<◌, ◌^◌, [], List, length, IsTrue, IfOk, OnOk};
 ghost use Rattle.std.specs.FinMap.{len};
-ghost use Rattle.sw_table.specs.Entries.{entries};
 ghost use Rattle.sw_table.specs.LaidOut.{hash_by};
 ghost use Rattle.gq_row.specs.declared.value.Value.{Value as Cell};
 ghost use Rattle.gq_row.specs.Classes.{class_of, bytes_of};
 ghost use Rattle.gq_row.specs.Rows.{key_of};
+ghost use Rattle.gq_group.specs.Entries.{listed};
 ghost use Rattle.gq_group.specs.Groups.{fits_spec};
 ghost use Rattle.gq_group.specs.Residents.{Resident, Offers, HasHash};
 
@@ -14,7 +14,7 @@ use crate::group_map::GroupMap;
 use crate::group_spec::GroupSpec;
 use gq_row::{Key, KeyRef, Row};
 use std::alloc::{AllocError, Global};
-use sw_flat::Entry;
+use sw_index::Found;
 use sw_probe::KeyHash;
 
 // Groups, at most as many as a budget.
@@ -26,7 +26,7 @@ pub(crate) struct ResidentTable<H: KeyHash<Key>> {
     offered: u64,
     // How many there will be, as far as is known.
     expected: usize,
-    ghost within: { len (entries class_of groups.map) ≤ budget.entries },
+    ghost within: { len (listed groups.pairs) ≤ budget.entries },
 }
 
 // What became of a row.
@@ -48,10 +48,10 @@ impl<H: KeyHash<Key> + Copy> ResidentTable<H> {
         expected: usize,
     ) -> Result<ResidentTable<H>, AllocError>
         ensures resident { IfOk result (λ table.
-            Resident spec.now budget.entries [] table.groups.map) }
+            Resident spec.now budget.entries [] table.groups.pairs) }
         ensures each { IfOk result (λ table. table.groups.each ≡ length spec.now.aggs) }
         ensures budget { IfOk result (λ table. table.budget ≡ budget) }
-        ensures hasher { IfOk result (λ table. table.groups.map.hasher ≡ hasher) }
+        ensures hasher { IfOk result (λ table. table.groups.hasher ≡ hasher) }
     {
         let groups = GroupMap::start(alloc, hasher, spec)?;
         Ok(ResidentTable {
@@ -89,29 +89,29 @@ impl<H: KeyHash<Key> + Copy> ResidentTable<H> {
         requires fits { IsTrue (fits_spec spec.now row.now) }
         requires each { self.old.groups.each ≡ length spec.now.aggs }
         requires resident { (rows : List (List Cell)) × (length rows < 2 ^ 32) ×
-            Resident spec.now self.old.budget.entries rows self.old.groups.map }
+            Resident spec.now self.old.budget.entries rows self.old.groups.pairs }
         ensures offers { IfOk result (λ answer. (rows : List (List Cell)) →
-            Resident spec.now self.old.budget.entries rows self.old.groups.map →
-            Offers spec.now self.old.budget.entries rows row.now self.old.groups.map self.new.groups.map
+            Resident spec.now self.old.budget.entries rows self.old.groups.pairs →
+            Offers spec.now self.old.budget.entries rows row.now self.old.groups.pairs self.new.groups.pairs
             answer) }
-        ensures hash { IfOk result (HasHash (hash_by H.hash_of bytes_of self.old.groups.map.hasher
+        ensures hash { IfOk result (HasHash (hash_by H.hash_of bytes_of self.old.groups.hasher
             (class_of (key_of spec.now.by row.now)))) }
         ensures each { self.new.groups.each ≡ self.old.groups.each }
         ensures budget { self.new.budget ≡ self.old.budget }
-        ensures hasher { OnOk result (self.new.groups.map.hasher ≡ self.old.groups.map.hasher) }
+        ensures hasher { OnOk result (self.new.groups.hasher ≡ self.old.groups.hasher) }
     {
         self.offered = self.offered.wrapping_add(1);
-        match self.groups.entry(&KeyRef::new(row.cells(), spec.by())) {
-            Entry::Occupied(slot) => {
-                self.groups.add(slot, spec, row)?;
+        match self.groups.find(&KeyRef::new(row.cells(), spec.by())) {
+            Found::At(number) => {
+                self.groups.add(number, spec, row)?;
                 Ok(Offered::Taken)
             }
-            Entry::Vacant(vacancy) => {
+            Found::Absent(absence) => {
                 if self.groups.len() >= self.budget.entries() as usize {
-                    return Ok(Offered::Left(vacancy.hash()));
+                    return Ok(Offered::Left(absence.hash()));
                 }
                 let room = self.room_wanted();
-                self.groups.add_group(alloc, spec, row, vacancy, room)?;
+                self.groups.add_group(alloc, spec, row, absence, room)?;
                 Ok(Offered::Taken)
             }
         }

@@ -154,7 +154,7 @@ stood (x ∷ keys) k (suc i) l at = shifted (stood keys k i l at)
     shifted (last h is) = last (ap (λ n. suc n) h) is
 
 module _ {K : Type 0} (class : K → List ℕ) (hash : List ℕ → ℕ) where
-  different-more : (keys : List K) (k : K) → AreDifferent class keys → HasNone class keys (class k) → AreDifferent class (keys ++ k ∷ [])
+  pub different-more : (keys : List K) (k : K) → AreDifferent class keys → HasNone class keys (class k) → AreDifferent class (keys ++ k ∷ [])
   different-more keys k different none i j a b at at' is = told (stood keys k i a at) (stood keys k j b at')
     where
       told : Stood keys k i a → Stood keys k j b → i ≡ j

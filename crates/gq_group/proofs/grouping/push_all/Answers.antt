@@ -26,7 +26,7 @@ pub returns-in_err-key-clause-overflow : goal.returns-in_err-key-clause-overflow
 returns-in_err-key-clause-overflow g c = λ e spec rows grouped.
     let it = c.in_err-key.ensures.overflow (search rules) in
     let sent = c.groups.invariant.sent in
-    refused_one _ _ _ sent.0 c.groups.left it.rest it.pair c.args.all.map spec rows sent.2 it.first sent.1 grouped it.refused
+    refused_one _ _ _ sent.0 c.groups.left it.rest it.pair c.args.all.pairs spec rows sent.2 it.first sent.1 grouped it.refused
 
 pub groups-preserved : goal.groups-preserved
 groups-preserved g c =
@@ -48,14 +48,14 @@ pub returns-clause-sent : goal.returns-clause-sent
 returns-clause-sent g c = λ spec rows grouped.
     let none = rw c.in_default.is at c.in_ok-key.ensures.end in
     let sent = c.groups.invariant.sent in
-    let it = sent-groups _ _ _ sent.0 c.args.all.map spec rows (rw none at sent.2) sent.1 grouped in
+    let it = sent-groups _ _ _ sent.0 c.args.all.pairs spec rows (rw none at sent.2) sent.1 grouped in
     (it.0, it.1, it.2)
 
 pub returns-clause-count : goal.returns-clause-count
-returns-clause-count g c = λ spec rows grouped. let sent = c.groups.invariant.sent in c.len-groups.ensures ∙ sym sent.1.once ∙ count_groups sent.0 c.args.all.map spec rows sent.1 grouped
+returns-clause-count g c = λ spec rows grouped. let sent = c.groups.invariant.sent in c.len-groups.ensures ∙ sym sent.1.once ∙ count_groups sent.0 c.args.all.pairs spec rows sent.1 grouped
 
 pub returns-clause-no_overflow : goal.returns-clause-no_overflow
 returns-clause-no_overflow g c = λ spec rows grouped.
     let none = rw c.in_default.is at c.in_ok-key.ensures.end in
     let sent = c.groups.invariant.sent in
-    sent-fine _ _ _ sent.0 c.args.all.map spec rows (rw none at sent.2) sent.1 grouped
+    sent-fine _ _ _ sent.0 c.args.all.pairs spec rows (rw none at sent.2) sent.1 grouped

@@ -1,5 +1,5 @@
 use Rattle.std.proofs.Common.{◌≡◌, false, length, List}
-use Rattle.sw_table.specs.Entries.{entries}
+use Rattle.gq_group.specs.Entries.{listed}
 use Rattle.sw_flat.specs.Maps.{ListsAll}
 use Rattle.gq_row.specs.Classes.{class_of}
 use Rattle.gq_group.specs.Access.{LeavesOthers}
@@ -11,7 +11,7 @@ invariant-groups g l =
     let runs = g.S.RunStore.runs in
     record {
       ready : g.K.GroupSink.is_ready l.sink (runs l.store);
-      sent : (all : List Pair) × ListsAll class_of all (entries class_of l.fn.all.map) × Sent (runs l.fn.store).honest (g.K.GroupSink.holds l.fn.sink (runs l.fn.store)) (g.K.GroupSink.holds l.sink (runs l.store)) all l.left;
+      sent : (all : List Pair) × ListsAll class_of all (listed l.fn.all.pairs) × Sent (runs l.fn.store).honest (g.K.GroupSink.holds l.fn.sink (runs l.fn.store)) (g.K.GroupSink.holds l.sink (runs l.store)) all l.left;
       others : LeavesOthers (g.K.GroupSink.owns l.fn.sink) (g.K.GroupSink.owns l.sink) (runs l.fn.store) (runs l.store);
       made : g.K.GroupSink.makes_runs ≡ false → (runs l.store).made ≡ (runs l.fn.store).made;
     }

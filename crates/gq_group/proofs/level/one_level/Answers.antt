@@ -1,6 +1,6 @@
 use Rattle.std.proofs.Common.{◌≡◌, [], rules, ◌∙◌, sym, ap, subst, append-nil, ◌++◌}
 use Rattle.std.specs.FinMap.{len}
-use Rattle.sw_table.specs.Entries.{entries}
+use Rattle.gq_group.specs.Entries.{listed}
 use Rattle.sw_table.specs.LaidOut.{hash_by}
 use Rattle.gq_row.specs.Classes.{class_of, bytes_of}
 use Rattle.gq_group.specs.Access.{LeavesOthers, KeepsOwn, Apart, either}
@@ -51,12 +51,12 @@ returns-in_err-groups-clause-overflow g c = λ e h rows b.
     let s = g.S.RunStore.runs c.read_rows.new.store in
     let t = g.S.RunStore.runs c.push_all.new.store in
     let spec = c.args.spec.now in
-    let m = c.read_rows.new.table.groups.map in
+    let m = c.read_rows.new.table.groups.pairs in
     let n = c.in_ok-taken.taken in
-    let hash = hash_by g.H.KeyHash.hash_of bytes_of c.in-Ok-start.table.groups.map.hasher in
+    let hash = hash_by g.H.KeyHash.hash_of bytes_of c.in-Ok-start.table.groups.hasher in
     let read = subst (λ (b : Budget). Reads spec b.entries (class_by hash c.args.level) (classes_at c.args.level) r.honest (g.R.RowSource.gives c.args.source.now r) (λ left. left ≡ []) s n.rows_read n.rows_written n.runs n.columns m c.read_rows.new.slots.items)
     c.in-Ok-start.ensures.budget c.in_ok-taken.ensures.read in
-    let grouped = subst (λ (x : MapView _). Grouped spec (taken spec m read.done) x.map) (sym c.into_groups.ensures) read.resident.grouped in
+    let grouped = subst (λ (x : MapView _). Grouped spec (taken spec m read.done) x.pairs) (sym c.into_groups.ensures) read.resident.grouped in
     let far = c.in_err-groups.ensures.overflow (search rules) spec (taken spec m read.done) grouped in
     let got = read.rest h rows b in
     let same : rows ≡ read.done = got.1 ∙ ap (λ l. read.done ++ l) got.2 ∙ append-nil read.done in
@@ -68,15 +68,15 @@ returns-clause-parted g c = λ h rows b.
     let s = g.S.RunStore.runs c.read_rows.new.store in
     let t = g.S.RunStore.runs c.push_all.new.store in
     let spec = c.args.spec.now in
-    let m = c.read_rows.new.table.groups.map in
+    let m = c.read_rows.new.table.groups.pairs in
     let n = c.in_ok-taken.taken in
-    let hash = hash_by g.H.KeyHash.hash_of bytes_of c.in-Ok-start.table.groups.map.hasher in
+    let hash = hash_by g.H.KeyHash.hash_of bytes_of c.in-Ok-start.table.groups.hasher in
     let read = subst (λ (b : Budget). Reads spec b.entries (class_by hash c.args.level) (classes_at c.args.level) r.honest (g.R.RowSource.gives c.args.source.now r) (λ left. left ≡ []) s n.rows_read n.rows_written n.runs n.columns m c.read_rows.new.slots.items)
     c.in-Ok-start.ensures.budget c.in_ok-taken.ensures.read in
-    let grouped = subst (λ (x : MapView _). Grouped spec (taken spec m read.done) x.map) (sym c.into_groups.ensures) read.resident.grouped in
+    let grouped = subst (λ (x : MapView _). Grouped spec (taken spec m read.done) x.pairs) (sym c.into_groups.ensures) read.resident.grouped in
     let level : Level = record { rows_read = n.rows_read; rows_written = n.rows_written; groups = c.in_ok-groups.groups; runs = n.runs; columns = n.columns } in
     let count = c.in_ok-groups.ensures.count spec (taken spec m read.done) grouped in
-    let kept_count = c.in_ok-groups.ensures.entries ∙ ap (λ (x : MapView _). len (entries class_of x.map)) c.into_groups.ensures in
+    let kept_count = c.in_ok-groups.ensures.entries ∙ ap (λ (x : MapView _). len (listed x.pairs)) c.into_groups.ensures in
     let k = g.K.GroupSink.owns c.args.sink.now in
     let k' = g.K.GroupSink.owns c.push_all.new.sink in
     let a = g.R.RowSource.owns c.args.source.now in
@@ -102,15 +102,15 @@ returns-clause-numbers g c =
     let s = g.S.RunStore.runs c.read_rows.new.store in
     let t = g.S.RunStore.runs c.push_all.new.store in
     let spec = c.args.spec.now in
-    let m = c.read_rows.new.table.groups.map in
+    let m = c.read_rows.new.table.groups.pairs in
     let n = c.in_ok-taken.taken in
-    let hash = hash_by g.H.KeyHash.hash_of bytes_of c.in-Ok-start.table.groups.map.hasher in
+    let hash = hash_by g.H.KeyHash.hash_of bytes_of c.in-Ok-start.table.groups.hasher in
     let read = subst (λ (b : Budget). Reads spec b.entries (class_by hash c.args.level) (classes_at c.args.level) r.honest (g.R.RowSource.gives c.args.source.now r) (λ left. left ≡ []) s n.rows_read n.rows_written n.runs n.columns m c.read_rows.new.slots.items)
     c.in-Ok-start.ensures.budget c.in_ok-taken.ensures.read in
-    let grouped = subst (λ (x : MapView _). Grouped spec (taken spec m read.done) x.map) (sym c.into_groups.ensures) read.resident.grouped in
+    let grouped = subst (λ (x : MapView _). Grouped spec (taken spec m read.done) x.pairs) (sym c.into_groups.ensures) read.resident.grouped in
     let level : Level = record { rows_read = n.rows_read; rows_written = n.rows_written; groups = c.in_ok-groups.groups; runs = n.runs; columns = n.columns } in
     let count = c.in_ok-groups.ensures.count spec (taken spec m read.done) grouped in
-    let kept_count = c.in_ok-groups.ensures.entries ∙ ap (λ (x : MapView _). len (entries class_of x.map)) c.into_groups.ensures in
+    let kept_count = c.in_ok-groups.ensures.entries ∙ ap (λ (x : MapView _). len (listed x.pairs)) c.into_groups.ensures in
     numbers spec c.args.budget.entries _ (class_by hash c.args.level) (classes_at c.args.level) _ _ _ m c.read_rows.new.slots.items level
     c.args.budget.some (class_less hash c.args.level) read count kept_count c.in_ok-taken.ensures.bound c.in_ok-taken.ensures.less_runs
 

@@ -16,7 +16,7 @@ rows-init g c =
     let r = g.S.RunStore.runs c.args.store.now in
     record {
       ready = c.requires.source;
-      read = reads-none _ _ _ _ _ _ r c.args.table.now.groups.map c.args.slots.now.items c.requires.start c.requires.places c.requires.empty;
+      read = reads-none _ _ _ _ _ _ r c.args.table.now.groups.pairs c.args.slots.now.items c.requires.start c.requires.places c.requires.empty;
       budget = refl;
       each = c.requires.each;
       hasher = refl;
@@ -39,7 +39,7 @@ returns-clause-read g c =
     let step : LeavesOthers (g.R.RowSource.owns c.rows.source) (g.R.RowSource.owns c.next.new.self) r s = c.in_ok-row.ensures.others in
     let kept : KeepsOwn (among c.rows.slots.items) r s
     = keeps-apart _ _ (among c.rows.slots.items) r s step (apart-flip _ _ c.rows.invariant.apart) c.rows.invariant.ours.live in
-    reads-end _ _ _ _ _ _ _ r s c.rows.rows_read c.rows.rows_written c.rows.runs c.rows.columns c.rows.table.groups.map c.rows.slots.items c.rows.invariant.read
+    reads-end _ _ _ _ _ _ _ r s c.rows.rows_read c.rows.rows_written c.rows.runs c.rows.columns c.rows.table.groups.pairs c.rows.slots.items c.rows.invariant.read
     (λ h rows now. let over = rw c.in_default.is at (c.in_ok-row.ensures.rows (c.rows.invariant.others.same_honest ∙ h)) in (over rows now).0)
     (λ parts held. held-stays r s c.rows.slots.items parts kept c.rows.invariant.ours held)
 
@@ -75,11 +75,11 @@ rows-preserved g c =
     let live = g.met.R.RowSource.own_live c.next.new.self s c.in_ok-row.ensures.ready in
     let source : KeepsOwn b s t = keeps-apart k k' b s t then apart live in
     let next = rw c.in-Some.is at c.in_ok-row.ensures.rows in
-    let hashed = subst (λ h. Places c.args.spec.now c.rows.table.budget.entries (class_by (hash_by g.H.KeyHash.hash_of bytes_of h) c.args.level) (classes_at c.args.level) c.in-Some.row s t c.rows.table.groups.map c.place_row.new.table.groups.map c.rows.slots.items c.place_row.new.slots.items c.in_ok-placed.placed.written c.in_ok-placed.placed.began) inv.hasher placed.places in
-    let places = subst (λ b. Places c.args.spec.now b.entries (class_by (hash_by g.H.KeyHash.hash_of bytes_of c.args.table.now.groups.map.hasher) c.args.level) (classes_at c.args.level) c.in-Some.row s t c.rows.table.groups.map c.place_row.new.table.groups.map c.rows.slots.items c.place_row.new.slots.items c.in_ok-placed.placed.written c.in_ok-placed.placed.began) inv.budget hashed in
+    let hashed = subst (λ h. Places c.args.spec.now c.rows.table.budget.entries (class_by (hash_by g.H.KeyHash.hash_of bytes_of h) c.args.level) (classes_at c.args.level) c.in-Some.row s t c.rows.table.groups.pairs c.place_row.new.table.groups.pairs c.rows.slots.items c.place_row.new.slots.items c.in_ok-placed.placed.written c.in_ok-placed.placed.began) inv.hasher placed.places in
+    let places = subst (λ b. Places c.args.spec.now b.entries (class_by (hash_by g.H.KeyHash.hash_of bytes_of c.args.table.now.groups.hasher) c.args.level) (classes_at c.args.level) c.in-Some.row s t c.rows.table.groups.pairs c.place_row.new.table.groups.pairs c.rows.slots.items c.place_row.new.slots.items c.in_ok-placed.placed.written c.in_ok-placed.placed.began) inv.budget hashed in
     record {
       ready = g.met.R.RowSource.stays_ready c.next.new.self s t source c.in_ok-row.ensures.ready;
-      read = reads-step c.args.spec.now _ _ _ _ _ _ (g.R.RowSource.gives c.next.new.self t) r s t c.rows.rows_read c.rows.rows_written c.rows.runs c.rows.columns _ _ c.rows.table.groups.map c.place_row.new.table.groups.map c.rows.slots.items c.place_row.new.slots.items c.in-Some.row inv.read
+      read = reads-step c.args.spec.now _ _ _ _ _ _ (g.R.RowSource.gives c.next.new.self t) r s t c.rows.rows_read c.rows.rows_written c.rows.runs c.rows.columns _ _ c.rows.table.groups.pairs c.place_row.new.table.groups.pairs c.rows.slots.items c.place_row.new.slots.items c.in-Some.row inv.read
           (λ h rows now. let before = inv.others.same_honest ∙ h in let got = next before rows now in (got.0, got.1, g.met.R.RowSource.keeps_rows c.next.new.self s t source c.in_ok-row.ensures.ready (step.same_honest ∙ before) got.0 got.2))
           (λ parts held. held-stays r s c.rows.slots.items parts kept inv.ours held)
           places c.width-columns.result c.width-columns.ensures;

@@ -13,10 +13,10 @@ invariant-rows g l =
     let runs = g.S.RunStore.runs in
     record {
       ready : g.R.RowSource.is_ready l.source (runs l.store);
-      read : Reads l.spec l.fn.table.budget.entries (class_by (hash_by g.H.KeyHash.hash_of bytes_of l.fn.table.groups.map.hasher) l.level) (classes_at l.level) (runs l.fn.store).honest (g.R.RowSource.gives l.fn.source (runs l.fn.store)) (g.R.RowSource.gives l.source (runs l.store)) (runs l.store) l.rows_read l.rows_written l.runs l.columns l.table.groups.map l.slots.items;
+      read : Reads l.spec l.fn.table.budget.entries (class_by (hash_by g.H.KeyHash.hash_of bytes_of l.fn.table.groups.hasher) l.level) (classes_at l.level) (runs l.fn.store).honest (g.R.RowSource.gives l.fn.source (runs l.fn.store)) (g.R.RowSource.gives l.source (runs l.store)) (runs l.store) l.rows_read l.rows_written l.runs l.columns l.table.groups.pairs l.slots.items;
       budget : l.table.budget ≡ l.fn.table.budget;
       each : l.table.groups.each ≡ length l.spec.aggs;
-      hasher : l.table.groups.map.hasher ≡ l.fn.table.groups.map.hasher;
+      hasher : l.table.groups.hasher ≡ l.fn.table.groups.hasher;
       bound : l.rows_read + g.R.RowSource.bound l.source ≤ g.R.RowSource.bound l.fn.source;
       less : l.rows_written ≤ l.rows_read;
       less_runs : l.runs ≤ l.rows_written;

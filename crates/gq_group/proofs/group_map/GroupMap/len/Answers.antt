@@ -1,10 +1,11 @@
-use Rattle.std.proofs.Common.{◌∙◌, sym, ap}
+use Rattle.std.proofs.Common.{◌∙◌, ap}
 use Rattle.std.specs.FinMap.{len}
-use Rattle.sw_table.specs.Entries.{entries}
-use Rattle.gq_row.specs.Classes.{class_of}
+use Rattle.gq_group.specs.Entries.{listed}
 use Rattle.gq_group.specs.Maps.{MapView}
-use Rattle.gq_group.proofs.LaidLemmas.{len_pairs}
+use Rattle.gq_group.proofs.KeptLemmas.{len_kept}
 use Rattle.gq_group.proofs.group_map.GroupMap.len.Goals as goal
 
 pub returns : goal.returns
-returns g c = c.len.ensures ∙ sym (len_pairs c.self.inside.each c.self.inside.running.items c.self.inside.starts) ∙ ap (λ (v : MapView _). len (entries class_of v.map)) c.self.view_is
+returns g c =
+    let own = c.self.inside in
+    c.len.ensures ∙ len_kept own.each own.running.items own.index.keys c.self.invariant.different ∙ ap (λ (v : MapView _). len (listed v.pairs)) c.self.view_is

@@ -2,4 +2,4 @@ use Rattle.gq_group.proofs.ResidentLemmas.{resident-start}
 use Rattle.gq_group.proofs.resident_table.ResidentTable.start.Goals as goal
 
 pub returns-clause-resident : goal.returns-clause-resident
-returns-clause-resident g c = resident-start c.args.spec.now c.args.budget.entries c.in_ok-groups.groups.map c.in_ok-groups.ensures.grouped c.in_ok-groups.ensures.few c.args.budget.some
+returns-clause-resident g c = resident-start c.args.spec.now c.args.budget.entries c.in_ok-groups.groups.pairs c.in_ok-groups.ensures.grouped c.in_ok-groups.ensures.few c.args.budget.some
