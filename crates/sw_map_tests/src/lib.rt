@@ -16,6 +16,8 @@ mod entries;
 #[cfg(test)]
 mod expected;
 #[cfg(test)]
+mod index;
+#[cfg(test)]
 mod loaded;
 #[cfg(test)]
 mod map;
