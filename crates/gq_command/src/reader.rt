@@ -58,7 +58,12 @@ fn payload_of(kept: Option<Kept>) -> Payload
 {
     match kept {
         None => Payload::Open,
-        Some(Kept::Bytes(bytes)) => Payload::Bytes(Sequence::new(bytes)),
+        Some(Kept::Bytes(bytes)) => {
+            // It grew by doubling, and is held while its rows are taken.
+            let mut bytes = bytes;
+            bytes.shrink_to_fit();
+            Payload::Bytes(Sequence::new(bytes))
+        }
         Some(Kept::TooLong) => Payload::TooLong,
         Some(Kept::Nothing) => Payload::NoMemory,
     }
