@@ -1,4 +1,5 @@
 //! The keys of a measurement.
+use gq_row::{Key as RowKey, Text, Value};
 use std::alloc::{AllocError, Global};
 
 /// A key that is made of a number, and tells one.
@@ -69,6 +70,29 @@ impl Key for String {
     #[inline]
     fn number(&self) -> u64 {
         self.len() as u64
+    }
+}
+
+/// A key of one text, which stands in the key itself.
+impl Key for RowKey {
+    fn of(alloc: Global, number: u64) -> Result<RowKey, AllocError> {
+        let letters: String = Key::of(alloc, number)?;
+        let text = Value::Text(Text::from_string(alloc, letters)?);
+        RowKey::of(alloc, &[text], &[0])
+    }
+
+    #[inline]
+    fn copy(&self, alloc: Global) -> Result<RowKey, AllocError> {
+        let positions: &[usize] = if self.is_empty() { &[] } else { &[0] };
+        RowKey::of(alloc, self.cells(), positions)
+    }
+
+    #[inline]
+    fn number(&self) -> u64 {
+        match self.cells().first() {
+            Some(Value::Text(text)) => text.len() as u64,
+            _ => 0,
+        }
     }
 }
 

@@ -4,9 +4,10 @@
 //! That map is a dense list of entries with an index of hashes beside it, as an `IndexMap` is, and
 //! no Swiss table: it iterates at the speed of a list, and pays for the index where entries come
 //! and go. Numbers have the very same FNV-1a hash in both; a text's hash takes one closing byte
-//! more in the dense map. The rows `Direct` are of the flat map alone.
+//! more in the dense map. The rows `direct` and `inline` are of the flat map alone.
 //!
-//! The keys are numbers, and texts of 8 to 16 letters, which are looked up by a borrowed form. The
+//! The keys are numbers, and texts of 8 to 16 letters, which are looked up by a borrowed form: as
+//! lists of bytes under `text`, and under `inline` as the engine keeps them, each within its key. The
 //! arguments are numbers of keys. Without any the program says so, and measures nothing. What it
 //! prints rests on the machine: no contract speaks of time.
 #![tactic(auto)]
@@ -18,6 +19,7 @@ mod fnv;
 mod keys;
 mod map;
 mod report;
+mod row_keys;
 mod timing;
 
 use crate::report::report;

@@ -4,6 +4,7 @@ use crate::dense::{DenseNumbers, DenseTexts};
 use crate::flat::{FlatNumbers, FlatTexts};
 use crate::keys::{Key, Keys};
 use crate::map::Map;
+use crate::row_keys::FlatRowKeys;
 use crate::timing::time;
 use std::io;
 use sw_probe::{Direct, Fnv1a};
@@ -14,23 +15,31 @@ const ALL_CALLS: u64 = 2_000_000;
 const REPEATS: u32 = 5;
 
 /// Prints, for each kind of call on so many keys, the nanoseconds of one call of the flat map and of
-/// the dense map, and the quotient: of numbers, of numbers that are their own hash, and of texts.
+/// the dense map, and the quotient: of numbers, of numbers that are their own hash, of texts, and of
+/// texts as the engine keeps them.
 pub(crate) fn report(rt: &HostRuntime, n: usize) -> io::Result<()> {
-    let numbers = Keys::new(rt.alloc(), n)?;
+    report_both::<FlatNumbers<Fnv1a>, DenseNumbers>(rt, n, "fnv")?;
+    report_flat::<FlatNumbers<Direct>>(rt, n, "direct")?;
+    report_both::<FlatTexts, DenseTexts>(rt, n, "text")?;
+    report_flat::<FlatRowKeys>(rt, n, "inline")
+}
+
+fn report_both<F: Map, D: Map>(rt: &HostRuntime, n: usize, hash: &str) -> io::Result<()> {
+    let flat_keys = Keys::new(rt.alloc(), n)?;
+    let dense_keys = Keys::new(rt.alloc(), n)?;
     for (call, name) in CALLS {
-        let flat = least_time::<FlatNumbers<Fnv1a>>(rt, &numbers, call)?;
-        let dense = least_time::<DenseNumbers>(rt, &numbers, call)?;
-        print_both(rt, n, "fnv", name, flat, dense)?;
+        let flat = least_time::<F>(rt, &flat_keys, call)?;
+        let dense = least_time::<D>(rt, &dense_keys, call)?;
+        print_both(rt, n, hash, name, flat, dense)?;
     }
+    Ok(())
+}
+
+fn report_flat<F: Map>(rt: &HostRuntime, n: usize, hash: &str) -> io::Result<()> {
+    let keys = Keys::new(rt.alloc(), n)?;
     for (call, name) in CALLS {
-        let flat = least_time::<FlatNumbers<Direct>>(rt, &numbers, call)?;
-        print_flat(rt, n, "direct", name, flat)?;
-    }
-    let (bytes, strings) = (Keys::new(rt.alloc(), n)?, Keys::new(rt.alloc(), n)?);
-    for (call, name) in CALLS {
-        let flat = least_time::<FlatTexts>(rt, &bytes, call)?;
-        let dense = least_time::<DenseTexts>(rt, &strings, call)?;
-        print_both(rt, n, "text", name, flat, dense)?;
+        let flat = least_time::<F>(rt, &keys, call)?;
+        print_flat(rt, n, hash, name, flat)?;
     }
     Ok(())
 }
