@@ -11,7 +11,9 @@
 //! - for groups within a budget, of which there are a fifth as many as rows, a budget that holds
 //!   them all. Their runs stand in memory, or in a folder;
 //! - for texts without case, the same texts with case;
-//! - for a rollup of two columns, its three groupings by commands of their own.
+//! - for a rollup of two columns, its three groupings by commands of their own;
+//! - for reports, which are rows of three columns, with four aggregates: the same with one and with
+//!   two, and for those within a budget a budget that holds all groups.
 //!
 //! The arguments are numbers of rows, and before them may stand what is measured alone. Without any
 //! the program says so, and measures nothing. What it prints rests on the machine: no contract
@@ -39,7 +41,7 @@ use std::{env, io};
 const MOST_ROWS: usize = 8_000_000;
 
 const USAGE: &str = "usage: gq_bench [WORKS] ROWS.. (as 10000 1000000): times of an engine
-  WORKS is tables, groups, budgets, cases or totals, or the name of one work, as 'count, where'; without it, all
+  WORKS is tables, groups, budgets, cases, totals or reports, or one work's name, as 'count, where'; without it, all
   budgets keeps runs in a folder of its own below TMPDIR, or else below /tmp, and removes it";
 
 fn main(rt: HostRuntime) -> io::Result<()> {

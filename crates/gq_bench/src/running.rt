@@ -22,15 +22,16 @@ pub(crate) fn time_task(
     time_scripts(rt, &scripts, GREATEST, MemStore::new(rt.alloc()))
 }
 
-/// A count for an engine with a budget of so many groups.
+/// A task for an engine with a budget of so many groups.
 pub(crate) fn time_within(
     rt: &HostRuntime,
+    task: Task,
     groups: u32,
     place: Place,
     shape: Shape,
     rows: usize,
 ) -> io::Result<Timing> {
-    let scripts = Task::Count.scripts(rt.alloc(), shape, rows)?;
+    let scripts = task.scripts(rt.alloc(), shape, rows)?;
     match place {
         Place::Memory => time_scripts(rt, &scripts, groups, MemStore::new(rt.alloc())),
         Place::Folder => time_in_folder(rt, &scripts, groups),

@@ -1,5 +1,5 @@
 //! Rows and keys as CSV texts, and as scripts.
-use crate::shape::Shape;
+use crate::shape::{Shape, report_number};
 use gq_row::Kind;
 use std::alloc::AllocError;
 
@@ -34,6 +34,30 @@ pub(crate) fn push_wide(out: &mut Vec<u8>, shape: Shape, rows: usize) -> Result<
         push_number(out, row as u64 % 7)?;
         out.push(b',')?;
         push_number(out, row as u64)?;
+        out.push(b'\n')?;
+    }
+    out.extend_from_slice(b"\\.\n")
+}
+
+/// The line that makes the table `s` of reports: a number of its own for each, a city, and another number.
+fn create_reports(shape: Shape) -> &'static [u8] {
+    match shape.kind {
+        Kind::Int => b"create s (id int, city int, x int)\n",
+        Kind::Text => b"create s (id int, city text, x int)\n",
+        Kind::NoCase => b"create s (id int, city text nocase, x int)\n",
+    }
+}
+
+/// Appends what makes that table and loads the rows into it, with their keys as cities.
+pub(crate) fn push_reports(out: &mut Vec<u8>, shape: Shape, rows: usize) -> Result<(), AllocError> {
+    out.extend_from_slice(create_reports(shape))?;
+    out.extend_from_slice(b"load s\nid,city,x\n")?;
+    for row in 0..rows {
+        push_number(out, row as u64)?;
+        out.push(b',')?;
+        push_key(out, shape, shape.key_of(row, rows))?;
+        out.push(b',')?;
+        push_number(out, report_number(row))?;
         out.push(b'\n')?;
     }
     out.extend_from_slice(b"\\.\n")

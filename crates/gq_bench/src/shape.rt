@@ -96,6 +96,11 @@ pub(crate) const FIFTHS: [Shape; 2] = [
     },
 ];
 
+/// The number in a report, from 0 to 999: they come in no order.
+pub(crate) fn report_number(row: usize) -> u64 {
+    ((row as u64).wrapping_mul(STRIDE) >> 16) % 1000
+}
+
 impl Shape {
     /// How many keys there are among so many rows.
     pub(crate) fn keys(&self, rows: usize) -> usize {

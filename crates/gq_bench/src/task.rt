@@ -1,5 +1,5 @@
 //! What an engine is asked to do.
-use crate::script::{create_rows, push_keys, push_load, push_upserts, push_wide};
+use crate::script::{create_rows, push_keys, push_load, push_reports, push_upserts, push_wide};
 use crate::shape::Shape;
 use std::alloc::{AllocError, Global};
 
@@ -30,6 +30,12 @@ pub(crate) enum Task {
     Rollup,
     /// The same of the three groupings of that rollup, by a command each.
     Levels,
+    /// Reports counted by their cities.
+    OneAggregate,
+    /// The same with the sum of their numbers.
+    TwoAggregates,
+    /// The same with the least and the greatest number, too.
+    FourAggregates,
 }
 
 /// The script that makes what a task is about, and the one that asks for it.
@@ -72,6 +78,9 @@ impl Task {
                 push_keys(out, shape, rows)
             }
             Task::Wide | Task::Rollup | Task::Levels => push_wide(out, shape, rows),
+            Task::OneAggregate | Task::TwoAggregates | Task::FourAggregates => {
+                push_reports(out, shape, rows)
+            }
         }
     }
 
@@ -91,6 +100,9 @@ impl Task {
 group t by k show count(*), sum(v), min(v), max(v)
 group t by k, b show count(*), sum(v), min(v), max(v)
 ",
+            Task::OneAggregate => b"group s by city show count(*)\n",
+            Task::TwoAggregates => b"group s by city show count(*), sum(x)\n",
+            Task::FourAggregates => b"group s by city show count(*), sum(x), min(x), max(x)\n",
         };
         out.extend_from_slice(line)
     }

@@ -16,15 +16,21 @@ pub(crate) enum Topic {
     Cases,
     /// Groups by two columns with four aggregates, and totals.
     Totals,
+    /// Groups of reports with one, two and four aggregates, all kept in memory.
+    Reports,
+    /// Groups of reports with four aggregates, within budgets.
+    ReportBudgets,
 }
 
 /// All of them.
-pub(crate) const TOPICS: [Topic; 5] = [
+pub(crate) const TOPICS: [Topic; 7] = [
     Topic::Tables,
     Topic::Groups,
     Topic::Budgets,
     Topic::Cases,
     Topic::Totals,
+    Topic::Reports,
+    Topic::ReportBudgets,
 ];
 
 const TABLES: [(Work, &str); 6] = [
@@ -60,34 +66,52 @@ const TOTALS: [(Work, &str); 3] = [
     (Work::Run(Task::Rollup), "rollup"),
 ];
 
+const REPORTS: [(Work, &str); 3] = [
+    (Work::Run(Task::OneAggregate), "one aggregate"),
+    (Work::Run(Task::TwoAggregates), "two aggregates"),
+    (Work::Run(Task::FourAggregates), "four aggregates"),
+];
+
+const REPORT_BUDGETS: [(Work, &str); 2] = [
+    (
+        Work::Within(Task::FourAggregates, GREATEST, Place::Memory),
+        "four, budget 1048576",
+    ),
+    (
+        Work::Within(Task::FourAggregates, 10_000, Place::Memory),
+        "four, budget 10000",
+    ),
+];
+
 const BUDGETS: [(Work, &str); 6] = [
     (
-        Work::CountWithin(GREATEST, Place::Memory),
+        Work::Within(Task::Count, GREATEST, Place::Memory),
         "budget 1048576, memory",
     ),
     (
-        Work::CountWithin(65_536, Place::Memory),
+        Work::Within(Task::Count, 65_536, Place::Memory),
         "budget 65536, memory",
     ),
     (
-        Work::CountWithin(10_000, Place::Memory),
+        Work::Within(Task::Count, 10_000, Place::Memory),
         "budget 10000, memory",
     ),
     (
-        Work::CountWithin(GREATEST, Place::Folder),
+        Work::Within(Task::Count, GREATEST, Place::Folder),
         "budget 1048576, folder",
     ),
     (
-        Work::CountWithin(65_536, Place::Folder),
+        Work::Within(Task::Count, 65_536, Place::Folder),
         "budget 65536, folder",
     ),
     (
-        Work::CountWithin(10_000, Place::Folder),
+        Work::Within(Task::Count, 10_000, Place::Folder),
         "budget 10000, folder",
     ),
 ];
 
 impl Topic {
+    /// Its name. Topics of one name are chosen together.
     pub(crate) fn name(self) -> &'static str {
         match self {
             Topic::Tables => "tables",
@@ -95,6 +119,7 @@ impl Topic {
             Topic::Budgets => "budgets",
             Topic::Cases => "cases",
             Topic::Totals => "totals",
+            Topic::Reports | Topic::ReportBudgets => "reports",
         }
     }
 
@@ -106,6 +131,8 @@ impl Topic {
             Topic::Budgets => &BUDGETS,
             Topic::Cases => &CASE_WORKS,
             Topic::Totals => &TOTALS,
+            Topic::Reports => &REPORTS,
+            Topic::ReportBudgets => &REPORT_BUDGETS,
         }
     }
 
@@ -117,6 +144,8 @@ impl Topic {
             Topic::Budgets => &FIFTHS,
             Topic::Cases => &CASES,
             Topic::Totals => &SHAPES,
+            Topic::Reports => &SHAPES,
+            Topic::ReportBudgets => &FIFTHS,
         }
     }
 }

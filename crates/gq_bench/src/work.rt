@@ -30,8 +30,8 @@ pub(crate) enum Work {
     Insert,
     /// What an engine does with the greatest budget, and with its runs in memory.
     Run(Task),
-    /// The rows of a table without a key counted by their keys, with at most so many groups at once.
-    CountWithin(u32, Place),
+    /// What an engine does with at most so many groups at once.
+    Within(Task, u32, Place),
 }
 
 /// Does a work on so many rows, once. What it works on is made before the clock starts.
@@ -42,6 +42,6 @@ pub(crate) fn time(rt: &HostRuntime, work: Work, shape: Shape, rows: usize) -> i
         Work::Find => time_find(rt, shape, rows),
         Work::Insert => time_insert(rt, shape, rows),
         Work::Run(task) => time_task(rt, task, shape, rows),
-        Work::CountWithin(groups, place) => time_within(rt, groups, place, shape, rows),
+        Work::Within(task, groups, place) => time_within(rt, task, groups, place, shape, rows),
     }
 }
