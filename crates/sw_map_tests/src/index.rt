@@ -32,17 +32,31 @@ fn keeps_all<H: KeyHash<u64> + Drop>(
     let mut index = Index::new(alloc, hasher);
     for place in 0..count {
         expect(rt, number_of(&mut index, key_at(place))?, place as usize);
-        expect(rt, number_of(&mut index, key_at(place / 2))?, (place / 2) as usize);
+        expect(
+            rt,
+            number_of(&mut index, key_at(place / 2))?,
+            (place / 2) as usize,
+        );
     }
     expect(rt, index.len(), count as usize);
     for place in 0..count {
-        assert!(rt; matches!(index.find(&key_at(place)), Found::At(n) if n == place as usize), "place {place}");
+        assert!(rt;
+            matches!(index.find(&key_at(place)), Found::At(n) if n == place as usize),
+            "place {place}"
+        );
         let other = key_at(place).wrapping_add(1);
-        assert!(rt; matches!(index.find(&other), Found::Absent(_)), "key {other}");
+        assert!(rt;
+            matches!(index.find(&other), Found::Absent(_)),
+            "key {other}"
+        );
     }
     let keys = index.into_keys();
     for place in 0..count {
-        expect(rt, keys[place as usize], key_at(place));
+        let there = keys.get(place as usize);
+        assert!(rt;
+            matches!(there, Some(key) if *key == key_at(place)),
+            "place {place}"
+        );
     }
     Ok(())
 }
@@ -89,8 +103,18 @@ fn names_in_a_room(rt: HostRuntime) -> Result<(), Fail> {
     assert!(&rt; index.room() >= 1_000, "the room that was made");
     expect(&rt, index.len(), 4);
     assert!(&rt; matches!(index.find(&ByteKey(b"bgo")), Found::At(2)), "bgo");
-    assert!(&rt; matches!(index.find(&ByteKey(b"")), Found::At(1)), "the empty name");
-    assert!(&rt; matches!(index.find(&ByteKey(b"trd")), Found::Absent(_)), "trd");
-    expect(&rt, index.keys()[3].as_slice() == b"svg".as_slice(), true);
+    assert!(&rt;
+        matches!(index.find(&ByteKey(b"")), Found::At(1)),
+        "the empty name"
+    );
+    assert!(&rt;
+        matches!(index.find(&ByteKey(b"trd")), Found::Absent(_)),
+        "trd"
+    );
+    let last = index.keys().get(3);
+    assert!(&rt;
+        matches!(last, Some(name) if name.as_slice() == b"svg".as_slice()),
+        "the last"
+    );
     Ok(())
 }
