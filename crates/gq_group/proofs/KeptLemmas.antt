@@ -1,13 +1,12 @@
 -- Groups whose keys stand in one list and their aggregates in another: the finite map of them, with one group more, or with one changed.
 use Rattle.std.proofs.Common.{◌≡◌, ℕ, suc, zero, ◌+◌, ◌*◌, ◌≤◌, ◌<◌, Bool, true, false, cond, List, [], ◌∷◌, ◌++◌, length, map, Option, Some, None, refl, sym, ap, subst, ◌∙◌, arith, true≢false, inl, inr, length-append}
-use Rattle.std.specs.Prelude.{is_some, IsSome}
+use Rattle.std.specs.Prelude.{is_some}
 use Rattle.std.specs.Option.{option_map}
 use Rattle.std.specs.List.{AllByRecursion, slice_get}
 use Rattle.std.specs.Cmp.Lexicographic.{nat_list_cmp_total}
 use Rattle.std.specs.FinMap.{insert, get, len, empty, contains_key, same_map, get-empty, get-insert, len-empty, len-insert}
 use Rattle.std.proofs.lemmas.Bool.{cases_lt}
 use Rattle.std.proofs.lemmas.List.{length-map, map-append}
-use Rattle.sw_table.specs.Entries.{Entries}
 use Rattle.sw_flat.specs.Maps.{ListsAll}
 use Rattle.sw_flat.proofs.Classes.{same, same_is, same_itself, some_is, none_some, exact}
 use Rattle.sw_index.specs.Index.{AreDifferent, HasNone, IsFound, IsAbsent}
@@ -16,10 +15,9 @@ use Rattle.sw_index.specs.declared.found.Found.{Found}
 use Rattle.sw_index.specs.declared.found.Found.TheVariants.{At, Absent}
 use Rattle.gq_row.specs.declared.value.Value.{Value}
 use Rattle.gq_row.specs.Classes.{class_of}
-use Rattle.gq_row.proofs.ClassLemmas.{class_tells}
 use Rattle.gq_agg.specs.Running.{Running}
 use Rattle.gq_group.specs.Entries.{Pair, listed}
-use Rattle.gq_group.specs.Maps.{Start, chunk, pair_at, starts_from, pairs_from, AreKept, NoneShared, AreLaid, IsGroup, IsNoGroup}
+use Rattle.gq_group.specs.Maps.{Start, chunk, pair_at, starts_from, pairs_from, AreKept, NoneShared, IsGroup, IsNoGroup}
 use Rattle.gq_group.proofs.ChunkLemmas.{chunk-append, chunk-last, pairs-other, Written}
 use Rattle.gq_group.proofs.MapGroups.{listed_first}
 
@@ -138,10 +136,6 @@ times_le zero (suc n) w h = omega (arith, times_none w, times_more n w)
 times_le (suc i) (suc n) w h = let step = times_le i n w (omega (arith, h)) in omega (arith, step, times_more i w, times_more n w)
 
 module _ (each : ℕ) where
-  starts_keys : (at : ℕ) (keys : List (List Value)) → map (λ (s : Start). s.0) (starts_from each at keys) ≡ keys
-  starts_keys at [] = refl
-  starts_keys at (k ∷ keys) = ap (λ l. k ∷ l) (starts_keys (at + each) keys)
-
   length-starts : (at : ℕ) (keys : List (List Value)) → length (starts_from each at keys) ≡ length keys
   length-starts at [] = refl
   length-starts at (k ∷ keys) = ap (λ n. suc n) (length-starts (at + each) keys)
@@ -326,8 +320,8 @@ module _ (each : ℕ) (keys : List (List Value)) (xs : List Running) where
           let known = start_tells each 0 keys there.0 s there.1 in
           let begins : s.1 ≡ there.0 * each = omega (arith, known.1) in
           let apart = apart_at each n there.0 a s.1 is begins (λ same_number.
-              let one : k ≡ s.0 = some_is k s.0 (sym at ∙ ap (slice_get keys) same_number ∙ known.0) in
-              true≢false (sym (same_itself c (class_of k) (sym there.2 ∙ ap class_of (sym one))) ∙ diff)) in
+          let one : k ≡ s.0 = some_is k s.0 (sym at ∙ ap (slice_get keys) same_number ∙ known.0) in
+          true≢false (sym (same_itself c (class_of k) (sym there.2 ∙ ap class_of (sym one))) ∙ diff)) in
           ap (λ l. Some (s.0, l)) (put.others s.1 apart)
 
       told : (c : List ℕ) (b : Bool) → same c (class_of k) ≡ b → option_map (pair_at each ys) (get (listed starts) c) ≡ cond b (Some (k, now)) (option_map (pair_at each xs) (get (listed starts) c))

@@ -15,7 +15,6 @@ use Rattle.gq_row.specs.Classes.{class_of}
 use Rattle.gq_row.specs.Rows.{key_of}
 use Rattle.gq_row.specs.Order.{same_key}
 use Rattle.gq_row.specs.Tables.{keys, of_key}
-use Rattle.gq_agg.specs.Running.{Running}
 use Rattle.gq_spill.specs.Runs.{Runs}
 use Rattle.gq_spill.specs.Writing.{Writing}
 use Rattle.gq_group.specs.Entries.{listed, Pair, tallies, group_at}

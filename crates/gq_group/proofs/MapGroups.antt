@@ -1,17 +1,16 @@
 -- Groups in a map: one row more, and the list of all.
 use Rattle.std.proofs.Common.{◌≡◌, ◌==◌, ℕ, suc, ◌+◌, ◌≤◌, Bool, true, false, cond, ◌||◌, List, [], ◌∷◌, ◌++◌, length, map, Option, Some, None, refl, sym, ap, subst, ◌∙◌, arith, count_by, IsPermutation, true≢false, append-nil, inl, inr, Result, Ok, Err}
 use Rattle.std.specs.Prelude.{is_some, IsSome, OnOk, IfOk}
-use Rattle.std.specs.Option.{option_map_or}
 use Rattle.std.specs.List.{AllByRecursion, list_any, slice_get}
 use Rattle.std.specs.Cmp.Lexicographic.{nat_list_cmp_total}
-use Rattle.std.specs.FinMap.{insert, get, len, from_entries, contains_key, empty, get-empty, get-insert, len-empty, len-insert}
+use Rattle.std.specs.FinMap.{insert, get, len, contains_key, empty, get-empty, get-insert, len-empty, len-insert}
 use Rattle.std.proofs.lemmas.Bool.{cases_lt, or_parts, or_from}
 use Rattle.std.proofs.lemmas.List.Folds.{list_any-append}
 use Rattle.std.proofs.lemmas.List.{map-append, nil_from_length}
 use Rattle.std.proofs.lemmas.Bool.Decides.{nat_tests}
 use Rattle.std.proofs.lemmas.List.Sums.{sum_by-cons}
 use Rattle.sw_table.specs.Entries.{Entries}
-use Rattle.sw_flat.specs.Maps.{ListsAll, stored_key}
+use Rattle.sw_flat.specs.Maps.{ListsAll}
 use Rattle.sw_flat.proofs.Classes.{same, same_is, same_itself, some_is}
 use Rattle.gq_row.specs.declared.value.Value.{Value}
 use Rattle.gq_row.specs.Classes.{class_of}
@@ -189,13 +188,6 @@ grouped-start_alone spec m none put k =
     ∙ get-insert nat_list_cmp_total nothing (class_of []) ([], tallies spec.aggs []) (class_of k)
     ∙ alone_at (tallies spec.aggs []) k (same_key k []) refl
     ∙ sym (ap (λ l. cond {A = Option Pair} (list_any (same_key k) (keys_of l [])) (Some (k, tallies spec.aggs [])) None) by)
-
--- the first entry of an empty map
-pub put_alone : {V : Type 0} (m n : Entries (List Value) V) (k : List Value) (v : V) → m ≡ empty → k ≡ [] → n ≡ insert m (class_of k) (stored_key m (class_of k) k, v) → n ≡ insert empty (class_of []) ([], v)
-put_alone {V} m n k v none is put =
-    put
-    ∙ (λ i. insert (none i) (class_of (is i)) (stored_key (none i) (class_of (is i)) (is i), v))
-    ∙ ap (λ x. insert empty (class_of []) (x, v)) (ap (λ (o : Option (List Value × V)). option_map_or (λ (p : List Value × V). p.0) o []) (get-empty _ (class_of [])))
 
 -- ---- the entries as a list that names no class twice
 

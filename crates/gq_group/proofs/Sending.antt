@@ -9,7 +9,6 @@ use Rattle.gq_row.specs.declared.value.Value.{Value}
 use Rattle.gq_row.specs.Classes.{class_of}
 use Rattle.gq_row.specs.Tables.{of_key}
 use Rattle.gq_agg.specs.declared.kind.AggKind.{AggKind}
-use Rattle.gq_agg.specs.Running.{Running}
 use Rattle.gq_group.specs.Entries.{listed, Pair, tallies, Grouped, AreTallied, Sent}
 use Rattle.gq_group.specs.Groups.{Spec, Group, keys_of, group_of, answers, answered, groups, is_none, out_of_range}
 use Rattle.gq_group.proofs.MapGroups.{all_tallied, all_keys}

@@ -1,7 +1,7 @@
 -- Groups in the order in which their keys came: the keys in one list, and their running aggregates in another.
 use Rattle.std.specs.Prelude.{◌≡◌, ◌+◌, ◌*◌, ◌≤◌, ◌⊎◌, ℕ, true, List, [], ◌∷◌, length, take, drop, map, Some, None, IsSome}
 use Rattle.std.specs.FinMap.{get}
-use Rattle.std.specs.List.{AllByRecursion, list_any, slice_get}
+use Rattle.std.specs.List.{list_any, slice_get}
 use Rattle.sw_index.specs.Index.{AreDifferent}
 use Rattle.sw_index.specs.declared.found.Absence.{Absence}
 use Rattle.sw_index.specs.declared.found.Found.{Found}
@@ -48,11 +48,6 @@ pub record AreKept (each : ℕ) (running : List Running) (keys : List (List Valu
 -- two groups have no place of the list together
 abbrev pub NoneShared : ℕ → ℕ → ℕ → Type 0
 NoneShared each a b = (a + each ≤ b) ⊎ (b + each ≤ a)
-
--- no two of some groups have one, and all stand in the list
-abbrev pub AreLaid : ℕ → ℕ → List Start → Type 0
-AreLaid each count [] = Unit {0}
-AreLaid each count (s ∷ starts) = (s.1 + each ≤ count) × AllByRecursion (λ (t : Start). NoneShared each s.1 t.1) starts × AreLaid each count starts
 
 -- a number that was found is that of the group of a class
 abbrev pub IsGroup : List Pair → List ℕ → Found → Type 0

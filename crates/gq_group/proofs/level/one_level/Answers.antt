@@ -2,7 +2,7 @@ use Rattle.std.proofs.Common.{◌≡◌, [], rules, ◌∙◌, sym, ap, subst, a
 use Rattle.std.specs.FinMap.{len}
 use Rattle.gq_group.specs.Entries.{listed}
 use Rattle.sw_table.specs.LaidOut.{hash_by}
-use Rattle.gq_row.specs.Classes.{class_of, bytes_of}
+use Rattle.gq_row.specs.Classes.{bytes_of}
 use Rattle.gq_group.specs.Access.{LeavesOthers, KeepsOwn, Apart, either}
 use Rattle.gq_group.specs.Entries.{Grouped}
 use Rattle.gq_group.specs.Groups.{out_of_range}

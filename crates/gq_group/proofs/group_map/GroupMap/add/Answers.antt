@@ -52,8 +52,7 @@ add_cells-requires-clause-tallied g c =
     let p : Pair = (key_of c.args.spec.now.by c.args.row.now, tallies c.args.spec.now.aggs c.requires.tallied.0) in
     let there = subst (λ (v : MapView _). slice_get v.pairs c.args.number ≡ Some p) (sym c.self.view_is) c.requires.tallied.2 in
     let it = reads_at own.each own.running.items own.index.keys c.args.number p c.self.invariant there in
-    let k_is : n + own.each - n ≡ own.each = omega arith in
-    (
+    let k_is : n + own.each - n ≡ own.each = omega arith in (
       c.requires.tallied.0,
       c.requires.tallied.1,
       (λ i. take (k_is i) (drop n (c.deref_mut.ensures.value i))) ∙ it.its ∙ ap (λ asked. tallies asked c.requires.tallied.0) (sym c.aggs.ensures),

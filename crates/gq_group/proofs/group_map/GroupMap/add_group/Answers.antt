@@ -1,6 +1,5 @@
-use Rattle.std.proofs.Common.{◌≡◌, ◌∙◌, ◌++◌, ◌∷◌, [], ap, sym, subst, arith, None}
+use Rattle.std.proofs.Common.{◌≡◌, ◌∙◌, ◌++◌, ◌∷◌, [], ap, sym, subst, None}
 use Rattle.std.specs.FinMap.{insert, get}
-use Rattle.std.proofs.lemmas.Grind.{common_steps}
 use Rattle.sw_table.specs.LaidOut.{hash_by}
 use Rattle.gq_row.specs.Classes.{class_of, bytes_of}
 use Rattle.gq_row.specs.Rows.{key_of}

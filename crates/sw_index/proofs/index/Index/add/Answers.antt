@@ -1,9 +1,9 @@
-use Rattle.std.proofs.Common.{◌≡◌, ◌∷◌, ◌++◌, [], length, ap, sym, subst, ◌∙◌, rules}
+use Rattle.std.proofs.Common.{sym, subst, ◌∙◌}
 use Rattle.sw_table.specs.Entries.{entries}
 use Rattle.sw_table.specs.LaidOut.{hash_by}
 use Rattle.sw_index.specs.Index.{IndexView, IsIndexed, IsAbsence, class_of_number}
 use Rattle.sw_index.specs.declared.numbered.Numbered.{Numbered}
-use Rattle.sw_index.proofs.NumberLemmas.{indexed-more, no_number}
+use Rattle.sw_index.proofs.NumberLemmas.{indexed-more}
 use Rattle.sw_index.proofs.index.Index.add.Goals as goal
 
 pub invariant_of-self-in-Ok : goal.invariant_of-self-in-Ok

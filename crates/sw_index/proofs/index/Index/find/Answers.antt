@@ -1,5 +1,4 @@
-use Rattle.std.proofs.Common.{◌≡◌, ◌∷◌, [], Some, ap, sym, subst, ◌∙◌, ℕ, List}
-use Rattle.std.specs.List.{slice_get}
+use Rattle.std.proofs.Common.{ap, sym, subst, ◌∙◌}
 use Rattle.std.specs.FinMap.{get}
 use Rattle.sw_table.specs.Entries.{entries}
 use Rattle.sw_table.specs.LaidOut.{hash_by}
