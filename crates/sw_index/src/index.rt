@@ -56,7 +56,8 @@ impl<K: Keyed, H: KeyHash<K>> Index<K, H> {
         self.keys.len()
     }
 
-    /// How many keys there may be before the table of numbers grows.
+    /// How many keys there may be before the table of numbers grows. It is for who makes room in time;
+    /// no clause speaks of it.
     #[inline]
     pub fn room(&self) -> usize {
         self.numbers.room()
