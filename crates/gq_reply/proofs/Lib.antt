@@ -1,3 +1,4 @@
+pub mod BareLemmas
 pub mod StepLemmas
 pub mod Texts
 mod Vectors

@@ -3,4 +3,5 @@ pub mod Replies
 pub mod Refusals
 pub mod Outcomes
 -- contracts of single functions
+pub mod Bare
 pub mod Records

@@ -13,6 +13,7 @@
 //! there is one.
 #![tactic(auto)]
 
+mod bare;
 mod refusal;
 mod reply;
 mod reply_line;

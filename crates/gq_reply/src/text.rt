@@ -1,9 +1,11 @@
 //! The text of replies, rows as CSV records.
-ghost use Rattle.std.specs.Prelude.{◌≡◌, ◌∷◌, ◌++◌, [], ℕ, List, IfOk, OnOk, map};
+ghost use Rattle.std.specs.Prelude.{◌≡◌, ◌≤◌, ◌∷◌, ◌++◌, [], ℕ, List, IfOk, OnOk, length, map, take};
 ghost use Rattle.csv.specs.Records.{fields_of, partial_of};
+ghost use Rattle.gq_reply.specs.Bare.{records};
 ghost use Rattle.gq_reply.specs.Records.{HasWritten};
-ghost use Rattle.gq_reply.specs.Replies.{text, cell_text, record_text};
+ghost use Rattle.gq_reply.specs.Replies.{accepted, text, cell_text, record_text};
 
+use crate::bare::write_bare_rows;
 use crate::reply::Reply;
 use crate::reply_line::{accepted_line, line_of};
 use csv::{ByteRecord, Writer, WriterBuilder};
@@ -26,15 +28,50 @@ pub fn reply_text(alloc: Global, reply: &Reply) -> Result<Vec<u8>, AllocError>
 pub fn rows_text(alloc: Global, header: &Sequence<Text>, rows: &Rows) -> Result<Vec<u8>, AllocError>
     ensures { IfOk result (λ bytes. bytes.items ≡ text (Reply.Rows header.now rows.now)) }
 {
-    let front = Vec::from_slice(alloc, accepted_line(rows.len() as u64).as_slice())?;
+    let mut text = head_text(alloc, header, rows.len() as u64)?;
+    let written = write_bare_rows(&mut text, rows)?;
+    if written == rows.len() {
+        return Ok(text);
+    }
+    with_records(alloc, text, rows, written)
+}
+
+// The text before the rows: `ok` with their number, and the header.
+fn head_text(alloc: Global, header: &Sequence<Text>, rows: u64) -> Result<Vec<u8>, AllocError>
+    ensures { IfOk result (λ bytes. bytes.items ≡ accepted rows ++ record_text header.now) }
+{
+    let front = Vec::from_slice(alloc, accepted_line(rows).as_slice())?;
     let mut writer = WriterBuilder::new().from_writer(front);
     let mut line = ByteRecord::new(alloc);
     fill_header(&mut line, header.as_slice())?;
     write_record(&mut writer, &line)?;
-    for i in 0..rows.len() {
+    whole_text(writer)
+}
+
+// A text with the records of rows behind it, from the row at a position on.
+fn with_records(
+    alloc: Global,
+    text: Vec<u8>,
+    rows: &Rows,
+    from: usize,
+) -> Result<Vec<u8>, AllocError>
+    requires { from ≤ length rows.now }
+    ensures { (front : List ℕ) → text.items ≡ front ++ records (take from rows.now)
+        → IfOk result (λ bytes. bytes.items ≡ front ++ records rows.now) }
+{
+    let mut writer = WriterBuilder::new().from_writer(text);
+    let mut line = ByteRecord::new(alloc);
+    for i in from..rows.len() {
         fill_row(&mut line, rows.row(i))?;
         write_record(&mut writer, &line)?;
     }
+    whole_text(writer)
+}
+
+// What a writer wrote.
+fn whole_text(writer: Writer<Vec<u8>>) -> Result<Vec<u8>, AllocError>
+    ensures { (bytes : List ℕ) → HasWritten writer bytes → IfOk result (λ text. text.items ≡ bytes) }
+{
     match writer.into_inner() {
         Ok(text) => Ok(text),
         Err(_e) => Err(AllocError),

@@ -1,0 +1,6 @@
+use Rattle.std.proofs.Common.{◌≡◌, ◌++◌, List, ℕ, take}
+use Rattle.gq_reply.specs.Bare.{records}
+use Rattle.gq_reply.proofs.bare.write_block.Given as goal
+
+abbrev pub invariant-loop-i : goal.invariant-loop-i
+invariant-loop-i l = (front : List ℕ) → l.fn.text.items ≡ front ++ records (take l.start l.rows) → l.text.items ≡ front ++ records (take l.i l.rows)

@@ -1,0 +1,29 @@
+-- Rows that are written without a look for bytes that call for quotes.
+use Rattle.std.specs.Prelude.{◌≡◌, ◌<◌, ◌≤◌, ℕ, Bool, true, false, List, [], length, map, flat_map, slice_index_or}
+use Rattle.std.specs.List.{list_all}
+use Rattle.gq_row.specs.declared.value.Value.{Value}
+use Rattle.gq_row.specs.declared.value.Value.TheVariants.{Null, Int, Text, NoCase}
+use Rattle.gq_reply.specs.Replies.{cell_text, record_text}
+
+-- whether a value is no text
+abbrev pub is_bare : Value → Bool
+is_bare Null = true
+is_bare (Int n) = true
+is_bare (Text t) = false
+is_bare (NoCase t) = false
+
+-- a row has a value, and none of its values is a text
+abbrev pub IsBare : List Value → Type 0
+IsBare row = (0 < length row) × (list_all is_bare row ≡ true)
+
+-- so has each row from one position up to another
+abbrev pub AreBare : List (List Value) → ℕ → ℕ → Type 0
+AreBare rows start end = (k : ℕ) → start ≤ k → k < end → IsBare (slice_index_or rows k [])
+
+-- the record of a row
+abbrev pub row_record : List Value → List ℕ
+row_record row = record_text (map cell_text row)
+
+-- the records of rows, one after the other
+abbrev pub records : List (List Value) → List ℕ
+records rows = flat_map row_record rows
