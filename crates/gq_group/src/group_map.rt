@@ -85,6 +85,17 @@ impl<H: KeyHash<Key> + Copy> GroupMap<H> {
         })
     }
 
+    // Makes room for the aggregates of so many groups, where there is memory for that. What is not written of it takes
+    // no more than addresses.
+    pub(crate) fn expect(&mut self, groups: usize)
+        ensures { self.new ≡ self.old }
+    {
+        let wanted = groups.saturating_mul(self.each);
+        let _ = self
+            .running
+            .reserve(wanted.saturating_sub(self.running.len()));
+    }
+
     // How many groups there are.
     #[inline]
     pub(crate) fn len(&self) -> usize
@@ -137,8 +148,8 @@ impl<H: KeyHash<Key> + Copy> GroupMap<H> {
         add_cells(&mut self.running[start..end], spec.aggs(), row)
     }
 
-    // Adds the group of a row whose key no row before it has, and makes room for so many groups in
-    // all, where there is memory for that.
+    // Adds the group of a row whose key no row before it has, and makes room for the keys of so many groups
+    // in all, where there is memory for that.
     pub(crate) fn add_group(
         &mut self,
         alloc: Global,
@@ -169,15 +180,11 @@ impl<H: KeyHash<Key> + Copy> GroupMap<H> {
         Ok(())
     }
 
-    // Makes room for so many groups in all, where there is memory for that.
+    // Makes room for the keys of so many groups in all, where there is memory for that.
     fn make_room(&mut self, groups: usize)
         ensures { self.new ≡ self.old }
     {
         self.index.make_room(groups);
-        let wanted = groups.saturating_mul(self.each);
-        let _ = self
-            .running
-            .reserve(wanted.saturating_sub(self.running.len()));
     }
 
     // The groups, to leave one by one.

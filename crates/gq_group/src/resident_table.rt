@@ -53,7 +53,8 @@ impl<H: KeyHash<Key> + Copy> ResidentTable<H> {
         ensures budget { IfOk result (λ table. table.budget ≡ budget) }
         ensures hasher { IfOk result (λ table. table.groups.hasher ≡ hasher) }
     {
-        let groups = GroupMap::start(alloc, hasher, spec)?;
+        let mut groups = GroupMap::start(alloc, hasher, spec)?;
+        groups.expect(expected.min(budget.entries() as usize));
         Ok(ResidentTable {
             groups,
             budget,
