@@ -35,7 +35,7 @@ impl<S: RunStore> RowSource<S> for RunSource {
     }
 
     fn rows_hint(&self) -> usize {
-        0
+        self.reader.left() as usize
     }
 
     ghost own_live = { λ s runs ready run own. ready_live s.reader runs ready run own };

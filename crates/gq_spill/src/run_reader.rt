@@ -1,5 +1,5 @@
 //! Rows from a run.
-ghost use Rattle.std.specs.Prelude.{◌≡◌, ◌+◌, ◌<◌, ◌≤◌, List, length, Some, None, IfOk, IfErr, IfSome, IfNone, OnOk, Err, IsErrOf, IsTrue};
+ghost use Rattle.std.specs.Prelude.{◌≡◌, ◌+◌, ◌-◌, ◌<◌, ◌≤◌, List, length, Some, None, IfOk, IfErr, IfSome, IfNone, OnOk, Err, IsErrOf, IsTrue};
 ghost use Rattle.gq_row.specs.declared.value.Value.{Value as Cell};
 ghost use Rattle.gq_record.specs.Records.{IsStorable};
 ghost use Rattle.gq_spill.specs.Handing.{Gave, taken};
@@ -57,6 +57,14 @@ impl RunReader {
             given: 0,
             refused: None,
         }
+    }
+
+    /// How many rows are still to come, by the mark.
+    #[inline]
+    pub fn left(&self) -> u64
+        ensures { result ≡ self.now.records - self.now.given }
+    {
+        self.records - self.given
     }
 
     // Takes the row that comes next.
