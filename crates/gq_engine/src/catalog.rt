@@ -154,7 +154,7 @@ fn put_row<H: KeyHash<Key> + Copy>(
 {
     let row = table.schema().store(row);
     let taken = table.upsert(row, limits);
-    let _standing = table.rows();
+    let _standing = table.len();
     match taken {
         Ok(()) => Ok(()),
         Err(why) => Err(refused_by_table(why)),
@@ -174,7 +174,7 @@ fn put_rows<H: KeyHash<Key> + Copy>(
     ensures standing { IsStanding table.new }
 {
     let taken = table.load(staged, limits);
-    let _standing = table.rows();
+    let _standing = table.len();
     match taken {
         Ok(()) => Ok(()),
         Err(why) => Err(refused_by_table(why)),
@@ -191,11 +191,11 @@ fn delete_row<H: KeyHash<Key> + Copy>(
 {
     store_key(table.schema(), values);
     if let Err(why) = check_key(table.schema(), values) {
-        let _standing = table.rows();
+        let _standing = table.len();
         return Err(why);
     }
     let found = table.delete(values);
-    let _standing = table.rows();
+    let _standing = table.len();
     Ok(found)
 }
 

@@ -1,7 +1,7 @@
 -- Rows compared and sorted.
-use Rattle.std.proofs.Common.{◌≡◌, ◌<◌, ◌+◌, ℕ, List, [], ◌∷◌, length, map, refl, ap, ap₂, ◌∙◌, arith, Ordering, IsTrue}
+use Rattle.std.proofs.Common.{◌≡◌, ◌<◌, ◌+◌, ℕ, true, All, List, [], ◌∷◌, length, map, refl, ap, ap₂, ◌∙◌, arith, Ordering, IsTrue}
 use Rattle.std.proofs.lemmas.List.{get_or-map, length-map}
-use Rattle.std.specs.Prelude.{Result, Ok, Err, OnOk}
+use Rattle.std.specs.Prelude.{nat_le, ◌&&◌, if◌then◌else◌}
 use Rattle.std.specs.List.Sorted.{IsSortedByKey, IsSortedByClosure}
 use Rattle.std.specs.Fn.{Called}
 use Rattle.std.specs.Ordering.{is_lt, ordering_then}
@@ -10,7 +10,11 @@ use denote.Param.Members.{Mut}
 use denote.Ref.{Bor}
 use Rattle.std.proofs.lemmas.List.Sorted.{ranks_by}
 use Rattle.std.proofs.lemmas.Fn.{always_returns_same}
+use Rattle.std.proofs.lemmas.Bool.Decides.{nat_tests}
+use Rattle.std.proofs.lemmas.List.Elements.{All-head, All-tail}
+use Rattle.gq_row.specs.declared.rows.Span.{Span}
 use Rattle.gq_row.specs.declared.value.Value.{Value}
+use Rattle.gq_row.specs.Lists.{part, IsPart, row_at}
 use Rattle.gq_row.specs.Laws.{IsArranged}
 use Rattle.gq_row.specs.Order.{compare_keys, folded_order, plain_order}
 use Rattle.gq_row.specs.Ordered.{in_order}
@@ -21,6 +25,7 @@ use Rattle.gq_row.proofs.ArrangeLemmas.{in_order-alone, in_order-alone_by_row}
 use Rattle.gq_row.proofs.OrderLemmas.{keys_total}
 use Rattle.gq_table.specs.Standing.{IsStanding}
 use Rattle.gq_query.specs.Answers.{ordered_by, rows_shown}
+use Rattle.gq_query.specs.Spans.{row_in}
 
 -- keys are compared by the folds of the cells: they are folds themselves, and where these tie so do their bytes
 pub keys_by_cells : (columns : List ℕ) (a b : List Value) → compare_keys (key_of columns a) (key_of columns b) ≡ slice_cmp folded_order (cells_in columns a) (cells_in columns b)
@@ -33,10 +38,6 @@ keys_by_cells columns a b = ap₂ ordering_then (once columns) (bytes columns) �
     bytes : (cs : List ℕ) → slice_cmp plain_order (key_of cs a) (key_of cs b) ≡ slice_cmp folded_order (cells_in cs a) (cells_in cs b)
     bytes [] = refl
     bytes (c ∷ cs) = ap (ordering_then (folded_order (cell a c) (cell b c))) (bytes cs)
-
-pub on_ok : {X E : Type 0} {P Q : Type 0} (r : Result X E) → (P → Q) → OnOk r P → OnOk r Q
-on_ok (Ok x) f h = f h
-on_ok (Err e) f h = h
 
 -- what a sort by a closure that compares by a key ensures
 pub sorted_by : {X F : Type 0} {g : Mut F (Bor X × (Bor X × Unit {0})) Ordering} {f : F} (key : X → List Value) (xs : List X) → IsSortedByClosure g f xs
@@ -51,6 +52,15 @@ sorted_map f key [] up = λ k d low high. absurd (omega (arith, high))
 sorted_map f key (x ∷ xs) up = λ k d low high.
     let within : k + 1 < length (x ∷ xs) = omega (arith, high, length-map (x ∷ xs) f) in
     rw (get_or-map f (x ∷ xs) (k + 1) x d within, get_or-map f (x ∷ xs) k x d (omega (arith, within))) (up k x low within)
+
+-- rows stand where their spans lie within the cells
+pub rows_in_are : (cells : List Value) (spans : List Span) → All (IsPart cells) spans → map (row_in cells) spans ≡ map (row_at cells) spans
+rows_in_are cells [] h = refl
+rows_in_are cells (s ∷ spans) h =
+    let first = All-head (IsPart cells) s spans h in
+    let low : nat_le s.start s.end ≡ true = grind (arith, nat_tests, first.0) in
+    let high : nat_le s.end (length cells) ≡ true = grind (arith, nat_tests, first.1) in
+    λ i. (if low i && high i then part cells s.start s.end else []) ∷ rows_in_are cells spans (All-tail (IsPart cells) s spans h) i
 
 -- the rows of a table, sorted, are those that a `show` gives
 pub shown : (table : PlainTable) (sorted : List (List Value)) → IsStanding table → IsArranged (ordered_by table.heading.key) table.rows sorted → sorted ≡ rows_shown table

@@ -11,4 +11,5 @@ pub mod GroupSpans
 pub mod Joining
 pub mod Keeping
 pub mod Sources
+pub mod Spans
 pub mod Spelling

@@ -1,10 +1,11 @@
 //! Rows that are kept.
-ghost use Rattle.std.specs.Prelude.{◌≡◌, ◌+◌, ◌≤◌, ◌<◌, ◌∷◌, [], ℕ, All, IfSome, OnSome, IfNone, List, filter, length, option_copied};
+ghost use Rattle.std.specs.Prelude.{◌≡◌, ◌+◌, ◌≤◌, ◌<◌, ◌∷◌, [], ℕ, true, false, All, IfOk, List, filter, length, option_copied};
 ghost use Rattle.gq_query.specs.Keeping.{AreLong, is_found, is_kept, ours_of};
 
 use gq_row::{Key, Value};
 use gq_select::{Condition, KeySet, Matching, anti_join, filter, semi_join};
-use gq_table::RowIter;
+use gq_table::RowCursor;
+use std::alloc::AllocError;
 use sw_probe::KeyHash;
 
 /// Which rows are kept: those for which a condition is true and, where a match is asked for, which
@@ -44,24 +45,28 @@ impl<'a, H: KeyHash<Key>> Kept<'a, H> {
         }
     }
 
-    /// The next of some rows that is kept. Those before it are passed over.
+    /// Goes on to the next of some rows that is kept, and tells whether there is one. Those before it are
+    /// passed over. Refused for want of memory as the walk is.
     #[inline]
-    pub fn next_of<'b>(&self, rows: &mut RowIter<'b, H>) -> Option<&'b [Value]>
-        requires { AreLong (ours_of (option_copied self.now.matching)) rows.old }
-        ensures kept { IfSome result (λ row. filter (is_kept self.now) rows.old ≡
-            row.now ∷ filter (is_kept self.now) rows.new) }
-        ensures none { IfNone result ((filter (is_kept self.now) rows.old ≡ []) ×
-            (rows.new ≡ [])) }
-        ensures fewer { OnSome result (1 + length rows.new ≤ length rows.old) }
-        ensures long { (columns : List ℕ) → AreLong columns rows.old →
-            IfSome result (λ row. All (λ column. column < length row.now) columns) }
-        ensures left { (columns : List ℕ) → AreLong columns rows.old → AreLong columns rows.new }
+    pub fn advance(&self, rows: &mut RowCursor<'_, H>) -> Result<bool, AllocError>
+        requires { AreLong (ours_of (option_copied self.now.matching)) rows.old.rest }
+        ensures kept { IfOk result (λ found. found ≡ true → filter (is_kept self.now) rows.old.rest ≡
+            rows.new.row ∷ filter (is_kept self.now) rows.new.rest) }
+        ensures none { IfOk result (λ found. found ≡ false →
+            (filter (is_kept self.now) rows.old.rest ≡ []) × (rows.new.rest ≡ [])) }
+        ensures fewer { IfOk result (λ found. found ≡ true →
+            1 + length rows.new.rest ≤ length rows.old.rest) }
+        ensures long { (columns : List ℕ) → AreLong columns rows.old.rest →
+            IfOk result (λ found. found ≡ true →
+            All (λ column. column < length rows.new.row) columns) }
+        ensures left { (columns : List ℕ) → AreLong columns rows.old.rest →
+            AreLong columns rows.new.rest }
     {
-        'rows: while let Some(row) = rows.next() {
-            if self.keeps(row) {
-                return Some(row);
+        'rows: while rows.advance()? {
+            if self.keeps(rows.row()) {
+                return Ok(true);
             }
         }
-        None
+        Ok(false)
     }
 }

@@ -1,26 +1,54 @@
 //! Rows in the order in which queries give them.
 //!
-//! References are sorted, and no row moves: by fronts first, which are made once and compared in place.
-//! What they leave is mostly in order, so that the sort by whole rows behind it is one look over it, and
-//! moves references again among ties alone. Groups keep their fronts, and are sorted where they stand.
-ghost use Rattle.std.specs.Prelude.{◌≡◌, OnOk, map};
+//! Spans are sorted, and no cell moves: by fronts first, which are made once and compared in place. What
+//! they leave is mostly in order, so that the sort by whole rows behind it is one look over it, and moves
+//! spans again among ties alone. Groups keep their fronts, and are sorted where they stand.
+ghost use Rattle.std.specs.Prelude.{◌≡◌, IfOk, IsPermutation, OnOk};
+ghost use Rattle.std.specs.List.Sorted.{IsSortedByKey};
 ghost use Rattle.gq_row.specs.Laws.{IsArranged};
 ghost use Rattle.gq_row.specs.Order.{compare_keys, folded_order};
 ghost use Rattle.gq_row.specs.Rows.{cell, key_of};
 ghost use Rattle.gq_query.specs.Answers.{ordered_by};
+ghost use Rattle.gq_query.specs.Spans.{row_in};
 
 use crate::front::front_in;
-use gq_row::{Value, compare_cells, compare_folded};
+use gq_row::{Rows, Span, Value, compare_cells, compare_folded};
 use std::alloc::AllocError;
 use std::cmp::Ordering;
 
-/// Sorts rows by their keys in some columns, or by all of their values where none are named.
-pub fn sort_rows(rows: &mut Vec<&[Value]>, columns: &[usize]) -> Result<(), AllocError>
-    ensures { OnOk result (IsArranged (ordered_by columns.now)
-        (map (λ row. row.now) rows.old.items) (map (λ row. row.now) rows.new.items)) }
+/// The same rows by their keys in some columns, or by all of their values where none are named.
+pub fn sort_rows(rows: Rows, columns: &[usize]) -> Result<Rows, AllocError>
+    ensures { IfOk result (IsArranged (ordered_by columns.now) rows) }
 {
-    rows.sort_by_cached_key(|row| front_in(columns, row))?;
-    rows.sort_by(|a, b| compare_rows(columns, a, b))
+    let (cells, mut spans) = rows.into_parts();
+    sort_spans(cells.as_slice(), &mut spans, columns)?;
+    Ok(Rows::of(cells, spans))
+}
+
+// Sorts where rows stand likewise.
+fn sort_spans(
+    cells: &[Value],
+    spans: &mut Vec<Span>,
+    columns: &[usize],
+) -> Result<(), AllocError>
+    ensures moved { IsPermutation spans.old.items spans.new.items }
+    ensures ascending { OnOk result (IsSortedByKey
+        (λ span. ordered_by columns.now (row_in cells.now span)) compare_keys spans.new.items) }
+{
+    spans.sort_by_cached_key(|span| front_in(columns, row_in(cells, span)))?;
+    spans.sort_by(|a, b| compare_rows(columns, row_in(cells, a), row_in(cells, b)))
+}
+
+// The row that stands at a span, or none where the span is not of this list.
+#[inline]
+fn row_in<'a>(cells: &'a [Value], span: &Span) -> &'a [Value]
+    ensures { result.now ≡ row_in cells.now span.now }
+{
+    if span.start <= span.end && span.end <= cells.len() {
+        &cells[span.start..span.end]
+    } else {
+        &[]
+    }
 }
 
 fn compare_rows(columns: &[usize], a: &[Value], b: &[Value]) -> Ordering

@@ -56,8 +56,9 @@ fn keys_of<H: KeyHash<Key> + Copy>(
     ensures { IfOk result (AreKeysOf columns.now table.now.rows) }
 {
     let mut keys = KeySet::new(alloc, hasher);
-    for row in table.rows() {
-        keys.add(row, columns)?;
+    let mut rows = table.rows();
+    while rows.advance()? {
+        keys.add(rows.row(), columns)?;
     }
     Ok(keys)
 }

@@ -1,9 +1,9 @@
 //! All rows of a table, in order.
-ghost use Rattle.std.specs.Prelude.{◌≡◌, IfOk, map};
+ghost use Rattle.std.specs.Prelude.{◌≡◌, IfOk};
 ghost use Rattle.gq_query.specs.Answers.{rows_shown};
 
 use crate::ordering::sort_rows;
-use gq_row::{Key, Rows, Value};
+use gq_row::{Key, Rows};
 use gq_table::Table;
 use std::alloc::{AllocError, Global};
 use sw_probe::KeyHash;
@@ -15,34 +15,20 @@ pub fn show_rows<H: KeyHash<Key> + Copy>(
 ) -> Result<Rows, AllocError>
     ensures { IfOk result (λ rows. rows ≡ rows_shown table.now) }
 {
-    let _standing = table.rows();
-    let mut rows = rows_of(alloc, table)?;
-    sort_rows(&mut rows, table.schema().key())?;
-    copies_of(alloc, rows.as_slice(), table.schema().columns().len())
+    let _standing = table.len();
+    let rows = rows_of(alloc, table)?;
+    sort_rows(rows, table.schema().key())
 }
 
-// The rows of a table where they stand.
-fn rows_of<H: KeyHash<Key> + Copy>(
-    alloc: Global,
-    table: &Table<H>,
-) -> Result<Vec<&[Value]>, AllocError>
-    ensures { IfOk result (λ rows. map (λ row. row.now) rows.items ≡ table.now.rows) }
-{
-    let mut rows = Vec::with_capacity(alloc, table.len())?;
-    for row in table.rows() {
-        rows.push(row)?;
-    }
-    Ok(rows)
-}
-
-// Copies of rows that are so wide, in one list.
-fn copies_of(alloc: Global, rows: &[&[Value]], width: usize) -> Result<Rows, AllocError>
-    ensures { IfOk result (λ copies. copies ≡ map (λ row. row.now) rows.now) }
+// Copies of the rows of a table, in one list.
+fn rows_of<H: KeyHash<Key> + Copy>(alloc: Global, table: &Table<H>) -> Result<Rows, AllocError>
+    ensures { IfOk result (λ rows. rows ≡ table.now.rows) }
 {
     let mut copies = Rows::new(alloc);
-    copies.reserve(rows.len(), width)?;
-    for row in rows {
-        copies.push_copy(alloc, row)?;
+    copies.reserve(table.len(), table.schema().columns().len())?;
+    let mut rows = table.rows();
+    while rows.advance()? {
+        copies.push_copy(alloc, rows.row())?;
     }
     Ok(copies)
 }

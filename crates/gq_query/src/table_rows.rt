@@ -6,7 +6,7 @@ use crate::kept::Kept;
 use gq_group::{Refusal, RowSource};
 use gq_row::{Key, Row, Value};
 use gq_spill::RunStore;
-use gq_table::RowIter;
+use gq_table::RowCursor;
 use std::alloc::{AllocError, Global};
 use sw_probe::KeyHash;
 
@@ -15,7 +15,7 @@ use sw_probe::KeyHash;
 #[derive(Drop)]
 pub struct TableRows<'a, H: KeyHash<Key>> {
     pub alloc: Global,
-    pub rows: RowIter<'a, H>,
+    pub rows: RowCursor<'a, H>,
     pub kept: &'a Kept<'a, H>,
     pub columns: &'a [usize],
 }
@@ -76,22 +76,24 @@ impl<'a, H: KeyHash<Key>, S: RunStore> RowSource<S> for TableRows<'a, H> {
 
     ghost owns = { λ s. no_runs };
 
-    ghost is_ready = { λ s runs. AreLong s.columns.now s.rows ×
-        AreLong (ours_of (option_copied s.kept.now.matching)) s.rows };
+    ghost is_ready = { λ s runs. AreLong s.columns.now s.rows.rest ×
+        AreLong (ours_of (option_copied s.kept.now.matching)) s.rows.rest };
 
     ghost gives = { λ s runs rows.
-        rows ≡ map (cells_in s.columns.now) (filter (is_kept s.kept.now) s.rows) };
+        rows ≡ map (cells_in s.columns.now) (filter (is_kept s.kept.now) s.rows.rest) };
 
-    ghost bound = { λ s. length s.rows };
+    ghost bound = { λ s. length s.rows.rest };
 
     ghost makes_runs = { false };
 
     fn next(&mut self, store: &mut S, spare: Row) -> Result<Option<Row>, Refusal> {
         let _ = store;
-        let Some(row) = self.kept.next_of(&mut self.rows) else {
-            return Ok(None);
-        };
-        match cells_of(self.alloc, spare, row, self.columns) {
+        match self.kept.advance(&mut self.rows) {
+            Ok(true) => {}
+            Ok(false) => return Ok(None),
+            Err(_) => return Err(Refusal::Memory),
+        }
+        match cells_of(self.alloc, spare, self.rows.row(), self.columns) {
             Ok(cells) => Ok(Some(cells)),
             Err(_) => Err(Refusal::Memory),
         }
@@ -104,7 +106,7 @@ impl<'a, H: KeyHash<Key>, S: RunStore> RowSource<S> for TableRows<'a, H> {
     ghost own_live = { λ s runs ready run own. none_live runs run own };
 
     ghost has_rows = { λ s runs ready honest.
-        (map (cells_in s.columns.now) (filter (is_kept s.kept.now) s.rows), refl) };
+        (map (cells_in s.columns.now) (filter (is_kept s.kept.now) s.rows.rest), refl) };
 
     ghost stays_ready = { λ s old new kept ready. ready };
 

@@ -45,8 +45,8 @@ span_pushed xs row spans s low high h =
 abbrev pub moved : ℕ → Span → Span
 moved n s = record { start = n + s.start; end = n + s.end }
 
--- one span more is moved in its place
-moved_in_place : {X : Type 0} (f : X → X) (xs : List X) (i : ℕ) (d : X) → i < length xs
+-- one element more is changed in its place
+pub moved_in_place : {X : Type 0} (f : X → X) (xs : List X) (i : ℕ) (d : X) → i < length xs
     → slice_set (map f (take i xs) ++ drop i xs) i (f (get_or (map f (take i xs) ++ drop i xs) i d)) ≡ map f (take (suc i) xs) ++ drop (suc i) xs
 moved_in_place f [] i d h = absurd (omega (arith, h))
 moved_in_place f (x ∷ xs) zero d h = refl

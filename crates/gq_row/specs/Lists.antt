@@ -1,5 +1,5 @@
 -- Rows in one list of cells.
-use Rattle.std.specs.Prelude.{◌-◌, ◌≤◌, ℕ, zero, suc, List, [], ◌∷◌, length, take, drop}
+use Rattle.std.specs.Prelude.{◌-◌, ◌≤◌, ℕ, List, length, take, drop}
 use Rattle.gq_row.specs.declared.rows.Span.{Span}
 use Rattle.gq_row.specs.declared.value.Value.{Value}
 
@@ -14,8 +14,3 @@ IsPart xs span = (span.start ≤ span.end) × (span.end ≤ length xs)
 -- the row that stands there
 abbrev pub row_at : List Value → Span → List Value
 row_at cells span = part cells span.start span.end
-
--- a list cut into so many rows of one length, one behind the other
-unfoldable pub rows_of_length : {X : Type 0} → ℕ → ℕ → List X → List (List X)
-rows_of_length width zero xs = []
-rows_of_length width (suc n) xs = take width xs ∷ rows_of_length width n (drop width xs)

@@ -54,6 +54,14 @@ impl Rows {
         Rows { cells, spans }
     }
 
+    /// The list of all cells, and where in it the rows stand, without a copy.
+    pub fn into_parts(self) -> (Vec<Value>, Vec<Span>)
+        ensures rows { map (row_at result.0.items) result.1.items ≡ self }
+        ensures within { All (IsPart result.0.items) result.1.items }
+    {
+        (self.cells, self.spans)
+    }
+
     /// Makes room for so many rows of so many cells each.
     pub fn reserve(&mut self, rows: usize, width: usize) -> Result<(), AllocError>
         ensures { self.new ≡ self.old }

@@ -1,3 +1,4 @@
+pub mod GridLemmas
 pub mod LoadLemmas
 pub mod MapRows
 pub mod StagedLemmas

@@ -1,7 +1,9 @@
 pub mod Changes
+pub mod Columns
 pub mod Keyed
 pub mod Refusing
 pub mod Staged
 pub mod Standing
 pub mod Stored
+pub mod StoredCells
 pub mod Walking

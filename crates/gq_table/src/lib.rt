@@ -2,8 +2,8 @@
 //!
 //! A [`Table`] has a schema and rows. Where the schema has key columns the rows stand in a flat
 //! map under their keys and nowhere else, so that a row is found by one look-up; else their cells
-//! stand in one list. A row that is put replaces the row of the same key, spelling and all, or is added; a load
-//! puts many, all or none.
+//! stand by columns. A row that is put replaces the row of the same key, spelling and all, or is added; a load
+//! puts many, all or none. A [`RowCursor`] walks over the rows.
 //!
 //! The one contract above this crate: clauses see a table as its heading and the list of its rows,
 //! in some order, and each change is that of plain lists (`put`, `put_all` and `delete` of
@@ -12,6 +12,8 @@
 //! table as it was; a put on a key that is there and a delete take no memory.
 #![tactic(auto)]
 
+mod column_cells;
+mod grid;
 mod keyed;
 mod load;
 mod refusal;
@@ -19,5 +21,6 @@ mod rows;
 mod table;
 
 pub use refusal::TableRefusal;
-pub use rows::{RowIter, Storage};
+pub use grid::Grid;
+pub use rows::{RowCursor, Storage};
 pub use table::Table;

@@ -12,8 +12,9 @@ ghost use Rattle.gq_table.specs.declared.refusal.TableRefusal.TheVariants.{Limit
 use crate::keyed::{delete_keyed, put_keyed, reserve_keyed, row_out};
 use crate::load::load_keyed;
 use crate::refusal::TableRefusal;
-use crate::rows::{RowIter, Storage};
-use gq_row::{Grid, Key, Limits, Row, Schema, Value};
+use crate::grid::Grid;
+use crate::rows::{RowCursor, Storage};
+use gq_row::{Key, Limits, Row, Schema, Value};
 use std::alloc::{AllocError, Global};
 use std::marker::Model;
 use sw_flat::FlatMap;
@@ -82,7 +83,8 @@ impl<H: KeyHash<Key> + Copy> Table<H> {
 
     /// The number of its rows.
     pub fn len(&self) -> usize
-        ensures { result ≡ length self.now.rows }
+        ensures count { result ≡ length self.now.rows }
+        ensures standing { IsStanding self.now }
     {
         match &self.rows {
             Storage::Keyed(map) => {
@@ -105,18 +107,17 @@ impl<H: KeyHash<Key> + Copy> Table<H> {
                 return reserve_keyed(map, self.schema.key(), rows);
             }
             Storage::Listed(list) => {
-                let more = rows.saturating_sub(list.len());
-                return list.reserve(more, self.schema.columns().len());
+                return list.reserve(rows.saturating_sub(list.len()));
             }
         }
     }
 
     /// The rows, each once; those under keys in the order of the slots.
-    pub fn rows(&self) -> RowIter<'_, H>
-        ensures rows { result ≡ self.now.rows }
+    pub fn rows(&self) -> RowCursor<'_, H>
+        ensures rows { result.rest ≡ self.now.rows }
         ensures standing { IsStanding self.now }
     {
-        RowIter::new(&self.rows)
+        RowCursor::new(self.alloc, &self.rows)
     }
 
     /// Replaces the row that has the same key, however that is spelled, or adds the row, which is
@@ -142,7 +143,7 @@ impl<H: KeyHash<Key> + Copy> Table<H> {
     /// Puts a row that fits the columns and has no null in its key, in the place of the row that
     /// has the same key if there is one: the same as [`Table::upsert`] of it. `row` may then hold
     /// any values, and its memory be used for another row: it is exchanged with the row that it
-    /// replaces, or left without values in its memory where the table has no key.
+    /// replaces, or left without its texts where the table has no key.
     pub fn put(&mut self, row: &mut Row, limits: &Limits) -> Result<(), TableRefusal>
         requires fits { IsTrue (fits_columns self.old.heading.columns row.old) }
         requires keyed { has_null self.old.heading.key row.old ≡ false }
@@ -185,7 +186,7 @@ impl<H: KeyHash<Key> + Copy> Table<H> {
                 let Storage::Listed(staged) = rows else {
                     unreachable!()
                 };
-                return load_listed(list, staged, most);
+                return load_listed(self.alloc, list, staged, most);
             }
         }
     }
@@ -219,8 +220,8 @@ fn count_keyed<H: KeyHash<Key>>(map: &FlatMap<Key, Row, H>) -> usize
     map.len()
 }
 
-// Puts a row at the end of a list, where no more than `most` rows then stand there. Its cells move,
-// and its memory is left for another row.
+// Puts a row at the end of a list, where no more than `most` rows then stand there. Its texts move, and
+// its memory is left for another row.
 fn put_listed(
     alloc: Global,
     rows: &mut Grid,
@@ -238,7 +239,7 @@ fn put_listed(
         return Err(TableRefusal::Limit);
     }
     let mut cells = row_out(alloc, row).into_cells();
-    let pushed = rows.push(&mut cells);
+    let pushed = rows.push(alloc, cells.as_mut_slice());
     *row = Row::new(cells);
     match pushed {
         Ok(()) => Ok(()),
@@ -247,7 +248,12 @@ fn put_listed(
 }
 
 // Puts rows at the end of a list, where no more than `most` then stand there: all or none.
-fn load_listed(list: &mut Grid, rows: Grid, most: usize) -> Result<(), TableRefusal>
+fn load_listed(
+    alloc: Global,
+    list: &mut Grid,
+    rows: Grid,
+    most: usize,
+) -> Result<(), TableRefusal>
     requires few { most ≤ 16777216 }
     requires even { All (λ row. All (λ other. length other ≡ length row) list.old) rows }
     ensures ok { OnOk result (list.new ≡ list.old ++ rows) }
@@ -259,11 +265,7 @@ fn load_listed(list: &mut Grid, rows: Grid, most: usize) -> Result<(), TableRefu
     if most < list.len().saturating_add(rows.len()) {
         return Err(TableRefusal::Limit);
     }
-    if list.is_empty() {
-        *list = rows;
-        return Ok(());
-    }
-    match list.append(rows) {
+    match list.append(alloc, rows) {
         Ok(()) => Ok(()),
         Err(_) => Err(TableRefusal::Memory),
     }

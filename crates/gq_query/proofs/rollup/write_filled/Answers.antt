@@ -3,7 +3,7 @@ use Rattle.std.specs.Prelude.{replicate}
 use Rattle.std.proofs.Math.Nat.{min_comm}
 use Rattle.std.proofs.lemmas.List.{drop_min, replicate_more, take_min}
 use Rattle.gq_row.specs.declared.value.Value.TheVariants.{Null}
-use Rattle.gq_query.proofs.OrderingLemmas.{on_ok}
+use Rattle.std.proofs.lemmas.Result.{on_ok_weaker}
 use Rattle.gq_query.proofs.rollup.write_filled.Goals as goal
 
 pub loop-init : goal.loop-init
@@ -36,6 +36,6 @@ returns c =
     let behind : c.split_at.result.1.now ≡ drop level row =
     c.split_at.ensures.back ∙ ap (λ n. drop n row) (c.min.ensures ∙ min_comm (length row) level) ∙ drop_min level row in
     let before : c.loop.cells.items ≡ (old ++ take level row) ++ nulls = c.loop.invariant ∙ ap (λ n. (old ++ take level row) ++ replicate (n - level) Null) all in
-    on_ok c.copy_cells-2.result
+    on_ok_weaker c.copy_cells-2.result
     (λ copied. copied ∙ (λ i. before i ++ behind i) ∙ append_assoc (old ++ take level row) nulls (drop level row) ∙ append_assoc old (take level row) (nulls ++ drop level row))
     c.copy_cells-2.ensures.copied

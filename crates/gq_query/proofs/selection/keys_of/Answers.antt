@@ -1,6 +1,7 @@
 use Rattle.std.proofs.Common.{◌≡◌, ◌∙◌, ◌<◌, ◌++◌, ◌∷◌, ℕ, All, List, [], length, sym, ap, subst, append_assoc}
 use Rattle.std.proofs.lemmas.List.Elements.{All-head, All-tail}
 use Rattle.gq_row.specs.declared.value.Value.{Value}
+use Rattle.gq_select.specs.KeySets.{AreKeysOf}
 use Rattle.gq_query.specs.Keeping.{AreLong}
 use Rattle.gq_query.proofs.Placing.{rows_ready}
 use Rattle.gq_query.proofs.selection.keys_of.Goals as goal
@@ -9,36 +10,35 @@ use Rattle.gq_query.proofs.selection.keys_of.Goals as goal
 abbrev Long : List ℕ → List Value → Type 0
 Long columns row = All (λ column. column < length row) columns
 
-pub loop-row-init : goal.loop-row-init
-loop-row-init g c =
+pub loop-rows-init : goal.loop-rows-init
+loop-rows-init g c =
     let table = c.args.table.now in
     let columns = c.args.columns.now in
-    let start : c.into_iter-row-iterator.result ≡ table.rows = c.into_iter-row-iterator.ensures.into_iter_gives ∙ c.rows-row-items.ensures.rows in
+    let start = c.rows-rows.ensures.rows in
     record {
-      can_next = tt;
-      is_finite = tt;
       keys = ([], start, c.new-keys.ensures columns);
-      long = subst (AreLong columns) (sym start) (rows_ready table.heading.columns columns table.rows c.rows-row-items.ensures.standing.fitting c.requires);
+      long = subst (AreLong columns) (sym start) (rows_ready table.heading.columns columns table.rows c.rows-rows.ensures.standing.fitting c.requires);
     }
 
 pub add-requires : goal.add-requires
 add-requires g c =
     let columns = c.args.columns.now in
-    All-head (Long columns) c.in-Some.row.now c.next.new.self (subst (All (Long columns)) c.in-Some.ensures.steps c.loop-row.invariant.long)
+    let at = c.advance.new.self in
+    subst (Long columns) (sym c.row.ensures)
+    (All-head (Long columns) at.row at.rest (subst (All (Long columns)) (c.in_ok-advance.ensures.next c.if-branch.true) c.loop-rows.invariant.long))
 
-pub loop-row-preserved : goal.loop-row-preserved
-loop-row-preserved g c =
+pub loop-rows-preserved : goal.loop-rows-preserved
+loop-rows-preserved g c =
     let columns = c.args.columns.now in
-    let row = c.in-Some.row.now in
-    let before = c.loop-row.invariant.keys in
+    let at = c.advance.new.self in
+    let steps = c.in_ok-advance.ensures.next c.if-branch.true in
+    let before = c.loop-rows.invariant.keys in
     let done : List (List Value) = before.0 in
     record {
-      can_next = tt;
-      is_finite = tt;
       keys = (
-        done ++ row ∷ [],
-        append_assoc done (row ∷ []) c.next.new.self ∙ ap (λ l. done ++ l) (sym c.in-Some.ensures.steps) ∙ before.1,
-        c.in_ok-add.ensures.keys done before.2,
+        done ++ at.row ∷ [],
+        append_assoc done (at.row ∷ []) at.rest ∙ ap (λ l. done ++ l) (sym steps) ∙ before.1,
+        subst (λ row. AreKeysOf columns (done ++ row ∷ []) c.add.new.self) c.row.ensures (c.in_ok-add.ensures.keys done before.2),
       );
-      long = All-tail (Long columns) row c.next.new.self (subst (All (Long columns)) c.in-Some.ensures.steps c.loop-row.invariant.long);
+      long = All-tail (Long columns) at.row at.rest (subst (All (Long columns)) steps c.loop-rows.invariant.long);
     }

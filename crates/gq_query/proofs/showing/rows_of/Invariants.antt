@@ -1,9 +1,8 @@
-use Rattle.std.proofs.Common.{◌≡◌, ◌++◌, map}
+use Rattle.std.proofs.Common.{◌≡◌, ◌++◌, length}
 use Rattle.gq_query.proofs.showing.rows_of.Given as goal
 
-abbrev pub invariant-loop-row : goal.invariant-loop-row
-invariant-loop-row g l = record {
-  can_next : (goal.iterator-loop-row g).can_next l.row-iterator;
-  is_finite : (goal.iterator-loop-row g).is_finite l.row-iterator;
-  found : map (λ row. row.now) l.rows.items ++ l.row-iterator ≡ l.table.rows;
-}
+abbrev pub invariant-loop-rows : goal.invariant-loop-rows
+invariant-loop-rows g l = l.copies ++ l.rows.rest ≡ l.table.rows
+
+abbrev pub decreases-loop-rows : goal.decreases-loop-rows
+decreases-loop-rows g l = length l.rows.rest

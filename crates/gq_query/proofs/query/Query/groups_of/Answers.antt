@@ -17,7 +17,7 @@ group-requires-clause-source g c =
     let spec : Spec = record { by = c.args.self.now.by.now; aggs = c.args.aggs.now } in
     let table = c.args.self.now.table.now in
     let used : c.as_slice-2.result.now ≡ columns_used spec = c.as_slice-2.ensures.value ∙ c.in-Ok.ensures in
-    source_ready table.heading.columns (columns_used spec) (ours_of (option_copied c.args.self.now.kept.now.matching)) c.as_slice-2.result.now table.rows c.rows.result
+    source_ready table.heading.columns (columns_used spec) (ours_of (option_copied c.args.self.now.kept.now.matching)) c.as_slice-2.result.now table.rows c.rows.result.rest
     c.rows.ensures.rows used c.rows.ensures.standing.fitting (used_within table.heading.columns spec c.requires.columns.by c.requires.aggs) c.requires.columns.ours
 
 pub group-requires-clause-rows : goal.group-requires-clause-rows
@@ -34,14 +34,14 @@ group-requires-clause-rows g c = λ h rows e.
 pub group-requires-clause-widths : goal.group-requires-clause-widths
 group-requires-clause-widths g c = λ h rows e.
     let keep = is_kept c.args.self.now.kept.now in
-    subst OneWidth (sym e) (one_width-cells c.as_slice-2.result.now (filter keep c.rows.result))
+    subst OneWidth (sym e) (one_width-cells c.as_slice-2.result.now (filter keep c.rows.result.rest))
 
 pub returns-in_err-spent-clause-overflow : goal.returns-in_err-spent-clause-overflow
 returns-in_err-spent-clause-overflow g c = λ h e.
     let spec : Spec = record { by = c.args.self.now.by.now; aggs = c.args.aggs.now } in
     let rows = kept_rows c.args.self.now in
     let keep = is_kept c.args.self.now.kept.now in
-    let given = map (cells_in c.as_slice-2.result.now) (filter keep c.rows.result) in
+    let given = map (cells_in c.as_slice-2.result.now) (filter keep c.rows.result.rest) in
     let used : c.as_slice-2.result.now ≡ columns_used spec = c.as_slice-2.ensures.value ∙ c.in-Ok.ensures in
     let asked : c.in-Ok-place_spec.spec ≡ placed (columns_used spec) spec = c.in-Ok-place_spec.ensures ∙ ap (λ u. placed u spec) (c.as_slice.ensures.value ∙ c.in-Ok.ensures) in
     let same : groups c.in-Ok-place_spec.spec given ≡ groups spec rows
@@ -53,7 +53,7 @@ returns-clause-groups g c = λ h.
     let spec : Spec = record { by = c.args.self.now.by.now; aggs = c.args.aggs.now } in
     let rows = kept_rows c.args.self.now in
     let keep = is_kept c.args.self.now.kept.now in
-    let given = map (cells_in c.as_slice-2.result.now) (filter keep c.rows.result) in
+    let given = map (cells_in c.as_slice-2.result.now) (filter keep c.rows.result.rest) in
     let used : c.as_slice-2.result.now ≡ columns_used spec = c.as_slice-2.ensures.value ∙ c.in-Ok.ensures in
     let asked : c.in-Ok-place_spec.spec ≡ placed (columns_used spec) spec = c.in-Ok-place_spec.ensures ∙ ap (λ u. placed u spec) (c.as_slice.ensures.value ∙ c.in-Ok.ensures) in
     let same : groups c.in-Ok-place_spec.spec given ≡ groups spec rows
@@ -67,14 +67,14 @@ returns-clause-spent g c = λ h.
     let spec : Spec = record { by = c.args.self.now.by.now; aggs = c.args.aggs.now } in
     let rows = kept_rows c.args.self.now in
     let keep = is_kept c.args.self.now.kept.now in
-    let given = map (cells_in c.as_slice-2.result.now) (filter keep c.rows.result) in
+    let given = map (cells_in c.as_slice-2.result.now) (filter keep c.rows.result.rest) in
     let used : c.as_slice-2.result.now ≡ columns_used spec = c.as_slice-2.ensures.value ∙ c.in-Ok.ensures in
     let asked : c.in-Ok-place_spec.spec ≡ placed (columns_used spec) spec = c.in-Ok-place_spec.ensures ∙ ap (λ u. placed u spec) (c.as_slice.ensures.value ∙ c.in-Ok.ensures) in
     let same : keys_of c.in-Ok-place_spec.spec.by given ≡ keys_of spec.by rows
     = (λ i. keys_of (asked i).by (map (cells_in (used i)) (filter keep (c.rows.ensures.rows i)))) ∙ same_keys spec rows in
     let told = c.in_ok-spent.ensures.counts h given refl in
     record {
-      read = told.0 ∙ length-map (filter keep c.rows.result) (cells_in c.as_slice-2.result.now) ∙ ap (λ l. length (filter keep l)) c.rows.ensures.rows;
+      read = told.0 ∙ length-map (filter keep c.rows.result.rest) (cells_in c.as_slice-2.result.now) ∙ ap (λ l. length (filter keep l)) c.rows.ensures.rows;
       groups = told.1 ∙ ap (λ l. length l) same;
       written = c.in_ok-spent.ensures.spills h;
     }

@@ -25,7 +25,7 @@ distinct-requires-clause-source g c =
     let table = c.args.self.now.table.now in
     let all : List ℕ = columns_used (bare by) in
     let used : c.as_slice-2.result.now ≡ all = c.as_slice-2.ensures.value ∙ c.in-Ok.ensures in
-    source_ready table.heading.columns all (ours_of (option_copied c.args.self.now.kept.now.matching)) c.as_slice-2.result.now table.rows c.rows.result
+    source_ready table.heading.columns all (ours_of (option_copied c.args.self.now.kept.now.matching)) c.as_slice-2.result.now table.rows c.rows.result.rest
     c.rows.ensures.rows used c.rows.ensures.standing.fitting (bare_within table.heading.columns by c.requires.columns.by) c.requires.columns.ours
 
 pub distinct-requires-clause-rows : goal.distinct-requires-clause-rows
@@ -42,14 +42,14 @@ distinct-requires-clause-rows g c = λ h rows e.
 pub distinct-requires-clause-widths : goal.distinct-requires-clause-widths
 distinct-requires-clause-widths g c = λ h rows e.
     let keep = is_kept c.args.self.now.kept.now in
-    subst OneWidth (sym e) (one_width-cells c.as_slice-2.result.now (filter keep c.rows.result))
+    subst OneWidth (sym e) (one_width-cells c.as_slice-2.result.now (filter keep c.rows.result.rest))
 
 pub returns-clause-keys : goal.returns-clause-keys
 returns-clause-keys g c = λ h.
     let by = c.args.self.now.by.now in
     let mine = kept_rows c.args.self.now in
     let keep = is_kept c.args.self.now.kept.now in
-    let given = map (cells_in c.as_slice-2.result.now) (filter keep c.rows.result) in
+    let given = map (cells_in c.as_slice-2.result.now) (filter keep c.rows.result.rest) in
     let all : List ℕ = columns_used (bare by) in
     let used : c.as_slice-2.result.now ≡ all = c.as_slice-2.ensures.value ∙ c.in-Ok.ensures in
     let by_there : c.in-Ok-place_columns.by.items ≡ placed_columns all by = c.in-Ok-place_columns.ensures ∙ ap (λ u. placed_columns u by) (c.as_slice.ensures.value ∙ c.in-Ok.ensures) in
