@@ -176,15 +176,8 @@ impl<H: KeyHash<Key> + Copy> GroupMap<H> {
             self.running.truncate(start);
             return Err(AllocError);
         };
-        self.make_room(room);
+        self.index.make_room(room);
         Ok(())
-    }
-
-    // Makes room for the keys of so many groups in all, where there is memory for that.
-    fn make_room(&mut self, groups: usize)
-        ensures { self.new ≡ self.old }
-    {
-        self.index.make_room(groups);
     }
 
     // The groups, to leave one by one.

@@ -1,5 +1,6 @@
 //! Rows that are kept.
 ghost use Rattle.std.specs.Prelude.{◌≡◌, ◌+◌, ◌≤◌, ◌<◌, ◌∷◌, [], ℕ, true, false, All, IfOk, List, filter, length, option_copied};
+ghost use Rattle.gq_row.specs.declared.value.Value.{Value as Cell};
 ghost use Rattle.gq_query.specs.Keeping.{AreLong, is_found, is_kept, ours_of};
 
 use gq_row::{Key, Value};
@@ -45,6 +46,30 @@ impl<'a, H: KeyHash<Key>> Kept<'a, H> {
         }
     }
 
+    // Whether all rows are kept, whatever their values.
+    #[inline]
+    fn keeps_all(&self) -> bool
+        ensures { result ≡ true → (row : List Cell) → is_kept self.now row ≡ true }
+    {
+        self.condition.tests.as_slice().is_empty() && self.matching.is_none()
+    }
+
+    // Whether the row where a walk stands is kept. It is read only where that rests on its values.
+    #[inline]
+    fn keeps_here(&self, rows: &mut RowCursor<'_, H>) -> Result<bool, AllocError>
+        requires { All (λ column. column < length rows.old.row)
+            (ours_of (option_copied self.now.matching)) }
+        ensures kept { IfOk result (λ kept. kept ≡ is_kept self.now rows.old.row) }
+        ensures row { rows.new.row ≡ rows.old.row }
+        ensures rest { rows.new.rest ≡ rows.old.rest }
+    {
+        if self.keeps_all() {
+            return Ok(true);
+        }
+        rows.read()?;
+        Ok(self.keeps(rows.row()))
+    }
+
     /// Goes on to the next of some rows that is kept, and tells whether there is one. Those before it are
     /// passed over. Refused for want of memory as the walk is.
     #[inline]
@@ -62,8 +87,8 @@ impl<'a, H: KeyHash<Key>> Kept<'a, H> {
         ensures left { (columns : List ℕ) → AreLong columns rows.old.rest →
             AreLong columns rows.new.rest }
     {
-        'rows: while rows.advance()? {
-            if self.keeps(rows.row()) {
+        'rows: while rows.advance() {
+            if self.keeps_here(rows)? {
                 return Ok(true);
             }
         }

@@ -65,7 +65,6 @@ impl<'a, H: KeyHash<Key> + Copy> Query<'a, H> {
             return Err(Refusal::Memory);
         };
         let mut source = TableRows {
-            alloc: self.alloc,
             rows: self.table.rows(),
             kept: self.kept,
             columns: columns.as_slice(),
@@ -101,7 +100,6 @@ impl<'a, H: KeyHash<Key> + Copy> Query<'a, H> {
         };
         let place = place_of(columns.as_slice(), column);
         let mut source = TableRows {
-            alloc: self.alloc,
             rows: self.table.rows(),
             kept: self.kept,
             columns: columns.as_slice(),
@@ -137,7 +135,6 @@ impl<'a, H: KeyHash<Key> + Copy> Query<'a, H> {
             return Err(Refusal::Memory);
         };
         let mut source = TableRows {
-            alloc: self.alloc,
             rows: self.table.rows(),
             kept: self.kept,
             columns: columns.as_slice(),

@@ -57,7 +57,8 @@ fn keys_of<H: KeyHash<Key> + Copy>(
 {
     let mut keys = KeySet::new(alloc, hasher);
     let mut rows = table.rows();
-    while rows.advance()? {
+    'rows: while rows.advance() {
+        rows.read()?;
         keys.add(rows.row(), columns)?;
     }
     Ok(keys)

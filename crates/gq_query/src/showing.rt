@@ -27,7 +27,8 @@ fn rows_of<H: KeyHash<Key> + Copy>(alloc: Global, table: &Table<H>) -> Result<Ro
     let mut copies = Rows::new(alloc);
     copies.reserve(table.len(), table.schema().columns().len())?;
     let mut rows = table.rows();
-    while rows.advance()? {
+    'rows: while rows.advance() {
+        rows.read()?;
         copies.push_copy(alloc, rows.row())?;
     }
     Ok(copies)

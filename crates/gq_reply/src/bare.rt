@@ -47,7 +47,8 @@ fn block_end(start: usize, rows: usize) -> usize
 // Whether no row from the one position up to the other, which it leaves out, has a text, and each has a cell.
 fn are_bare(rows: &Rows, start: usize, end: usize) -> bool
     requires { end ≤ length rows.now }
-    ensures { result ≡ true → AreBare rows.now start end }
+    ensures bare { result ≡ true → AreBare rows.now start end }
+    ensures not_bare { result ≡ false → AreBare rows.now start end → ⊥ }
 {
     for i in start..end {
         if !is_bare_row(rows.row(i)) {
@@ -59,7 +60,8 @@ fn are_bare(rows: &Rows, start: usize, end: usize) -> bool
 
 #[inline]
 fn is_bare_row(row: &[Value]) -> bool
-    ensures { result ≡ true → IsBare row.now }
+    ensures bare { result ≡ true → IsBare row.now }
+    ensures not_bare { result ≡ false → IsBare row.now → ⊥ }
 {
     for cell in row {
         if !is_bare(cell) {

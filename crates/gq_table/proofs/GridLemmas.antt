@@ -1,7 +1,8 @@
 -- Rows by columns.
 use Rattle.std.proofs.Common.{◌≡◌, ◌<◌, ◌≤◌, ◌+◌, ℕ, zero, suc, List, [], ◌∷◌, ◌++◌, length, map, take, drop, slice_index_or, slice_set, replicate, All, refl, sym, ap, subst, ◌∙◌, arith, length-append, length-take}
-use Rattle.std.proofs.lemmas.List.{get_or_default, append-nil, drop_all, drop-drop, drop-set-lt, get_or-drop, get_or-replicate, length-map, length-replicate, replicate-append-replicate, take_all, take-append-le}
+use Rattle.std.proofs.lemmas.List.{get_or_default, append-nil, drop_all, drop-drop, drop-set-lt, get_or-drop, get_or-map, get_or-replicate, length-map, length-replicate, replicate-append-replicate, take_all, take-append-le}
 use Rattle.std.proofs.lemmas.List.Elements.{All-nil, All-cons, All-head, All-tail}
+use Rattle.gq_row.specs.Rows.{cells_in}
 use Rattle.gq_row.specs.declared.value.Value.{Value}
 use Rattle.gq_row.specs.declared.value.Value.TheVariants.{Null}
 use Rattle.gq_table.specs.Columns.{AreAsLong, alone, before_rows, columns_behind, rows_across}
@@ -211,3 +212,32 @@ pub written : (columns new : List (List Value)) (len : ℕ) → length new ≡ l
     → (AreAsLong n (take len (new ++ drop (length new) columns))) × (rows_across n (take len (new ++ drop (length new) columns)) ≡ rows)
 written columns new len size n rows h =
     subst (λ l. (AreAsLong n l) × (rows_across n l ≡ rows)) (sym (whole len new columns size)) h
+
+-- ---- some columns of a row
+
+row_within : (rows : List (List Value)) (i c : ℕ) → c < length (slice_index_or rows i []) → i < length rows
+row_within [] i c h = absurd (omega (arith, h))
+row_within (row ∷ rows) zero c h = omega arith
+row_within (row ∷ rows) (suc i) c h = omega (arith, row_within rows i c h)
+
+-- where a row has a column, the grid has that column, and it a cell there
+pub column_there : (n i c : ℕ) (columns rows : List (List Value)) → rows_across n columns ≡ rows → AreAsLong n columns → c < length (slice_index_or rows i [])
+    → (c < length columns) × (i < length (slice_index_or columns c []))
+column_there n i c columns rows view long h =
+    let here = position_within n i columns rows view long (row_within rows i c h) in
+    let row : slice_index_or rows i [] ≡ map (λ column. slice_index_or column i Null) columns = ap (λ l. slice_index_or l i []) (sym view) ∙ row_there n i columns long here in
+    let within : c < length columns = omega (arith, h, ap length row, length-map columns (λ (column : List Value). slice_index_or column i Null)) in
+    (within, omega (arith, here, long c [] within))
+
+pub picked : (n i : ℕ) (columns rows : List (List Value)) → rows_across n columns ≡ rows → AreAsLong n columns → (asked : List ℕ)
+    → All (λ c. c < length (slice_index_or rows i [])) asked
+    → map (λ c. slice_index_or (slice_index_or columns c []) i Null) asked ≡ cells_in asked (slice_index_or rows i [])
+picked n i columns rows view long [] h = refl
+picked n i columns rows view long (c ∷ asked) h =
+    let first = All-head (λ k. k < length (slice_index_or rows i [])) c asked h in
+    let there = column_there n i c columns rows view long first in
+    let here = position_within n i columns rows view long (row_within rows i c first) in
+    let row : slice_index_or rows i [] ≡ map (λ column. slice_index_or column i Null) columns = ap (λ l. slice_index_or l i []) (sym view) ∙ row_there n i columns long here in
+    let one : slice_index_or (slice_index_or columns c []) i Null ≡ slice_index_or (slice_index_or rows i []) c Null =
+        sym (get_or-map (λ (column : List Value). slice_index_or column i Null) columns c [] Null there.0) ∙ ap (λ l. slice_index_or l c Null) (sym row) in
+    λ z. one z ∷ picked n i columns rows view long asked (All-tail (λ k. k < length (slice_index_or rows i [])) c asked h) z

@@ -1,6 +1,7 @@
 //! Many rows of one length, by columns.
 ghost use Rattle.std.specs.Prelude.{◌≡◌, ◌<◌, ◌==◌, ◌++◌, ◌∷◌, [], ℕ, All, IfOk, OnOk, OnErr, length, map, replicate, take, slice_index_or};
 ghost use Rattle.gq_row.specs.declared.value.Value.TheVariants.{Null};
+ghost use Rattle.gq_row.specs.Rows.{cells_in};
 ghost use Rattle.gq_table.specs.Columns.{AreAsLong, alone, columns_behind, rows_across};
 
 use crate::column_cells::ColumnCells;
@@ -78,6 +79,25 @@ impl Grid {
             fit(row, self.columns.len())?;
         }
         write_cells(alloc, self.columns.as_slice(), position, row.as_mut_slice())
+    }
+
+    /// Writes the values in some columns of the row at a position over as many others. Only texts of more
+    /// than 22 bytes take memory.
+    #[inline]
+    pub fn copy_cells(
+        &self,
+        alloc: Global,
+        position: usize,
+        columns: &[usize],
+        cells: &mut [Value],
+    ) -> Result<(), AllocError>
+        requires within { All (λ column. column < length (slice_index_or self.now position []))
+            columns.now }
+        requires all { length cells.old ≡ length columns.now }
+        ensures { OnOk result (cells.new ≡
+            cells_in columns.now (slice_index_or self.now position [])) }
+    {
+        pick_cells(alloc, self.columns.as_slice(), position, columns, cells)
     }
 
     /// Puts a row behind the others, all as long as it is. Its texts move out of it.
@@ -197,6 +217,28 @@ fn write_cells(
 {
     for i in 0..columns.len() {
         columns[i].copy_to(alloc, position, &mut row[i])?;
+    }
+    Ok(())
+}
+
+// Writes the cells that stand at a position in some of the columns over as many values.
+#[inline]
+fn pick_cells(
+    alloc: Global,
+    all: &[ColumnCells],
+    position: usize,
+    columns: &[usize],
+    cells: &mut [Value],
+) -> Result<(), AllocError>
+    requires columns { All (λ column. column < length all.now) columns.now }
+    requires within { All (λ column. position < length (slice_index_or all.now column []))
+        columns.now }
+    requires all { length cells.old ≡ length columns.now }
+    ensures { OnOk result (cells.new ≡
+        map (λ column. slice_index_or (slice_index_or all.now column []) position Null) columns.now) }
+{
+    for i in 0..columns.len() {
+        all[columns[i]].copy_to(alloc, position, &mut cells[i])?;
     }
     Ok(())
 }

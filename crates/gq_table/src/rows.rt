@@ -1,5 +1,6 @@
 //! Where the rows of a table stand, and how they are gone over.
-ghost use Rattle.std.specs.Prelude.{◌≡◌, ◌∷◌, [], true, false, IfOk, OnErr, length};
+ghost use Rattle.std.specs.Prelude.{◌≡◌, ◌<◌, ◌∷◌, [], true, false, All, IfOk, OnOk, length};
+ghost use Rattle.gq_row.specs.Rows.{cells_in};
 
 use crate::grid::Grid;
 use gq_row::{Key, Row, Value};
@@ -22,24 +23,25 @@ pub enum Rest<'a, H: KeyHash<Key>> {
     Places(&'a Grid, usize),
 }
 
-/// A walk over the rows of a table: at one of them, and before those that are still to come. At first it is
-/// before all of them.
+/// A walk over the rows of a table: at one of them, and before those that are still to come. A row of the map
+/// can be read where it stands; one of the list, which stands by columns, is first written out by
+/// [`RowCursor::read`].
 #[derive(Drop)]
 pub struct RowCursor<'a, H: KeyHash<Key>> {
     alloc: Global,
     rest: Rest<'a, H>,
     // The row of the map where it stands, if it was begun.
     entry: Option<&'a Row>,
-    // A copy of the row of the list where it stands.
+    // A row of the list that was written out.
     copy: Vec<Value>,
 }
 
 impl<'a, H: KeyHash<Key>> Model for RowCursor<'a, H> {
-    ghost use Rattle.gq_table.specs.Walking.{Walk, row_of, rest_of};
+    ghost use Rattle.gq_table.specs.Walking.{Walk, row_of, read_of, rest_of};
 
     ghost Value = { Walk };
 
-    ghost view = { λ w. record { row = row_of w.rest w.entry w.copy.items; rest = rest_of w.rest } };
+    ghost view = { λ w. record { row = row_of w.rest w.entry; read = read_of w.rest w.entry w.copy.items; rest = rest_of w.rest } };
 }
 
 impl<'a, H: KeyHash<Key>> RowCursor<'a, H> {
@@ -83,40 +85,57 @@ impl<'a, H: KeyHash<Key>> RowCursor<'a, H> {
         }
     }
 
-    /// Goes on to the next row, and tells whether there is one. Memory is asked for by a table without key
-    /// columns alone: for the first row, and then for texts of more than 22 bytes. Where it is wanting the
-    /// same rows are still to come.
+    /// Goes on to the next row, and tells whether there is one.
     #[inline]
-    pub fn advance(&mut self) -> Result<bool, AllocError>
-        ensures next { IfOk result (λ found. found ≡ true →
-            self.old.rest ≡ self.new.row ∷ self.new.rest) }
-        ensures end { IfOk result (λ found. found ≡ false →
-            (self.old.rest ≡ []) × (self.new.rest ≡ [])) }
-        ensures refused { OnErr result (self.new.rest ≡ self.old.rest) }
+    pub fn advance(&mut self) -> bool
+        ensures next { result ≡ true → self.old.rest ≡ self.new.row ∷ self.new.rest }
+        ensures end { result ≡ false → (self.old.rest ≡ []) × (self.new.rest ≡ []) }
     {
         match &mut self.rest {
             Rest::Entries(entries) => {
                 let Some((_, row)) = entries.next() else {
-                    return Ok(false);
+                    return false;
                 };
                 self.entry = Some(row);
-                return Ok(true);
+                return true;
             }
             Rest::Places(rows, from) => {
                 if rows.len() <= *from {
-                    return Ok(false);
+                    return false;
                 }
-                rows.copy_row(self.alloc, *from, &mut self.copy)?;
                 *from += 1;
-                return Ok(true);
+                return true;
             }
         }
     }
 
-    /// The row where it stands.
+    /// Makes the row where it stands the one that is lent. That of a list is written over the one before, and
+    /// asks for memory where it is the first, and for texts of more than 22 bytes.
+    #[inline]
+    pub fn read(&mut self) -> Result<(), AllocError>
+        ensures read { OnOk result (self.new.read ≡ self.old.row) }
+        ensures row { self.new.row ≡ self.old.row }
+        ensures rest { self.new.rest ≡ self.old.rest }
+    {
+        match &self.rest {
+            Rest::Entries(_) => {
+                return Ok(());
+            }
+            Rest::Places(rows, from) => {
+                let place = from.saturating_sub(1);
+                if place < rows.len() {
+                    return rows.copy_row(self.alloc, place, &mut self.copy);
+                }
+                self.copy.clear();
+                return Ok(());
+            }
+        }
+    }
+
+    /// The row that was read last.
     #[inline]
     pub fn row(&self) -> &[Value]
-        ensures { result.now ≡ self.now.row }
+        ensures { result.now ≡ self.now.read }
     {
         match &self.rest {
             Rest::Entries(_) => {
@@ -130,4 +149,54 @@ impl<'a, H: KeyHash<Key>> RowCursor<'a, H> {
             }
         }
     }
+
+    /// The values in some columns of the row where it stands, written over another row. Nothing else of it is
+    /// copied.
+    #[inline]
+    pub fn cells(&self, columns: &[usize], spare: Row) -> Result<Row, AllocError>
+        requires { All (λ column. column < length self.now.row) columns.now }
+        ensures { IfOk result (λ cells. cells ≡ cells_in columns.now self.now.row) }
+    {
+        let mut cells = spare.into_cells();
+        if cells.len() != columns.len() {
+            cells.resize_with(columns.len(), || Value::Null)?;
+        }
+        self.write_cells(columns, cells.as_mut_slice())?;
+        Ok(Row::new(cells))
+    }
+
+    // Writes them over as many values.
+    #[inline]
+    fn write_cells(&self, columns: &[usize], cells: &mut [Value]) -> Result<(), AllocError>
+        requires within { All (λ column. column < length self.now.row) columns.now }
+        requires all { length cells.old ≡ length columns.now }
+        ensures { OnOk result (cells.new ≡ cells_in columns.now self.now.row) }
+    {
+        match &self.rest {
+            Rest::Entries(_) => {
+                return write_cells(self.alloc, cells, self.row(), columns);
+            }
+            Rest::Places(rows, from) => {
+                return rows.copy_cells(self.alloc, from.saturating_sub(1), columns, cells);
+            }
+        }
+    }
+}
+
+// Writes a row's values in some columns over as many others.
+#[inline]
+fn write_cells(
+    alloc: Global,
+    cells: &mut [Value],
+    row: &[Value],
+    columns: &[usize],
+) -> Result<(), AllocError>
+    requires within { All (λ column. column < length row.now) columns.now }
+    requires all { length cells.old ≡ length columns.now }
+    ensures { OnOk result (cells.new ≡ cells_in columns.now row.now) }
+{
+    for i in 0..columns.len() {
+        cells[i].copy_from(alloc, &row[columns[i]])?;
+    }
+    Ok(())
 }

@@ -10,8 +10,8 @@ use Rattle.gq_query.proofs.selection.keys_of.Goals as goal
 abbrev Long : List ℕ → List Value → Type 0
 Long columns row = All (λ column. column < length row) columns
 
-pub loop-rows-init : goal.loop-rows-init
-loop-rows-init g c =
+pub rows-init : goal.rows-init
+rows-init g c =
     let table = c.args.table.now in
     let columns = c.args.columns.now in
     let start = c.rows-rows.ensures.rows in
@@ -24,21 +24,22 @@ pub add-requires : goal.add-requires
 add-requires g c =
     let columns = c.args.columns.now in
     let at = c.advance.new.self in
-    subst (Long columns) (sym c.row.ensures)
-    (All-head (Long columns) at.row at.rest (subst (All (Long columns)) (c.in_ok-advance.ensures.next c.if-branch.true) c.loop-rows.invariant.long))
+    subst (Long columns) (sym (c.row.ensures ∙ c.in_ok-read.ensures.read))
+    (All-head (Long columns) at.row at.rest (subst (All (Long columns)) (c.advance.ensures.next c.rows-test.true) c.rows.invariant.long))
 
-pub loop-rows-preserved : goal.loop-rows-preserved
-loop-rows-preserved g c =
+pub rows-preserved : goal.rows-preserved
+rows-preserved g c =
     let columns = c.args.columns.now in
     let at = c.advance.new.self in
-    let steps = c.in_ok-advance.ensures.next c.if-branch.true in
-    let before = c.loop-rows.invariant.keys in
+    let steps = c.advance.ensures.next c.rows-test.true in
+    let same = c.in_ok-read.ensures.rest in
+    let before = c.rows.invariant.keys in
     let done : List (List Value) = before.0 in
     record {
       keys = (
         done ++ at.row ∷ [],
-        append_assoc done (at.row ∷ []) at.rest ∙ ap (λ l. done ++ l) (sym steps) ∙ before.1,
-        subst (λ row. AreKeysOf columns (done ++ row ∷ []) c.add.new.self) c.row.ensures (c.in_ok-add.ensures.keys done before.2),
+        ap (λ l. (done ++ at.row ∷ []) ++ l) same ∙ append_assoc done (at.row ∷ []) at.rest ∙ ap (λ l. done ++ l) (sym steps) ∙ before.1,
+        subst (λ row. AreKeysOf columns (done ++ row ∷ []) c.add.new.self) (c.row.ensures ∙ c.in_ok-read.ensures.read) (c.in_ok-add.ensures.keys done before.2),
       );
-      long = All-tail (Long columns) at.row at.rest (subst (All (Long columns)) steps c.loop-rows.invariant.long);
+      long = subst (AreLong columns) (sym same) (All-tail (Long columns) at.row at.rest (subst (All (Long columns)) steps c.rows.invariant.long));
     }

@@ -1,6 +1,6 @@
 use Rattle.std.proofs.Common.{◌≡◌, ◌++◌, length, take, drop}
 use Rattle.gq_row.specs.Rows.{cells_in}
-use Rattle.gq_query.proofs.table_rows.write_cells.Given as goal
+use Rattle.gq_table.proofs.rows.write_cells.Given as goal
 
 abbrev pub invariant-loop-i : goal.invariant-loop-i
 invariant-loop-i l = record {
