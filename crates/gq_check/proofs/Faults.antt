@@ -2,7 +2,10 @@
 use Rattle.std.proofs.Common.{◌≡◌, true, false, Option, Some, None, refl, sym, ap, subst, ◌∙◌, inl, inr}
 use Rattle.gq_row.specs.declared.limits.Bounds.{Bounds}
 use Rattle.gq_token.specs.Texts.{Bytes}
-use Rattle.gq_script.specs.Script.{Plain, Loading, takes_payload}
+use Rattle.gq_script.specs.Gathering.{Gathers}
+use Rattle.gq_script.specs.Script.{Plain, Loading, is_skipped, takes_payload}
+use Rattle.gq_script.specs.declared.gather.Opening.TheVariants as opening
+use Rattle.gq_script.specs.declared.gather.OpenLine.{OpenLine}
 use Rattle.gq_command.specs.declared.command.Command.TheVariants.{Load}
 use Rattle.gq_command.specs.declared.lines.LineRefusal.{LineRefusal}
 use Rattle.gq_command.specs.declared.lines.LineRefusal.TheVariants as refusal
@@ -11,10 +14,11 @@ use Rattle.gq_command.specs.declared.reader.Item.TheVariants as item
 use Rattle.gq_command.specs.Commands.{fits}
 use Rattle.gq_command.specs.Items.{IsReadAs, LosesPayload}
 use Rattle.gq_command.specs.Lines.{Says}
+use Rattle.gq_command.proofs.Answered.{refused}
 use Rattle.gq_command.proofs.LoadWord.{said_load}
 use Rattle.gq_command.proofs.OneReading.{stands_some}
 use Rattle.gq_check.specs.declared.fault.Fault.{Fault}
-use Rattle.gq_check.specs.Findings.{IsFaultOf, fault_in, payload_fault, refusal_fault}
+use Rattle.gq_check.specs.Findings.{IsFaultOf, IsToldOf, fault_in, payload_fault, refusal_fault}
 
 none-lost : (b : Bounds) (line : Bytes) (it : Item) → LosesPayload b (Plain line) it → ⊥
 none-lost b line it lost = let e : false ≡ true = sym lost.closed ∙ lost.reads.1.0.command in absurd cc
@@ -31,6 +35,17 @@ pub accepted : (b : Bounds) (line : Bytes) (it : Item) → fault_in b (Plain lin
 accepted b line it e never (inl h) = (it, h, e)
 accepted b line it e never (inr (inl same)) = absurd (never same)
 accepted b line it e never (inr (inr lost)) = absurd (none-lost b line it lost)
+
+-- a line of which this is told, by what was kept of it
+pub told-refused : (b : Bounds) (line : OpenLine) (text : Bytes) → Gathers b.line line text → is_skipped text ≡ false → line.too_long ≡ false → line.lost ≡ false → (line.opening ≡ opening.Dash → ⊥)
+    → (r : LineRefusal) → IsToldOf b line.kept.items (Some r) → IsReadAs b (Plain text) (item.Refused r)
+told-refused b line text h skipped long lost never refusal.Syntax told =
+    refused b line text h skipped long lost never refusal.Syntax (λ e. told) (λ e. absurd cc) (λ e. absurd cc)
+told-refused b line text h skipped long lost never refusal.LineTooLong told =
+    refused b line text h skipped long lost never refusal.LineTooLong (λ e. absurd cc) (λ e. absurd cc) (λ e. told)
+told-refused b line text h skipped long lost never refusal.Limit told =
+    refused b line text h skipped long lost never refusal.Limit (λ e. absurd cc) (λ e. told) (λ e. absurd cc)
+told-refused b line text h skipped long lost never refusal.Memory told = inr (inl refl)
 
 -- a load, by its line and its payload
 abbrev pub either : Option Fault → Option Fault → Option Fault

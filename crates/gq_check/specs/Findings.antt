@@ -1,9 +1,12 @@
 -- What reading refuses.
-use Rattle.std.specs.Prelude.{◌≡◌, ℕ, nat_lt, length, Option, Some, None, if◌then◌else◌}
+use Rattle.std.specs.Prelude.{◌≡◌, ◌<◌, true, false, ℕ, nat_lt, length, Option, Some, None, if◌then◌else◌}
 use Rattle.gq_row.specs.declared.limits.Bounds.{Bounds}
 use Rattle.gq_token.specs.Texts.{Bytes}
 use Rattle.gq_script.specs.Script.{Entry, Plain, Loading}
+use Rattle.gq_command.specs.Commands.{fits}
 use Rattle.gq_command.specs.Items.{ReadsAs}
+use Rattle.gq_command.specs.Lines.{Says}
+use Rattle.gq_command.specs.declared.command.Command.{Command}
 use Rattle.gq_command.specs.declared.lines.LineRefusal.{LineRefusal}
 use Rattle.gq_command.specs.declared.lines.LineRefusal.TheVariants as refusal
 use Rattle.gq_command.specs.declared.reader.Item.{Item}
@@ -17,6 +20,14 @@ refusal_fault refusal.Syntax = Some why.Syntax
 refusal_fault refusal.LineTooLong = Some why.LineTooLong
 refusal_fault refusal.Limit = Some why.Limit
 refusal_fault refusal.Memory = None
+
+-- what is told of a line: nothing where it says a command within the limits, or else why it is refused; want of memory says nothing of it
+abbrev pub IsToldOf : Bounds → Bytes → Option LineRefusal → Type 0
+IsToldOf b line None = (c : Command) × Says line c × (fits b c ≡ true)
+IsToldOf b line (Some refusal.Syntax) = (c : Command) → Says line c → ⊥
+IsToldOf b line (Some refusal.LineTooLong) = b.line < length line
+IsToldOf b line (Some refusal.Limit) = (c : Command) × Says line c × (fits b c ≡ false)
+IsToldOf b line (Some refusal.Memory) = Unit {0}
 
 -- what is wrong with the payload of a load: it is open, or it is past its limit
 abbrev pub payload_fault : ℕ → Option Bytes → Option Fault

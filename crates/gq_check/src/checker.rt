@@ -11,8 +11,9 @@ ghost use Rattle.gq_check.specs.declared.fault.Fault.TheVariants as why;
 use crate::fault::{CheckFault, Fault};
 use crate::message::told_of;
 use crate::payload::pass_payload;
+use crate::refusal::refusal_of;
 use crate::report::Report;
-use gq_command::{LineRefusal, parse_line};
+use gq_command::LineRefusal;
 use gq_row::Limits;
 use gq_script::{OpenLine, Opening, Source, take_line};
 use std::alloc::{AllocError, Global};
@@ -33,12 +34,12 @@ fn fault_of(alloc: Global, line: &OpenLine, limits: &Limits) -> Result<Option<Fa
     if matches!(line.opening, Opening::Dash) {
         return Ok(Some(Fault::Syntax));
     }
-    match parse_line(alloc, line.kept.as_slice(), limits) {
-        Ok(_command) => Ok(None),
-        Err(LineRefusal::Syntax) => Ok(Some(Fault::Syntax)),
-        Err(LineRefusal::LineTooLong) => Ok(Some(Fault::LineTooLong)),
-        Err(LineRefusal::Limit) => Ok(Some(Fault::Limit)),
-        Err(LineRefusal::Memory) => Err(AllocError),
+    match refusal_of(alloc, line.kept.as_slice(), limits) {
+        None => Ok(None),
+        Some(LineRefusal::Syntax) => Ok(Some(Fault::Syntax)),
+        Some(LineRefusal::LineTooLong) => Ok(Some(Fault::LineTooLong)),
+        Some(LineRefusal::Limit) => Ok(Some(Fault::Limit)),
+        Some(LineRefusal::Memory) => Err(AllocError),
     }
 }
 

@@ -8,7 +8,8 @@ ghost use Rattle.gq_check.specs.Reports.{Leads};
 
 use crate::ends::{BEFORE_LISTS, WORDS, ends_of};
 use crate::pieces::{Piece, pieces_of};
-use gq_command::{LineRefusal, parse_line};
+use crate::refusal::refusal_of;
+use gq_command::LineRefusal;
 use gq_row::Limits;
 use std::alloc::{AllocError, Global};
 
@@ -16,11 +17,10 @@ use std::alloc::{AllocError, Global};
 fn says_command(alloc: Global, line: &[u8], limits: &Limits) -> Result<bool, AllocError>
     ensures { IfOk result (λ b. b ≡ true → (c : Command) × Says line.now c) }
 {
-    match parse_line(alloc, line, limits) {
-        Ok(_command) => Ok(true),
-        Err(LineRefusal::Limit) => Ok(true),
-        Err(LineRefusal::Memory) => Err(AllocError),
-        Err(LineRefusal::Syntax | LineRefusal::LineTooLong) => Ok(false),
+    match refusal_of(alloc, line, limits) {
+        None | Some(LineRefusal::Limit) => Ok(true),
+        Some(LineRefusal::Memory) => Err(AllocError),
+        Some(LineRefusal::Syntax | LineRefusal::LineTooLong) => Ok(false),
     }
 }
 

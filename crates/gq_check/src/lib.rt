@@ -24,6 +24,7 @@ pub mod laws;
 mod message;
 mod payload;
 mod pieces;
+mod refusal;
 mod report;
 
 pub use checker::Checker;

@@ -179,6 +179,8 @@ pub fn parse_line(alloc: Global, line: &[u8], limits: &Limits) -> Result<Command
             if fits(&command, &limits.bounds) {
                 Ok(command)
             } else {
+                // By a call: in place it would be proved here variant by variant.
+                drop(command);
                 Err(LineRefusal::Limit)
             }
         }

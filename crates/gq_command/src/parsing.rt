@@ -338,7 +338,5 @@ pub fn command_in(alloc: Global, mut tokens: Tokens) -> Result<Command, ParseErr
     ensures { Gives (λ c. c) result (command_of tokens) }
 {
     let command = form_of(alloc, &mut tokens)?;
-    // One way out for all refusals: each writes out the drop of a command.
-    check_whole(alloc, &command, &tokens)?;
-    Ok(command)
+    check_whole(alloc, &command, &tokens).map(|()| command)
 }

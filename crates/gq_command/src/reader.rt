@@ -103,7 +103,11 @@ fn next_item<R: Read>(
             if !loads {
                 return Ok(Some(item));
             }
-            let kept = take_payload(kept_for(alloc, &item), source, &limits.bounds)?;
+            let Ok(kept) = take_payload(kept_for(alloc, &item), source, &limits.bounds) else {
+                // By a call: in place it would be proved here variant by variant.
+                drop(item);
+                return Err(ReadFault);
+            };
             return Ok(Some(with_payload(item, payload_of(kept))));
         }
     }

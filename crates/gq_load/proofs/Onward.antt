@@ -1,6 +1,6 @@
 -- Data records, from the first to the last.
 use Rattle.std.proofs.Common.{◌≡◌, ◌∙◌, ◌+◌, ◌++◌, ◌<◌, ◌⊎◌, inl, inr, ℕ, zero, suc, Bool, true, false, List, [], ◌∷◌, length, get_or, eqb, Result, Ok, Err, refl, sym, ap, arith}
-use Rattle.std.specs.Prelude.{nat_lt}
+use Rattle.std.specs.Prelude.{IfOk, nat_lt}
 use Rattle.std.specs.List.{list_all}
 use Rattle.std.proofs.lemmas.Bool.{false≢true}
 use Rattle.std.proofs.lemmas.Bool.Decides.{nat_tests}
@@ -8,7 +8,7 @@ use Rattle.std.proofs.lemmas.List.{append_assoc, append-nil}
 use Rattle.gq_row.specs.declared.value.Value.{Value}
 use Rattle.gq_row.specs.Headings.{Heading}
 use Rattle.gq_load.specs.declared.load_refusal.LoadRefusal.{LoadRefusal}
-use Rattle.gq_load.specs.Answers.{◌>>=◌}
+use Rattle.gq_load.specs.Answers.{◌>>=◌, Gives}
 use Rattle.gq_load.specs.declared.load_refusal.LoadRefusal.TheVariants.{Memory, NullKey}
 use Rattle.gq_load.specs.Payloads.{row_of, rows_from, cells_of, keyed}
 use Rattle.gq_row.specs.Fitting.{has_null as no_key}
@@ -47,6 +47,11 @@ row_none heading most places number front = ap Ok (append-nil front)
 pub carried : {A B : Type 0} (e : LoadRefusal) (x : Result A LoadRefusal) (y : Result B LoadRefusal) → (x ≡ Err e → y ≡ Err e) → (e ≡ Memory) ⊎ (x ≡ Err e) → (e ≡ Memory) ⊎ (y ≡ Err e)
 carried e x y f (inl m) = inl m
 carried e x y f (inr h) = inr (f h)
+
+-- what a function answered is what reading gives
+pub given : {X Y : Type 0} (view : X → Y) (r : Result X LoadRefusal) (read : Result Y LoadRefusal) → Gives view r read → IfOk r (λ x. read ≡ Ok (view x))
+given view (Ok x) read h = h
+given view (Err e) read h = tt
 
 -- what was read
 pub took_none : (records : List (List (List ℕ))) (found : Bool) (fields : List (List ℕ)) (rest : List (List (List ℕ))) → found ≡ false → Took records found fields rest → records ≡ []

@@ -30,19 +30,22 @@ pub fn load_rows(
 {
     let mut reader = RowReader::new(alloc, bytes, schema, limits)?;
     let room = line_ends(bytes).min(limits.bounds.rows);
-    let rows = rows_of(alloc, room, &mut reader)?;
-    Ok(Sequence::new(rows))
+    rows_of(alloc, room, &mut reader)
 }
 
 /// All rows that are yet to come. `room` rows are taken memory for at once.
-fn rows_of(alloc: Global, room: usize, reader: &mut RowReader<'_>) -> Result<Vec<Row>, LoadRefusal>
-    ensures { Gives (λ rows. rows.items) result reader.old.rows }
+fn rows_of(
+    alloc: Global,
+    room: usize,
+    reader: &mut RowReader<'_>,
+) -> Result<Sequence<Row>, LoadRefusal>
+    ensures { Gives (λ rows. rows) result reader.old.rows }
 {
     let mut rows = Vec::with_capacity(alloc, room)?;
     for _ in 0..u64::MAX {
         let mut row = Row::new(Vec::new(alloc));
         if !reader.read(&mut row)? {
-            return Ok(rows);
+            return Ok(Sequence::new(rows));
         }
         rows.push(row)?;
     }

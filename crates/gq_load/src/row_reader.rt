@@ -1,7 +1,8 @@
 //! The rows of a payload, one after the other.
-ghost use Rattle.std.specs.Prelude.{◌≡◌, ◌⊎◌, ◌+◌, OnOk, IfErr, None, Some, length};
-ghost use Rattle.gq_load.specs.Coming.{fault_of};
-ghost use Rattle.gq_load.specs.Payloads.{rows_from};
+ghost use Rattle.std.specs.Prelude.{◌≡◌, ◌⊎◌, ◌+◌, ◌≤◌, IfOk, OnOk, IfErr, None, Some, Err, length};
+ghost use Rattle.gq_row.specs.declared.limits.Bounds.{Bounds};
+ghost use Rattle.gq_load.specs.Coming.{IsNext, fault_of, rows_left};
+ghost use Rattle.gq_load.specs.Payloads.{rows_from, rows_of};
 ghost use Rattle.gq_load.specs.Unread.{IsBetween, unread};
 ghost use Rattle.gq_load.specs.declared.load_refusal.LoadRefusal.TheVariants.{Memory};
 
@@ -55,7 +56,6 @@ impl<'a> RowReader<'a> {
 
     /// A reader of the rows of a payload for a table of this schema. `Header` where the first
     /// record does not name each column once, or there is none; `Memory` for want of memory.
-    #[tactic(auto, unfolding(crate::specs::Payloads::rows_of, crate::specs::Headers::places_of, crate::specs::Payloads::data_rows, crate::specs::Coming::rows_left))]
     pub fn new(
         alloc: Global,
         bytes: &'a [u8],
@@ -70,10 +70,7 @@ impl<'a> RowReader<'a> {
     {
         let mut reader = payload_reader(alloc, bytes);
         let mut byte_record = ByteRecord::new(alloc);
-        if !read_next(&mut reader, &mut byte_record)? {
-            return Err(LoadRefusal::Header);
-        }
-        let header = Header::of(alloc, schema.columns(), &byte_record)?;
+        let header = read_header(alloc, schema, &mut reader, &mut byte_record)?;
         Ok(RowReader {
             alloc,
             schema,
@@ -106,38 +103,77 @@ impl<'a> RowReader<'a> {
             return Ok(false);
         }
         self.is_over = true;
-        if !read_next(&mut self.reader, &mut self.byte_record)? {
-            return Ok(false);
-        }
-        let Some(number) = self.given.checked_add(1) else {
-            return Err(LoadRefusal::Memory);
-        };
-        let spare = mem::replace(row, Row::new(Vec::new(self.alloc))).into_cells();
-        *row = row_of(
+        if !next_row(
             self.alloc,
             self.schema,
-            self.limits.bounds.text,
+            self.limits,
             &self.header,
-            number,
-            &self.byte_record,
-            spare,
-        )?;
-        if number > self.limits.bounds.rows as u64 {
-            check_rest(
-                self.alloc,
-                self.schema,
-                self.limits.bounds.text,
-                &self.header,
-                number,
-                &mut self.reader,
-                &mut self.byte_record,
-            )?;
-            return Err(LoadRefusal::Limit);
+            self.given,
+            &mut self.reader,
+            &mut self.byte_record,
+            row,
+        )? {
+            return Ok(false);
         }
-        self.given = number;
+        self.given += 1;
         self.is_over = false;
         Ok(true)
     }
+}
+
+// Reads the first record, whose fields name the columns. `Header` where they don't, each once, or there
+// is none.
+#[tactic(auto, unfolding(crate::specs::Payloads::rows_of, crate::specs::Headers::places_of, crate::specs::Payloads::data_rows, crate::specs::Coming::rows_left))]
+fn read_header(
+    alloc: Global,
+    schema: &Schema,
+    reader: &mut Reader<&[u8]>,
+    byte_record: &mut ByteRecord,
+) -> Result<Header, LoadRefusal>
+    requires { IsBetween reader.old }
+    ensures between { OnOk result (IsBetween reader.new) }
+    ensures whole { IfOk result (λ header. length header ≡ length schema.now.columns) }
+    ensures opened { IfOk result (λ header. (bounds : Bounds) → rows_of schema.now bounds (unread reader.old)
+        ≡ rows_left schema.now bounds.text bounds.rows header 1 (unread reader.new)) }
+    ensures refused { IfErr result (λ why. (why ≡ Memory)
+        ⊎ ((bounds : Bounds) → rows_of schema.now bounds (unread reader.old) ≡ Err why)) }
+{
+    if !read_next(reader, byte_record)? {
+        return Err(LoadRefusal::Header);
+    }
+    Header::of(alloc, schema.columns(), byte_record)
+}
+
+// Reads the next record's row into `row`, behind so many, and tells whether there was one.
+fn next_row(
+    alloc: Global,
+    schema: &Schema,
+    limits: &Limits,
+    header: &Header,
+    given: u64,
+    reader: &mut Reader<&[u8]>,
+    byte_record: &mut ByteRecord,
+    row: &mut Row,
+) -> Result<bool, LoadRefusal>
+    requires between { IsBetween reader.old }
+    requires whole { length header.now ≡ length schema.now.columns }
+    requires under { given ≤ limits.now.bounds.rows }
+    ensures { IsNext schema.now limits.now.bounds header.now given reader.old row.new reader.new result }
+{
+    if !read_next(reader, byte_record)? {
+        return Ok(false);
+    }
+    let Some(number) = given.checked_add(1) else {
+        return Err(LoadRefusal::Memory);
+    };
+    let longest = limits.bounds.text;
+    let spare = mem::replace(row, Row::new(Vec::new(alloc))).into_cells();
+    *row = row_of(alloc, schema, longest, header, number, byte_record, spare)?;
+    if number > limits.bounds.rows as u64 {
+        check_rest(alloc, schema, longest, header, number, reader, byte_record)?;
+        return Err(LoadRefusal::Limit);
+    }
+    Ok(true)
 }
 
 // Reads all records that are left for their first fault, behind so many.

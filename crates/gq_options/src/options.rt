@@ -159,17 +159,20 @@ fn script_word<'a>(alloc: Global) -> Arg<'a>
 fn command_line<'a>(alloc: Global) -> Result<Command<'a>, AllocError>
     ensures { IfOk result (λ c. app_of c ≡ LINE) }
 {
+    let args = vec![in alloc;
+        budget_option(alloc),
+        seed_option(alloc),
+        spill_option(alloc),
+        stats_option(alloc),
+        check_option(alloc),
+        script_word(alloc),
+    ]?;
     Command::new(alloc, "groupsh")
         .bin_name("groupsh")?
         .version(VERSION)
         .about(ABOUT)
         .after_help(MORE)
-        .arg(budget_option(alloc))?
-        .arg(seed_option(alloc))?
-        .arg(spill_option(alloc))?
-        .arg(stats_option(alloc))?
-        .arg(check_option(alloc))?
-        .arg(script_word(alloc))
+        .args(args)
 }
 
 // The seed among the matches: the word `random`, or a number in digits.

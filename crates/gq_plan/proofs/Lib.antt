@@ -1,3 +1,4 @@
 pub mod ColumnLemmas
+mod FoundLemmas
 pub mod KindLemmas
 pub mod PlanLemmas

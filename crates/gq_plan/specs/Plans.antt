@@ -1,6 +1,7 @@
 -- What a query asks of its table, by positions. The names are looked up first, then the kinds are compared: so that a name is no column's is told before all that is wrong with kinds.
-use Rattle.std.specs.Prelude.{◌<◌, ◌&&◌, Bool, IsTrue, List, length, All, Option, Some, None, Result, Ok}
+use Rattle.std.specs.Prelude.{◌<◌, ◌&&◌, Bool, IsTrue, List, length, All, Option, Some, None, Result, Ok, Err}
 use Rattle.std.specs.List.{list_all}
+use Rattle.std.specs.declared.alloc.AllocError.{AllocError}
 use Rattle.gq_row.specs.declared.schema.Column.{Column}
 use Rattle.gq_row.specs.Headings.{positions_of}
 use Rattle.gq_select.specs.Asking.{CanMatch, can_show}
@@ -8,14 +9,20 @@ use Rattle.gq_select.specs.declared.matching.Matching.{Matching}
 use Rattle.gq_command.specs.Commands.{Bytes}
 use Rattle.gq_clause.specs.declared.condition.Test.{Test as NamedTest}
 use Rattle.gq_command.specs.declared.command.Exists.{Exists}
-use Rattle.gq_reply.specs.declared.refusal.Refusal.TheVariants.{NoColumn, TypeMismatch}
+use Rattle.gq_reply.specs.declared.refusal.Refusal.TheVariants.{Memory, NoColumn, TypeMismatch}
 use Rattle.gq_reply.specs.declared.refusal.Refused.{Refused}
+use Rattle.gq_reply.specs.Refusals.{unnumbered}
 use Rattle.gq_reply.specs.Outcomes.{◌>>=◌, some_or, true_or}
 use Rattle.gq_plan.specs.declared.clauses.GroupClauses.{GroupClauses}
 use Rattle.gq_plan.specs.declared.plan.GroupPlan.{GroupPlan}
 use Rattle.gq_plan.specs.declared.plan.DistinctPlan.{DistinctPlan}
 use Rattle.gq_plan.specs.Kinds.{kinds_of, result_kinds, tests_fit, matching_fits}
 use Rattle.gq_plan.specs.Places.{all_shown, in_row, in_result, all_placed}
+
+-- what was found for names, or the refusal where one is no column's; or that for want of memory
+abbrev pub or_no_column : {A : Type 0} → Result (Option A) AllocError → Result A Refused
+or_no_column (Ok found) = some_or NoColumn found
+or_no_column (Err e) = Err (unnumbered Memory)
 
 -- the columns of `exists`: its first list names columns of the other table, the second columns of the table that is grouped
 abbrev pub matching_named : List Column → List Column → Option Exists → Result (Option Matching) Refused

@@ -4,6 +4,7 @@ ghost use Rattle.gq_reply.specs.Refusals.{unnumbered};
 ghost use Rattle.gq_reply.specs.declared.refusal.Refusal.TheVariants.{Memory};
 ghost use Rattle.gq_plan.specs.Plans.{distinct_named, distinct_plan};
 
+use crate::found::or_no_column;
 use crate::kinds::{kinds_of, tests_fit};
 use crate::places::{Scope, place_tests};
 use crate::plan::DistinctPlan;
@@ -54,8 +55,8 @@ fn find_distinct(
         All (λ column. column < length schema.now.columns) plan.on) }
     ensures each { IfOk result (λ plan. length plan.on ≡ length on.now) }
 {
-    let on = find_positions(alloc, schema.columns(), on)?.ok_or(Refusal::NoColumn)?;
-    let tests = place_tests(alloc, &Scope::Rows(schema), tests)?.ok_or(Refusal::NoColumn)?;
+    let on = or_no_column(find_positions(alloc, schema.columns(), on))?;
+    let tests = or_no_column(place_tests(alloc, &Scope::Rows(schema), tests))?;
     Ok(DistinctPlan {
         on,
         condition: Condition { tests },

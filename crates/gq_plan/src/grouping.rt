@@ -6,6 +6,7 @@ ghost use Rattle.gq_select.specs.Asking.{CanMatch};
 ghost use Rattle.gq_plan.specs.Plans.{IsWithin, group_fits, group_named, group_plan};
 
 use crate::clauses::GroupClauses;
+use crate::found::or_no_column;
 use crate::kinds::{can_show_all, kinds_of, matching_fits, result_kinds, tests_fit};
 use crate::matching::find_matching;
 use crate::places::{Scope, place_tests};
@@ -60,13 +61,11 @@ fn find_group(
     let columns = schema.columns();
     let rows = Scope::Rows(schema);
     let groups = Scope::Groups(clauses.by.columns.as_slice(), clauses.shown.as_slice());
-    let by = find_positions(alloc, columns, clauses.by.columns.as_slice())?.ok_or(
-        Refusal::NoColumn,
-    )?;
-    let shown = find_shown(alloc, schema, clauses.shown.as_slice())?.ok_or(Refusal::NoColumn)?;
-    let tests = place_tests(alloc, &rows, clauses.tests.as_slice())?.ok_or(Refusal::NoColumn)?;
+    let by = or_no_column(find_positions(alloc, columns, clauses.by.columns.as_slice()))?;
+    let shown = or_no_column(find_shown(alloc, schema, clauses.shown.as_slice()))?;
+    let tests = or_no_column(place_tests(alloc, &rows, clauses.tests.as_slice()))?;
     let matching = find_matching(alloc, columns, others, &clauses.exists)?;
-    let having = place_tests(alloc, &groups, clauses.having.as_slice())?.ok_or(Refusal::NoColumn)?;
+    let having = or_no_column(place_tests(alloc, &groups, clauses.having.as_slice()))?;
     Ok(GroupPlan {
         by,
         rollup: clauses.by.rollup,

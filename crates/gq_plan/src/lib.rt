@@ -29,6 +29,7 @@
 
 mod clauses;
 mod distinct;
+mod found;
 mod grouping;
 mod header;
 mod kinds;

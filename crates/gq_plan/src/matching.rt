@@ -5,8 +5,9 @@ ghost use Rattle.gq_reply.specs.declared.refusal.Refusal.TheVariants.{Memory};
 ghost use Rattle.gq_select.specs.Asking.{CanMatch};
 ghost use Rattle.gq_plan.specs.Plans.{matching_named};
 
+use crate::found::or_no_column;
 use gq_command::Exists;
-use gq_reply::{Refusal, Refused};
+use gq_reply::Refused;
 use gq_row::{Column, find_positions};
 use gq_select::Matching;
 use std::alloc::Global;
@@ -28,8 +29,8 @@ pub fn find_matching(
     let Some(exists) = exists else {
         return Ok(None);
     };
-    let theirs = find_positions(alloc, others, exists.theirs.as_slice())?.ok_or(Refusal::NoColumn)?;
-    let ours = find_positions(alloc, columns, exists.ours.as_slice())?.ok_or(Refusal::NoColumn)?;
+    let theirs = or_no_column(find_positions(alloc, others, exists.theirs.as_slice()))?;
+    let ours = or_no_column(find_positions(alloc, columns, exists.ours.as_slice()))?;
     Ok(Some(Matching {
         negated: exists.negated,
         theirs,

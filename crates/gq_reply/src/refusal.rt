@@ -5,64 +5,47 @@ ghost use Rattle.gq_reply.specs.Replies.{code_of, name_of};
 ghost use Rattle.gq_reply.specs.declared.refusal.Refusal.TheVariants.{Memory};
 
 use std::alloc::AllocError;
-use thiserror::Error;
+use std::error::Error;
+use std::fmt;
 
 /// Why a command was refused. Refused commands change no table.
-#[derive(Clone, Copy, Debug, PartialEq, Eq, Error)]
+#[derive(Clone, Copy, Debug, PartialEq, Eq)]
 pub enum Refusal {
     /// The line is no command.
-    #[error("no command")]
     Syntax,
     /// The line is longer than the limit.
-    #[error("the line is too long")]
     LineTooLong,
     /// There is no table of that name.
-    #[error("no such table")]
     NoTable,
     /// There is a table of that name already.
-    #[error("there is such a table already")]
     TableExists,
     /// The table has no column of that name.
-    #[error("no such column")]
     NoColumn,
     /// A value is of another kind than its column, or there are too many or too few.
-    #[error("the values don't fit the columns")]
     TypeMismatch,
     /// The table has no key.
-    #[error("the table has no key")]
     NoKey,
     /// A key column would hold null.
-    #[error("null in a key column")]
     NullKey,
     /// A payload's header does not name each column once.
-    #[error("the header does not name each column once")]
     Header,
     /// A record has more or fewer fields than the header.
-    #[error("more or fewer fields than the header has")]
     FieldCount,
     /// A field is no whole number of 64 bits.
-    #[error("a field is no whole number of 64 bits")]
     BadInt,
     /// A field is not UTF-8.
-    #[error("a field is not UTF-8")]
     BadText,
     /// A sum is no whole number of 64 bits.
-    #[error("a sum is no whole number of 64 bits")]
     SumRange,
     /// Something is past a limit.
-    #[error("past a limit")]
     Limit,
     /// A request for memory was refused.
-    #[error("out of memory")]
     Memory,
     /// The run store failed.
-    #[error("the run store failed")]
     StoreFault,
     /// The run store did not read back what was written.
-    #[error("the run store did not read back what was written")]
     Damaged,
     /// A payload was not closed.
-    #[error("the payload was not closed")]
     LoadOpen,
 }
 
@@ -119,7 +102,39 @@ impl Refusal {
             Refusal::LoadOpen => "LoadOpen",
         }
     }
+
+    // What it says to a reader.
+    fn message(self) -> &'static str {
+        match self {
+            Refusal::Syntax => "no command",
+            Refusal::LineTooLong => "the line is too long",
+            Refusal::NoTable => "no such table",
+            Refusal::TableExists => "there is such a table already",
+            Refusal::NoColumn => "no such column",
+            Refusal::TypeMismatch => "the values don't fit the columns",
+            Refusal::NoKey => "the table has no key",
+            Refusal::NullKey => "null in a key column",
+            Refusal::Header => "the header does not name each column once",
+            Refusal::FieldCount => "more or fewer fields than the header has",
+            Refusal::BadInt => "a field is no whole number of 64 bits",
+            Refusal::BadText => "a field is not UTF-8",
+            Refusal::SumRange => "a sum is no whole number of 64 bits",
+            Refusal::Limit => "past a limit",
+            Refusal::Memory => "out of memory",
+            Refusal::StoreFault => "the run store failed",
+            Refusal::Damaged => "the run store did not read back what was written",
+            Refusal::LoadOpen => "the payload was not closed",
+        }
+    }
 }
+
+impl fmt::Display for Refusal {
+    fn fmt<W: fmt::Write>(&self, f: &mut fmt::Formatter<W>) -> fmt::Result {
+        f.write_str(self.message())
+    }
+}
+
+impl Error for Refusal {}
 
 /// Why a command was refused, and the number of the faulty record where a payload has one.
 #[derive(Clone, Copy, Debug, PartialEq, Eq)]

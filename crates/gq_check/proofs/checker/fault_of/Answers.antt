@@ -1,15 +1,11 @@
-use Rattle.std.proofs.Common.{◌≡◌, true, false, sym, ap, refl, ◌∙◌, subst, length, ◌<◌}
-use Rattle.std.specs.Prelude.{Err, IsErrOf}
-use Rattle.gq_command.specs.declared.lines.LineRefusal.{LineRefusal}
+use Rattle.std.proofs.Common.{◌≡◌, true, false, Some, None, sym, refl, subst, ◌∙◌}
 use Rattle.gq_command.specs.declared.lines.LineRefusal.TheVariants as refusal
 use Rattle.gq_command.specs.declared.reader.Item.TheVariants as item
-use Rattle.gq_command.specs.declared.command.Command.{Command}
-use Rattle.gq_command.specs.Commands.{Bytes, fits}
-use Rattle.gq_command.specs.Lines.{Says}
-use Rattle.gq_command.proofs.Answered.{command, dash, refused, too_long}
+use Rattle.gq_command.specs.Commands.{Bytes}
+use Rattle.gq_command.proofs.Answered.{command, dash, too_long}
 use Rattle.gq_check.specs.declared.fault.Fault.TheVariants as why
-use Rattle.gq_check.specs.Findings.{refusal_fault}
-use Rattle.gq_check.proofs.Faults.{accepted, refused-so}
+use Rattle.gq_check.specs.Findings.{IsToldOf}
+use Rattle.gq_check.proofs.Faults.{accepted, refused-so, told-refused}
 use Rattle.gq_check.proofs.checker.fault_of.Goals as goal
 use Rattle.gq_check.proofs.checker.fault_of.Goals.{in-Dash, in_default}
 
@@ -22,47 +18,38 @@ returns-then-matches c = elim c.match-matches.branch [
   | in_default w ↦ λ text h e. let f : false ≡ true = sym w.matches-is ∙ c.if-matches.true in absurd cc
 ]
 
-pub returns-in-Ok : goal.returns-in-Ok
-returns-in-Ok c =
+pub returns-in-None : goal.returns-in-None
+returns-in-None c =
     let b = c.args.limits.now.bounds in
-    let said = subst (λ (l : Bytes). Says l c.in-Ok._command) c.as_slice.ensures.value c.in-Ok.ensures.said in
+    let told = subst (λ (l : Bytes). IsToldOf b l None) c.as_slice.ensures.value c.in-None.ensures in
     elim c.match-matches.branch [
       | in-Dash w ↦ λ text h e. let f : true ≡ false = sym w.matches-is ∙ c.if-matches.false in absurd cc
-      | in_default w ↦ λ text h e. accepted b text (item.Command c.in-Ok._command) refl (λ x. absurd cc) (command b c.args.line.now text h e c.if-line.false c.if-line-2.false w.in_default.not-Dash c.in-Ok._command said c.in-Ok.ensures.within)
+      | in_default w ↦ λ text h e. accepted b text (item.Command told.0) refl (λ x. absurd cc) (command b c.args.line.now text h e c.if-line.false c.if-line-2.false w.in_default.not-Dash told.0 told.1 told.2)
     ]
 
-pub returns-in-Err-Syntax : goal.returns-in-Err-Syntax
-returns-in-Err-Syntax c =
+pub returns-in-Some-Syntax : goal.returns-in-Some-Syntax
+returns-in-Some-Syntax c =
     let b = c.args.limits.now.bounds in
-    let r = c.in-Err-Syntax.field-0 in
-    let syntax = subst (λ (l : Bytes). IsErrOf {T = Command} {E = LineRefusal} (Err r) refusal.Syntax → (c : Command) → Says l c → ⊥) c.as_slice.ensures.value c.in-Err-Syntax.ensures.syntax in
-    let limit = subst (λ (l : Bytes). IsErrOf {T = Command} {E = LineRefusal} (Err r) refusal.Limit → (c : Command) × Says l c × (fits b c ≡ false)) c.as_slice.ensures.value c.in-Err-Syntax.ensures.limit in
-    let too = subst (λ (l : Bytes). IsErrOf {T = Command} {E = LineRefusal} (Err r) refusal.LineTooLong → b.line < length l) c.as_slice.ensures.value c.in-Err-Syntax.ensures.too_long.0 in
+    let told = subst (λ (l : Bytes). IsToldOf b l (Some refusal.Syntax)) c.as_slice.ensures.value (rw c.in-Some-Syntax.field-0-is at c.in-Some-Syntax.ensures) in
     elim c.match-matches.branch [
       | in-Dash w ↦ λ text h e. let f : true ≡ false = sym w.matches-is ∙ c.if-matches.false in absurd cc
-      | in_default w ↦ λ text h e. refused-so b text r why.Syntax (ap refusal_fault c.in-Err-Syntax.field-0-is) (refused b c.args.line.now text h e c.if-line.false c.if-line-2.false w.in_default.not-Dash r syntax limit too)
+      | in_default w ↦ λ text h e. refused-so b text refusal.Syntax why.Syntax refl (told-refused b c.args.line.now text h e c.if-line.false c.if-line-2.false w.in_default.not-Dash refusal.Syntax told)
     ]
 
-pub returns-in-Err-LineTooLong : goal.returns-in-Err-LineTooLong
-returns-in-Err-LineTooLong c =
+pub returns-in-Some-LineTooLong : goal.returns-in-Some-LineTooLong
+returns-in-Some-LineTooLong c =
     let b = c.args.limits.now.bounds in
-    let r = c.in-Err-LineTooLong.field-0 in
-    let syntax = subst (λ (l : Bytes). IsErrOf {T = Command} {E = LineRefusal} (Err r) refusal.Syntax → (c : Command) → Says l c → ⊥) c.as_slice.ensures.value c.in-Err-LineTooLong.ensures.syntax in
-    let limit = subst (λ (l : Bytes). IsErrOf {T = Command} {E = LineRefusal} (Err r) refusal.Limit → (c : Command) × Says l c × (fits b c ≡ false)) c.as_slice.ensures.value c.in-Err-LineTooLong.ensures.limit in
-    let too = subst (λ (l : Bytes). IsErrOf {T = Command} {E = LineRefusal} (Err r) refusal.LineTooLong → b.line < length l) c.as_slice.ensures.value c.in-Err-LineTooLong.ensures.too_long.0 in
+    let told = subst (λ (l : Bytes). IsToldOf b l (Some refusal.LineTooLong)) c.as_slice.ensures.value (rw c.in-Some-LineTooLong.field-0-is at c.in-Some-LineTooLong.ensures) in
     elim c.match-matches.branch [
       | in-Dash w ↦ λ text h e. let f : true ≡ false = sym w.matches-is ∙ c.if-matches.false in absurd cc
-      | in_default w ↦ λ text h e. refused-so b text r why.LineTooLong (ap refusal_fault c.in-Err-LineTooLong.field-0-is) (refused b c.args.line.now text h e c.if-line.false c.if-line-2.false w.in_default.not-Dash r syntax limit too)
+      | in_default w ↦ λ text h e. refused-so b text refusal.LineTooLong why.LineTooLong refl (told-refused b c.args.line.now text h e c.if-line.false c.if-line-2.false w.in_default.not-Dash refusal.LineTooLong told)
     ]
 
-pub returns-in-Err-Limit : goal.returns-in-Err-Limit
-returns-in-Err-Limit c =
+pub returns-in-Some-Limit : goal.returns-in-Some-Limit
+returns-in-Some-Limit c =
     let b = c.args.limits.now.bounds in
-    let r = c.in-Err-Limit.field-0 in
-    let syntax = subst (λ (l : Bytes). IsErrOf {T = Command} {E = LineRefusal} (Err r) refusal.Syntax → (c : Command) → Says l c → ⊥) c.as_slice.ensures.value c.in-Err-Limit.ensures.syntax in
-    let limit = subst (λ (l : Bytes). IsErrOf {T = Command} {E = LineRefusal} (Err r) refusal.Limit → (c : Command) × Says l c × (fits b c ≡ false)) c.as_slice.ensures.value c.in-Err-Limit.ensures.limit in
-    let too = subst (λ (l : Bytes). IsErrOf {T = Command} {E = LineRefusal} (Err r) refusal.LineTooLong → b.line < length l) c.as_slice.ensures.value c.in-Err-Limit.ensures.too_long.0 in
+    let told = subst (λ (l : Bytes). IsToldOf b l (Some refusal.Limit)) c.as_slice.ensures.value (rw c.in-Some-Limit.field-0-is at c.in-Some-Limit.ensures) in
     elim c.match-matches.branch [
       | in-Dash w ↦ λ text h e. let f : true ≡ false = sym w.matches-is ∙ c.if-matches.false in absurd cc
-      | in_default w ↦ λ text h e. refused-so b text r why.Limit (ap refusal_fault c.in-Err-Limit.field-0-is) (refused b c.args.line.now text h e c.if-line.false c.if-line-2.false w.in_default.not-Dash r syntax limit too)
+      | in_default w ↦ λ text h e. refused-so b text refusal.Limit why.Limit refl (told-refused b c.args.line.now text h e c.if-line.false c.if-line-2.false w.in_default.not-Dash refusal.Limit told)
     ]

@@ -1,4 +1,4 @@
-use Rattle.std.proofs.Common.{◌∙◌, sym, ap, arith}
+use Rattle.std.proofs.Common.{◌∙◌, Ok, sym, ap, arith}
 use Rattle.std.proofs.lemmas.Result.{err_from_is_err_and}
 use Rattle.std.proofs.lemmas.Grind.{common_steps}
 use Rattle.gq_load.proofs.Left.{either_told, front_bad, front_end, front_more}
@@ -21,7 +21,7 @@ loop-preserved c =
     ∙ c.loop.invariant
 
 pub returns-then-not-branch : goal.returns-then-not-branch
-returns-then-not-branch c = sym c.loop.invariant ∙ front_end c.loop.rows.items c.loop.reader.rows (c.in_ok-read.ensures.end c.if-not-branch.true)
+returns-then-not-branch c = sym c.loop.invariant ∙ front_end c.loop.rows.items c.loop.reader.rows (c.in_ok-read.ensures.end c.if-not-branch.true) ∙ ap Ok (sym c.new-then-not-branch.ensures)
 
 pub returns-in_err-push : goal.returns-in_err-push
 returns-in_err-push c = grind (arith, common_steps)

@@ -1,18 +1,32 @@
-use Rattle.std.proofs.Common.{ap, ap₂, ◌∙◌}
+use Rattle.std.proofs.Common.{ap, sym, subst, refl, false, codes, map, List, [], ◌∷◌, ◌≡◌, ◌∙◌}
 use Rattle.std.proofs.lemmas.Result.{IfOk-weaker}
-use Rattle.clap.specs.Words.{with_rule}
+use Rattle.clap.specs.Words.{AddsArg, AddsInTurn, App, Rule, app_of, new_app, rule_of, with_rule}
 use Rattle.clap.specs.Simple.{app_of_fields}
-use Rattle.gq_options.specs.CommandLine.{with_version}
+use Rattle.clap.specs.declared.builder.arg.Arg.{Arg}
+use Rattle.clap.specs.declared.builder.command.Command.{Command}
+use Rattle.gq_options.specs.CommandLine.{LINE, with_version}
 use Rattle.gq_options.proofs.options.command_line.Goals as goal
+
+abbrev with_rules : App → List Rule → App
+with_rules app [] = app
+with_rules app (rule ∷ rules) = with_rules (with_rule app rule) rules
+
+abbrev are_local : List Arg → Type 0
+are_local [] = Unit {0}
+are_local (arg ∷ args) = (arg.global ≡ false) × are_local args
+
+added : (old : Command) (args : List Arg) (new : Command) → AddsInTurn AddsArg old args new → are_local args → app_of new ≡ with_rules (app_of old) (map rule_of args)
+added old [] new adds local = ap app_of (sym adds)
+added old (arg ∷ args) new adds local = added adds.0 args new adds.2 local.1 ∙ ap (λ app. with_rules app (map rule_of args)) (adds.1.shape local.0)
 
 pub returns : goal.returns
 returns c =
     let named = ap app_of_fields c.in_ok-bin_name.ensures.0 ∙ c.new.ensures.app in
     let versioned = ap app_of_fields c.version.ensures ∙ ap with_version named in
     let shown = ap app_of_fields c.after_help.ensures ∙ ap app_of_fields c.about.ensures ∙ versioned in
-    let with_budget = c.in_ok-arg.ensures.shape c.budget_option.ensures.local ∙ ap₂ with_rule shown c.budget_option.ensures.rule in
-    let with_seed = c.in_ok-arg-2.ensures.shape c.seed_option.ensures.local ∙ ap₂ with_rule with_budget c.seed_option.ensures.rule in
-    let with_spill = c.in_ok-arg-3.ensures.shape c.spill_option.ensures.local ∙ ap₂ with_rule with_seed c.spill_option.ensures.rule in
-    let with_stats = c.in_ok-arg-4.ensures.shape c.stats_option.ensures.local ∙ ap₂ with_rule with_spill c.stats_option.ensures.rule in
-    let with_check = c.in_ok-arg-5.ensures.shape c.check_option.ensures.local ∙ ap₂ with_rule with_stats c.check_option.ensures.rule in
-    IfOk-weaker c.arg-6.result _ _ (λ r h. h.shape c.script_word.ensures.local ∙ ap₂ with_rule with_check c.script_word.ensures.rule) c.arg-6.ensures
+    let args = c.budget_option.result ∷ c.seed_option.result ∷ c.spill_option.result ∷ c.stats_option.result ∷ c.check_option.result ∷ c.script_word.result ∷ [] in
+    let local : are_local args = (c.budget_option.ensures.local, (c.seed_option.ensures.local, (c.spill_option.ensures.local, (c.stats_option.ensures.local, (c.check_option.ensures.local, (c.script_word.ensures.local, tt)))))) in
+    let rules : with_rules (with_version (new_app (codes "groupsh"))) (map rule_of args) ≡ LINE =
+    rw (c.budget_option.ensures.rule, c.seed_option.ensures.rule, c.spill_option.ensures.rule, c.stats_option.ensures.rule, c.check_option.ensures.rule, c.script_word.ensures.rule) refl in
+    let line : with_rules (app_of c.after_help.result) (map rule_of args) ≡ LINE = ap (λ app. with_rules app (map rule_of args)) shown ∙ rules in
+    IfOk-weaker c.args-2.result _ _ (λ r h. added c.after_help.result args r (rw c.in_ok-args.ensures.items at h) local ∙ line) c.args-2.ensures
