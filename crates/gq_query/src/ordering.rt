@@ -26,11 +26,7 @@ pub fn sort_rows(rows: Rows, columns: &[usize]) -> Result<Rows, AllocError>
 }
 
 // Sorts where rows stand likewise.
-fn sort_spans(
-    cells: &[Value],
-    spans: &mut Vec<Span>,
-    columns: &[usize],
-) -> Result<(), AllocError>
+fn sort_spans(cells: &[Value], spans: &mut Vec<Span>, columns: &[usize]) -> Result<(), AllocError>
     ensures moved { IsPermutation spans.old.items spans.new.items }
     ensures ascending { OnOk result (IsSortedByKey
         (λ span. ordered_by columns.now (row_in cells.now span)) compare_keys spans.new.items) }

@@ -239,5 +239,5 @@ picked n i columns rows view long (c ∷ asked) h =
     let here = position_within n i columns rows view long (row_within rows i c first) in
     let row : slice_index_or rows i [] ≡ map (λ column. slice_index_or column i Null) columns = ap (λ l. slice_index_or l i []) (sym view) ∙ row_there n i columns long here in
     let one : slice_index_or (slice_index_or columns c []) i Null ≡ slice_index_or (slice_index_or rows i []) c Null =
-        sym (get_or-map (λ (column : List Value). slice_index_or column i Null) columns c [] Null there.0) ∙ ap (λ l. slice_index_or l c Null) (sym row) in
+    sym (get_or-map (λ (column : List Value). slice_index_or column i Null) columns c [] Null there.0) ∙ ap (λ l. slice_index_or l c Null) (sym row) in
     λ z. one z ∷ picked n i columns rows view long asked (All-tail (λ k. k < length (slice_index_or rows i [])) c asked h) z

@@ -20,7 +20,7 @@ mod refusal;
 mod rows;
 mod table;
 
-pub use refusal::TableRefusal;
 pub use grid::Grid;
+pub use refusal::TableRefusal;
 pub use rows::{RowCursor, Storage};
 pub use table::Table;

@@ -9,10 +9,10 @@ ghost use Rattle.gq_table.specs.Standing.{IsStanding};
 ghost use Rattle.gq_table.specs.Stored.{IsStored, rows_of};
 ghost use Rattle.gq_table.specs.declared.refusal.TableRefusal.TheVariants.{Limit, Memory};
 
+use crate::grid::Grid;
 use crate::keyed::{delete_keyed, put_keyed, reserve_keyed, row_out};
 use crate::load::load_keyed;
 use crate::refusal::TableRefusal;
-use crate::grid::Grid;
 use crate::rows::{RowCursor, Storage};
 use gq_row::{Key, Limits, Row, Schema, Value};
 use std::alloc::{AllocError, Global};
@@ -248,12 +248,7 @@ fn put_listed(
 }
 
 // Puts rows at the end of a list, where no more than `most` then stand there: all or none.
-fn load_listed(
-    alloc: Global,
-    list: &mut Grid,
-    rows: Grid,
-    most: usize,
-) -> Result<(), TableRefusal>
+fn load_listed(alloc: Global, list: &mut Grid, rows: Grid, most: usize) -> Result<(), TableRefusal>
     requires few { most ≤ 16777216 }
     requires even { All (λ row. All (λ other. length other ≡ length row) list.old) rows }
     ensures ok { OnOk result (list.new ≡ list.old ++ rows) }

@@ -1,9 +1,8 @@
-use Rattle.std.proofs.Common.{◌≡◌, ◌∙◌, All, List, map, sym, ap, subst, IsPermutation}
+use Rattle.std.proofs.Common.{◌∙◌, map, sym, subst, IsPermutation}
 use Rattle.std.specs.List.Sorted.{IsSortedByKey}
 use Rattle.std.proofs.lemmas.List.Sorted.{All-permutation, IsPermutation-map}
 use Rattle.gq_row.specs.Lists.{IsPart, row_at}
 use Rattle.gq_row.specs.Order.{compare_keys}
-use Rattle.gq_row.specs.declared.value.Value.{Value}
 use Rattle.gq_query.specs.Answers.{ordered_by}
 use Rattle.gq_query.specs.Spans.{row_in}
 use Rattle.gq_query.proofs.OrderingLemmas.{rows_in_are, sorted_map}

@@ -1,4 +1,4 @@
-use Rattle.std.proofs.Common.{◌≡◌, ◌<◌, ◌∙◌, ◌+◌, ◌++◌, ◌∷◌, [], length, map, drop, slice_index_or, refl, sym, ap, arith}
+use Rattle.std.proofs.Common.{◌≡◌, ◌<◌, ◌∙◌, ◌++◌, ◌∷◌, [], length, map, drop, slice_index_or, refl, sym, ap, arith}
 use Rattle.std.proofs.lemmas.List.{get_or-map, length-map, length-set}
 use Rattle.gq_table.specs.Columns.{alone}
 use Rattle.gq_table.proofs.GridLemmas.{behind_all, behind_step, kept_start, kept_step, left_next, left_there, get_or_any}
@@ -24,9 +24,9 @@ loop-i-preserved c =
     let long : length more ≡ length columns = length-map c.args.row.now alone ∙ c.requires.all ∙ sym inv.same in
     let lt-row : i < length c.args.row.now = omega (arith, lt, inv.same, c.requires.all) in
     let is : cells ≡ slice_index_or columns i [] ++ slice_index_or (map alone c.args.row.now) i [] =
-        c.in_ok-push.ensures.pushed
-        ∙ (λ z. get_or_any columns i c.index-columns-i.result [] lt z ++ (left_there c.loop-i.row c.args.row.now i c.index-row-i.result c.loop-i.invariant.left z) ∷ [])
-        ∙ ap (λ l. slice_index_or columns i [] ++ l) (sym (get_or-map alone c.args.row.now i c.index-row-i.result [] lt-row)) in
+    c.in_ok-push.ensures.pushed
+    ∙ (λ z. get_or_any columns i c.index-columns-i.result [] lt z ++ (left_there c.loop-i.row c.args.row.now i c.index-row-i.result c.loop-i.invariant.left z) ∷ [])
+    ∙ ap (λ l. slice_index_or columns i [] ++ l) (sym (get_or-map alone c.args.row.now i c.index-row-i.result [] lt-row)) in
     record {
       size = omega (arith, inv.size, length-set c.loop-i.row i c.push.new.value, length-set columns i cells);
       same = length-set columns i cells ∙ inv.same;

@@ -1,4 +1,4 @@
-use Rattle.std.proofs.Common.{◌≡◌, ◌++◌, length, map, take, drop}
+use Rattle.std.proofs.Common.{◌≡◌, ◌++◌, map, take, drop}
 use Rattle.gq_table.proofs.grid.truncate_columns.Given as goal
 
 abbrev pub invariant-loop-i : goal.invariant-loop-i

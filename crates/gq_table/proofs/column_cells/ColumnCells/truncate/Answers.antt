@@ -8,13 +8,13 @@ use Rattle.gq_table.proofs.column_cells.ColumnCells.truncate.Goals as goal
 
 pub returns : goal.returns
 returns c = elim c.match-self.branch [
-  in-Numbers w ↦
-    ap (λ (s : Inside). cells_of s.stored) w.self-inside-is
-    ∙ ap (map number_cell) w.truncate.ensures.items
-    ∙ sym (take-map number_cell c.args.cells w.in-Numbers.numbers.items)
-    ∙ ap (take c.args.cells) (ap cells_of (sym w.in-Numbers.is) ∙ c.self.view_is)
+  | in-Numbers w ↦
+      ap (λ (s : Inside). cells_of s.stored) w.self-inside-is
+      ∙ ap (map number_cell) w.truncate.ensures.items
+      ∙ sym (take-map number_cell c.args.cells w.in-Numbers.numbers.items)
+      ∙ ap (take c.args.cells) (ap cells_of (sym w.in-Numbers.is) ∙ c.self.view_is)
   | in-Values w ↦
-    ap (λ (s : Inside). cells_of s.stored) w.self-inside-is
-    ∙ w.truncate-in-Values.ensures.items
-    ∙ ap (take c.args.cells) (ap cells_of (sym w.in-Values.is) ∙ c.self.view_is)
-  ]
+      ap (λ (s : Inside). cells_of s.stored) w.self-inside-is
+      ∙ w.truncate-in-Values.ensures.items
+      ∙ ap (take c.args.cells) (ap cells_of (sym w.in-Values.is) ∙ c.self.view_is)
+]

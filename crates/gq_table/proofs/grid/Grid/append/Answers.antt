@@ -1,7 +1,6 @@
-use Rattle.std.proofs.Common.{◌≡◌, ◌<◌, ◌∙◌, ◌++◌, ◌+◌, [], All, List, length, refl, sym, ap, subst, arith, rules}
+use Rattle.std.proofs.Common.{◌≡◌, ◌∙◌, ◌++◌, ◌+◌, [], length, sym, ap, arith, rules}
 use Rattle.std.proofs.lemmas.List.{append-nil}
-use Rattle.gq_row.specs.declared.value.Value.{Value}
-use Rattle.gq_table.specs.Columns.{AreAsLong, columns_behind, rows_across}
+use Rattle.gq_table.specs.Columns.{columns_behind, rows_across}
 use Rattle.gq_table.proofs.GridLemmas.{appended, both_wide, none_across, written}
 use Rattle.gq_table.proofs.grid.Grid.append.Goals as goal
 
@@ -20,7 +19,7 @@ append_columns-requires c =
     let g = c.self.inside in
     let m = c.more.inside in
     let same = both_wide g.rows m.rows g.columns.items m.columns.items c.args.self.now c.args.more
-        c.self.view_is c.self.invariant (omega (arith, c.if-self-eq0.false)) c.more.view_is c.more.invariant (omega (arith, c.if-rows-eq0.false)) c.requires in
+    c.self.view_is c.self.invariant (omega (arith, c.if-self-eq0.false)) c.more.view_is c.more.invariant (omega (arith, c.if-rows-eq0.false)) c.requires in
     record { all = ap length c.as_mut_slice-2.ensures.value ∙ same ∙ sym (ap length c.as_mut_slice.ensures.value) }
 
 pub invariant_of-self-in-Ok : goal.invariant_of-self-in-Ok
@@ -28,7 +27,7 @@ invariant_of-self-in-Ok c =
     let g = c.self.inside in
     let m = c.more.inside in
     let same = both_wide g.rows m.rows g.columns.items m.columns.items c.args.self.now c.args.more
-        c.self.view_is c.self.invariant (omega (arith, c.if-self-eq0.false)) c.more.view_is c.more.invariant (omega (arith, c.if-rows-eq0.false)) c.requires in
+    c.self.view_is c.self.invariant (omega (arith, c.if-self-eq0.false)) c.more.view_is c.more.invariant (omega (arith, c.if-rows-eq0.false)) c.requires in
     let count : c.in-Some.rows ≡ g.rows + m.rows = search rules in
     let is : c.append_columns.new.columns ≡ columns_behind g.columns.items m.columns.items = search rules in
     (written g.columns.items c.append_columns.new.columns g.columns.len (omega (arith, c.append_columns.auto.columns, c.as_mut_slice.ensures.len)) c.in-Some.rows (c.args.self.now ++ c.args.more)
@@ -39,7 +38,7 @@ returns-in-Ok-clause-appended c =
     let g = c.self.inside in
     let m = c.more.inside in
     let same = both_wide g.rows m.rows g.columns.items m.columns.items c.args.self.now c.args.more
-        c.self.view_is c.self.invariant (omega (arith, c.if-self-eq0.false)) c.more.view_is c.more.invariant (omega (arith, c.if-rows-eq0.false)) c.requires in
+    c.self.view_is c.self.invariant (omega (arith, c.if-self-eq0.false)) c.more.view_is c.more.invariant (omega (arith, c.if-rows-eq0.false)) c.requires in
     let count : c.in-Some.rows ≡ g.rows + m.rows = search rules in
     let is : c.append_columns.new.columns ≡ columns_behind g.columns.items m.columns.items = search rules in
     (written g.columns.items c.append_columns.new.columns g.columns.len (omega (arith, c.append_columns.auto.columns, c.as_mut_slice.ensures.len)) c.in-Some.rows (c.args.self.now ++ c.args.more)

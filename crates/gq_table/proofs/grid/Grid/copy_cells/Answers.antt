@@ -1,4 +1,4 @@
-use Rattle.std.proofs.Common.{◌≡◌, ◌<◌, ◌∙◌, [], List, length, map, slice_index_or, sym, ap, subst}
+use Rattle.std.proofs.Common.{◌<◌, ◌∙◌, [], List, length, map, slice_index_or, sym, ap, subst}
 use Rattle.std.proofs.lemmas.Result.{on_ok_weaker}
 use Rattle.gq_row.specs.declared.value.Value.{Value}
 use Rattle.gq_row.specs.declared.value.Value.TheVariants.{Null}
