@@ -1,4 +1,4 @@
-use Rattle.std.proofs.Common.{◌≡◌, ◌<◌, true, false, refl, sym, subst, length, Option}
+use Rattle.std.proofs.Common.{◌≡◌, ◌<◌, true, false, refl, sym, subst, length}
 use Rattle.std.specs.Prelude.{Result, Ok, Err, IfOk, IsErrOf}
 use Rattle.std.specs.Result.{result_err}
 use Rattle.gq_row.specs.declared.limits.Bounds.{Bounds}
