@@ -145,3 +145,13 @@ taken_twice budget first second (Ok spent) of_first of_second between read writt
   runs = omega (arith, runs);
 }
 taken_twice budget first second (Err e) of_first of_second between read written groups runs = tt
+
+-- ---- a source of one run, whatever its number is written as
+
+pub leaves-one : (was new run : ℕ) (k k' : RunSet) (r s : Runs) → was ≡ run → IsTrue (only new was) → LeavesOthers (either (only was) k) (either (only new) k') r s → LeavesOthers (either (only run) k) (either (only run) k') r s
+leaves-one was new run k k' r s is grows step =
+    let same : new ≡ run = sym (equal_number was new grows) ∙ is in
+    subst (λ n. LeavesOthers (either (only run) k) (either (only n) k') r s) same (subst (λ n. LeavesOthers (either (only n) k) (either (only new) k') r s) is step)
+
+pub apart-run : (was new run : ℕ) (k : RunSet) → was ≡ run → IsTrue (only new was) → Apart (only new) k → Apart (only run) k
+apart-run was new run k is grows apart = subst (λ n. Apart (only n) k) (sym (equal_number was new grows) ∙ is) apart

@@ -1,6 +1,6 @@
 -- Rows are read and placed, one after the other.
-use Rattle.std.proofs.Common.{◌≡◌, ◌<◌, ◌+◌, ◌++◌, ◌==◌, ℕ, zero, suc, Bool, false, List, [], ◌∷◌, length, refl, sym, ap, subst, ◌∙◌, arith, ◌||◌, inl, inr, append_assoc, length-append, cond}
-use Rattle.std.specs.Prelude.{IsTrue}
+use Rattle.std.proofs.Common.{◌≡◌, ◌<◌, ◌≤◌, ◌+◌, ◌++◌, ◌==◌, ℕ, zero, suc, Bool, true, false, List, [], ◌∷◌, length, Result, refl, sym, ap, subst, ◌∙◌, arith, ◌||◌, inl, inr, append_assoc, length-append, cond}
+use Rattle.std.specs.Prelude.{IsTrue, Ok, Err, IsErrAnd, IsErrOf, if◌then◌else◌, nat_lt}
 use Rattle.std.specs.List.{sum_by}
 use Rattle.std.proofs.lemmas.List.Sums.{sum_by-cons}
 use Rattle.std.proofs.lemmas.Bool.Decides.{nat_tests}
@@ -9,7 +9,7 @@ use Rattle.gq_spill.specs.Runs.{Runs}
 use Rattle.gq_group.specs.Access.{RunSet, either, Apart, LeavesOthers, HasCause, GroupCause}
 use Rattle.gq_group.specs.Entries.{Pair}
 use Rattle.gq_group.specs.Groups.{Spec}
-use Rattle.gq_group.specs.Levels.{one_if_some, lots}
+use Rattle.gq_group.specs.Levels.{one_if_some, lots, classes_at}
 use Rattle.gq_group.specs.Readings.{Places, Reads, IsWide, left_lots}
 use Rattle.gq_group.specs.Residents.{Resident}
 use Rattle.gq_group.specs.Slots.{is_run, among, Separate, Ours, AllHeld, SlotHolds, AreEmpty}
@@ -149,3 +149,28 @@ group_cause-later Memory a b r s t step h = tt
 group_cause-later StoreFault a b r s t step h = omega (arith, step.no_fewer_failures, h)
 group_cause-later Damaged a b r s t step h = λ honest. h (step.same_honest ∙ honest)
 group_cause-later SumRange a b r s t step h = tt
+
+pub group_cause-of : (e : Refusal) (r s : Runs) → HasCause e r s → GroupCause e r s
+group_cause-of Memory r s h = tt
+group_cause-of StoreFault r s h = h
+group_cause-of Damaged r s h = h
+group_cause-of SumRange r s h = tt
+
+-- what has a cause is no sum that is out of range
+pub no_sum : {T : Type 0} (q : Result T Refusal) (e : Refusal) (r s : Runs) → IsErrAnd q (λ y. y ≡ e) → HasCause e r s → IsErrOf q SumRange → ⊥
+no_sum (Ok z) e r s is cause of = absurd is
+no_sum {T = T} (Err y) e r s is cause of = subst (λ x. HasCause x r s) (sym is ∙ inside of) cause
+  where
+    inside : IsErrOf {T = T} (Err y) SumRange → y ≡ SumRange
+    inside h = cc
+
+-- no level has more classes than sixteen
+pub places-few : (level n : ℕ) → n ≡ classes_at level → n ≤ 16
+places-few level n is = at (nat_lt level 4) is
+  where
+    at : (b : Bool) → n ≡ (if b then 16 else 1) → n ≤ 16
+    at true e = omega (arith, e)
+    at false e = omega (arith, e)
+
+pub places-within : (level n count : ℕ) → count ≡ classes_at level → n ≤ count → n ≤ 16
+places-within level n count is few = omega (arith, few, places-few level count is)

@@ -75,8 +75,8 @@ among-some : (front : List Slot) (slot : Slot) (w : Writing) (run : ℕ) → slo
 among-some front slot w run some = among-append front (slot ∷ []) run ∙ ap (λ o. among front run || (is_run o run || false)) some ∙ ap (λ b. among front run || b) (or_false (only w.mark.id.number run))
 
 -- an empty slot was taken away
-pub stack-skip : (a b : RunSet) (front : List Slot) (slot : Slot) (r s : Runs) → slot.writer ≡ None → OnStack a b (front ++ slot ∷ []) r s → OnStack a b front r s
-stack-skip a b front slot r s none on = record {
+pub stack-skip : (a b : RunSet) (stack front : List Slot) (slot : Slot) (r s : Runs) → stack ≡ front ++ slot ∷ [] → slot.writer ≡ None → OnStack a b stack r s → OnStack a b front r s
+stack-skip a b stack front slot r s popped none known = let on : OnStack a b (front ++ slot ∷ []) r s = subst (λ st. OnStack a b st r s) popped known in record {
   ours = ours-front front slot s on.ours;
   apart = λ run h. on.apart run (among-none front slot run none ∙ h);
   others = leaves-same a a (either b (among (front ++ slot ∷ []))) (either b (among front)) r s (λ run. refl) (λ run. ap (λ x. b run || x) (sym (among-none front slot run none))) on.others;
@@ -126,10 +126,10 @@ module _ (a src k k' : RunSet) (front slots : List Slot) (slot : Slot) (w : Writ
   front_live : (run : ℕ) → IsTrue (among front run) → IsTrue (r.live run)
   front_live run h = on.ours.live run (front_in run h)
 
-  pub front_kept : KeepsOwn (among front) r t
+  front_kept : KeepsOwn (among front) r t
   front_kept = turn-keeps (among front) mine k (among slots) k' r m t step gone front_apart front_live
 
-  pub src_kept : KeepsOwn src r t
+  src_kept : KeepsOwn src r t
   src_kept = turn-keeps src mine k (among slots) k' r m t step gone src_apart live
 
   front_later : Apart (among front) (either (either mine (among slots)) k')
@@ -138,14 +138,14 @@ module _ (a src k k' : RunSet) (front slots : List Slot) (slot : Slot) (w : Writ
   src_later : Apart src (either (either mine (among slots)) k')
   src_later = apart-step r m (either mine k) (either (either mine (among slots)) k') src step src_apart live
 
-  pub front_held : (parts : List (List (List Value))) → AllHeld r front parts → AllHeld t front parts
+  front_held : (parts : List (List (List Value))) → AllHeld r front parts → AllHeld t front parts
   front_held parts h = held-stays r t front parts front_kept (ours-front front slot r on.ours) h
 
   -- and what the source owns is still apart from the sink
-  pub src_sink : Apart src k'
+  src_sink : Apart src k'
   src_sink run h = or_right (mine run || among slots run) (k' run) (src_later run h)
 
-  pub stack-read : Ours slots t → Apart (among slots) (either mine k') → k' w.mark.id.number ≡ false → ((run : ℕ) → IsTrue (k run) → IsTrue (k' run)) → OnStack a (either src k') (front ++ slots) r0 t
+  stack-read : Ours slots t → Apart (among slots) (either mine k') → k' w.mark.id.number ≡ false → ((run : ℕ) → IsTrue (k run) → IsTrue (k' run)) → OnStack a (either src k') (front ++ slots) r0 t
   stack-read ours out still more = record {
     ours = record {
       live = λ run h. elim (or_in (among front run) (among slots run) (sym (among-append front slots run) ∙ h)) [ inl x ↦ (front_kept.own run x).live ∙ front_live run x | inr x ↦ ours.live run x ];
@@ -190,6 +190,40 @@ module _ (a src k k' : RunSet) (front slots : List Slot) (slot : Slot) (w : Writ
       turned = leaves-same (either (either mine k) src) (either mine b) (either (either (either mine (among slots)) k') src) (either (either mine (among slots)) b') r m
           (λ run. or_between (mine run) (src run) (k run)) (λ run. or_between (mine run || among slots run) (src run) (k' run))
           (leaves-left (either mine k) (either (either mine (among slots)) k') src r m step)
+
+-- a stack that was taken apart, where room was made for more first
+pub popped-from : (stack behind other : List Slot) → behind ≡ stack → behind ≡ other → stack ≡ other
+popped-from stack behind other same is = sym same ∙ is
+
+-- the same stack, written in another way
+pub stack-same : (a b : RunSet) (stack other : List Slot) (r s : Runs) → stack ≡ other → OnStack a b stack r s → OnStack a b other r s
+stack-same a b stack other r s same on = subst (λ st. OnStack a b st r s) same on
+
+-- a run was read and discarded: what the source owns is still apart from the sink
+pub still-apart : (a src k k' : RunSet) (stack front slots : List Slot) (slot : Slot) (w : Writing) (r0 r m t : Runs) → stack ≡ front ++ slot ∷ [] → slot.writer ≡ Some w → OnStack a (either src k) stack r0 r
+    → LeavesOthers (either (only w.mark.id.number) k) (either (either (only w.mark.id.number) (among slots)) k') r m → Gone (only w.mark.id.number) m t
+    → Apart src k → ((run : ℕ) → IsTrue (src run) → IsTrue (r.live run)) → Apart src k'
+still-apart a src k k' stack front slots slot w r0 r m t popped is on step gone apart live = src_sink a src k k' front slots slot w r0 r m t is (stack-same a (either src k) stack (front ++ slot ∷ []) r0 r popped on) step gone apart live
+
+-- a run was read and discarded, and what it gave is on the stack: the stack, what the source owns, and what is held in front
+pub record Turned (a src k' : RunSet) (front later : List Slot) (r0 r t : Runs) : Type 0 where
+  pub on : OnStack a (either src k') later r0 t
+  pub kept : KeepsOwn src r t
+  pub both : Apart src k'
+  pub held : (parts : List (List (List Value))) → AllHeld r front parts → AllHeld t front parts
+
+pub turned : (a src k k' : RunSet) (stack front slots later : List Slot) (slot : Slot) (w : Writing) (r0 r m t : Runs) → stack ≡ front ++ slot ∷ [] → later ≡ front ++ slots → slot.writer ≡ Some w → OnStack a (either src k) stack r0 r
+    → LeavesOthers (either (only w.mark.id.number) k) (either (either (only w.mark.id.number) (among slots)) k') r m → Gone (only w.mark.id.number) m t
+    → Apart src k → ((run : ℕ) → IsTrue (src run) → IsTrue (r.live run)) → Ours slots t → Apart (among slots) (either (only w.mark.id.number) k') → k' w.mark.id.number ≡ false → ((run : ℕ) → IsTrue (k run) → IsTrue (k' run))
+    → Turned a src k' front later r0 r t
+turned a src k k' stack front slots later slot w r0 r m t popped joined is known step gone apart live ours out still more =
+    let on : OnStack a (either src k) (front ++ slot ∷ []) r0 r = stack-same a (either src k) stack (front ++ slot ∷ []) r0 r popped known in
+    record {
+      on = subst (λ st. OnStack a (either src k') st r0 t) (sym joined) (stack-read a src k k' front slots slot w r0 r m t is on step gone apart live ours out still more);
+      kept = src_kept a src k k' front slots slot w r0 r m t is on step gone apart live;
+      both = src_sink a src k k' front slots slot w r0 r m t is on step gone apart live;
+      held = front_held a src k k' front slots slot w r0 r m t is on step gone apart live;
+    }
 
 -- ---- the rows
 
@@ -242,10 +276,16 @@ waits-first spec budget rows slots runs level spent holds some are is p = subst 
   sent = p.sent;
 })
 
+-- the same stack, written in another way
+pub waits-same : (spec : Spec) (budget : ℕ) (rows : List (List Value)) (columns : ℕ) (stack other : List Slot) (runs : Runs) (spent : Spent) (holds : List Group → Type 0)
+    → stack ≡ other → Waits spec budget rows columns stack runs spent holds → Waits spec budget rows columns other runs spent holds
+waits-same spec budget rows columns stack other runs spent holds same waits = subst (λ st. Waits spec budget rows columns st runs spent holds) same waits
+
 -- an empty slot was taken away
-pub waits-skip : (spec : Spec) (budget : ℕ) (rows : List (List Value)) (columns : ℕ) (front : List Slot) (slot : Slot) (runs : Runs) (spent : Spent) (holds : List Group → Type 0)
-    → slot.writer ≡ None → Waits spec budget rows columns (front ++ slot ∷ []) runs spent holds → Waits spec budget rows columns front runs spent holds
-waits-skip spec budget rows columns front slot runs spent holds none w =
+pub waits-skip : (spec : Spec) (budget : ℕ) (rows : List (List Value)) (columns : ℕ) (stack front : List Slot) (slot : Slot) (runs : Runs) (spent : Spent) (holds : List Group → Type 0)
+    → stack ≡ front ++ slot ∷ [] → slot.writer ≡ None → Waits spec budget rows columns stack runs spent holds → Waits spec budget rows columns front runs spent holds
+waits-skip spec budget rows columns stack front slot runs spent holds popped none known =
+    let w = waits-same spec budget rows columns stack (front ++ slot ∷ []) runs spent holds popped known in
     let it = last-held runs front slot w.pile w.held in
     let empty : it.part ≡ [] = subst (λ o. SlotHolds runs o it.part) none it.last in
     let whole : w.pile ≡ it.rest ++ [] ∷ [] = it.whole ∙ ap (λ l. it.rest ++ l ∷ []) empty in
@@ -266,9 +306,10 @@ pub record OnTop (spec : Spec) (columns : ℕ) (w : Writing) (runs : Runs) : Typ
   pub has : HasRun w runs part
   pub fit : Fit spec columns part
 
-pub on_top : (spec : Spec) (budget : ℕ) (rows : List (List Value)) (columns : ℕ) (front : List Slot) (slot : Slot) (w : Writing) (runs : Runs) (spent : Spent) (holds : List Group → Type 0)
-    → slot.writer ≡ Some w → Waits spec budget rows columns (front ++ slot ∷ []) runs spent holds → OnTop spec columns w runs
-on_top spec budget rows columns front slot w runs spent holds is waits =
+pub on_top : (spec : Spec) (budget : ℕ) (rows : List (List Value)) (columns : ℕ) (stack front : List Slot) (slot : Slot) (w : Writing) (runs : Runs) (spent : Spent) (holds : List Group → Type 0)
+    → stack ≡ front ++ slot ∷ [] → slot.writer ≡ Some w → Waits spec budget rows columns stack runs spent holds → OnTop spec columns w runs
+on_top spec budget rows columns stack front slot w runs spent holds popped is known =
+    let waits = waits-same spec budget rows columns stack (front ++ slot ∷ []) runs spent holds popped known in
     let it = last-held runs front slot waits.pile waits.held in
     record {
       part = it.part;
@@ -277,21 +318,22 @@ on_top spec budget rows columns front slot w runs spent holds is waits =
     }
 
 -- it was read
-pub waits-read : (spec : Spec) (budget : ℕ) (rows : List (List Value)) (columns : ℕ) (front slots : List Slot) (slot : Slot) (w : Writing) (r t : Runs) (spent next : Spent) (level : Level) (holds more now : List Group → Type 0)
-    → 0 < budget → slot.writer ≡ Some w
-    → Waits spec budget rows columns (front ++ slot ∷ []) r spent holds
+pub waits-read : (spec : Spec) (budget : ℕ) (rows : List (List Value)) (columns : ℕ) (stack front slots later : List Slot) (slot : Slot) (w : Writing) (r t : Runs) (spent next : Spent) (level : Level) (holds more now : List Group → Type 0)
+    → 0 < budget → stack ≡ front ++ slot ∷ [] → later ≡ front ++ slots → slot.writer ≡ Some w
+    → Waits spec budget rows columns stack r spent holds
     → ((part : List (List Value)) → HasRun w r part → Fit spec columns part → Parted spec budget part slots t level more)
     → ((parts : List (List (List Value))) → AllHeld r front parts → AllHeld t front parts)
     → ((out add : List Group) → holds out → more add → now (out ++ add))
     → next ≡ record { rows_read = spent.rows_read; rows_written = spent.rows_written + level.rows_written; groups = spent.groups + level.groups; runs = spent.runs + level.runs }
-    → Waits spec budget rows columns (front ++ slots) t next now
-waits-read spec budget rows columns front slots slot w r t spent next level holds more now some is waits reads stays joined same =
+    → Waits spec budget rows columns later t next now
+waits-read spec budget rows columns stack front slots later slot w r t spent next level holds more now some popped appended is known reads stays joined same =
+    let waits = waits-same spec budget rows columns stack (front ++ slot ∷ []) r spent holds popped known in
     let it = last-held r front slot waits.pile waits.held in
     let has : HasRun w r it.part = subst (λ o. SlotHolds r o it.part) is it.last in
     let fits : AllByRecursion (Fit spec columns) (it.rest ++ it.part ∷ []) = subst (AllByRecursion (Fit spec columns)) it.whole waits.fit in
     let fit : Fit spec columns it.part = each-last (Fit spec columns) it.rest it.part fits in
     let p = reads it.part has fit in
-    subst (λ s. Waits spec budget rows columns (front ++ slots) t s now) (sym same) (record {
+    subst (λ st. Waits spec budget rows columns st t next now) (sym appended) (subst (λ s. Waits spec budget rows columns (front ++ slots) t s now) (sym same) (record {
       out = waits.out ++ p.out;
       pile = it.rest ++ p.parts;
       pushed = joined waits.out p.out waits.pushed p.pushed;
@@ -301,18 +343,18 @@ waits-read spec budget rows columns front slots slot w r t spent next level hold
       fit = each-append (Fit spec columns) it.rest p.parts (each-front (Fit spec columns) it.rest it.part fits) (p.fit columns fit);
       read = waits.read;
       sent = omega (arith, waits.sent, p.sent, length-append waits.out p.out);
-    })
+    }))
 
 or_true : (b : Bool) → (b || true) ≡ true
 or_true true = refl
 or_true false = refl
 
 -- a sum that is out of range among its rows is so among all
-pub waits-range : (spec : Spec) (budget : ℕ) (rows : List (List Value)) (columns : ℕ) (front : List Slot) (slot : Slot) (w : Writing) (r : Runs) (spent : Spent) (holds : List Group → Type 0)
-    → slot.writer ≡ Some w → Waits spec budget rows columns (front ++ slot ∷ []) r spent holds
+pub waits-range : (spec : Spec) (budget : ℕ) (rows : List (List Value)) (columns : ℕ) (stack front : List Slot) (slot : Slot) (w : Writing) (r : Runs) (spent : Spent) (holds : List Group → Type 0)
+    → stack ≡ front ++ slot ∷ [] → slot.writer ≡ Some w → Waits spec budget rows columns stack r spent holds
     → ((part : List (List Value)) → HasRun w r part → Fit spec columns part → out_of_range spec part ≡ true) → out_of_range spec rows ≡ true
-waits-range spec budget rows columns front slot w r spent holds is waits far =
-    let top = on_top spec budget rows columns front slot w r spent holds is waits in
+waits-range spec budget rows columns stack front slot w r spent holds popped is known far =
+    let waits = waits-same spec budget rows columns stack (front ++ slot ∷ []) r spent holds popped known in
     let it = last-held r front slot waits.pile waits.held in
     let has : HasRun w r it.part = subst (λ o. SlotHolds r o it.part) is it.last in
     let fit : Fit spec columns it.part = each-last (Fit spec columns) it.rest it.part (subst (AllByRecursion (Fit spec columns)) it.whole waits.fit) in
@@ -338,10 +380,10 @@ pub waiting-skip : (front : List Slot) (slot : Slot) → slot.writer ≡ None �
 waiting-skip front slot none = sum_by_push (λ s. records_in s.writer) front slot ∙ ap (λ o. waiting front + records_in o) none ∙ omega arith
 
 -- what waits after a run was read, and what was written in reading it
-pub record Shrinks (front slots : List Slot) (slot : Slot) (w : Writing) (level : Level) : Type 0 where
-  pub waits : waiting (front ++ slots) + 1 ≤ waiting (front ++ slot ∷ [])
-  pub wrote : level.rows_written ≤ waiting (front ++ slot ∷ [])
-  pub lengths : length (front ++ slots) ≤ length (front ++ slot ∷ []) + 15
+pub record Shrinks (stack later : List Slot) (level : Level) : Type 0 where
+  pub waits : waiting later + 1 ≤ waiting stack
+  pub wrote : level.rows_written ≤ waiting stack
+  pub lengths : length later ≤ length stack + 15
 
 fewer : (waits written read records : ℕ) → waits ≡ written → (0 < written → written < read) → read ≤ records → 0 < records → waits < records
 fewer waits zero read records is less within some = omega arith
@@ -353,23 +395,93 @@ top-filled front slot w is filled = subst IsFilled is (each-last (λ (s : Slot).
 pub top-waiting : (front : List Slot) (slot : Slot) (w : Writing) → slot.writer ≡ Some w → waiting (front ++ slot ∷ []) ≡ waiting front + w.mark.records
 top-waiting front slot w is = sum_by_push (λ s. records_in s.writer) front slot ∙ ap (λ o. waiting front + records_in o) is
 
-pub shrinks : (budget : ℕ) (front slots : List Slot) (slot : Slot) (w : Writing) (level : Level) → slot.writer ≡ Some w → Filled (front ++ slot ∷ []) → length slots ≤ 16 → Numbers budget w.mark.records slots level
-    → Shrinks front slots slot w level
-shrinks budget front slots slot w level is filled few n =
-    let less : waiting slots < w.mark.records = fewer (waiting slots) level.rows_written level.rows_read w.mark.records n.waits n.fewer n.read (top-filled front slot w is filled) in
-    let before = top-waiting front slot w is in
-    let after = sum_by-append (λ (s : Slot). records_in s.writer) front slots in
+pub shrinks : (budget : ℕ) (stack front slots later : List Slot) (slot : Slot) (w : Writing) (level : Level) → stack ≡ front ++ slot ∷ [] → later ≡ front ++ slots → slot.writer ≡ Some w → Filled stack → length slots ≤ 16
+    → Numbers budget w.mark.records slots level → Shrinks stack later level
+shrinks budget stack front slots later slot w level popped joined is filled few n =
+    let less : waiting slots < w.mark.records = fewer (waiting slots) level.rows_written level.rows_read w.mark.records n.waits n.fewer n.read (top-filled front slot w is (subst Filled popped filled)) in
+    let before = ap waiting popped ∙ top-waiting front slot w is in
+    let after = ap waiting joined ∙ sum_by-append (λ (s : Slot). records_in s.writer) front slots in
     record {
       waits = omega (arith, less, before, after);
       wrote = omega (arith, less, before, n.waits);
-      lengths = omega (arith, few, length-append front slots, length-append front (slot ∷ []));
+      lengths = omega (arith, few, ap length joined ∙ length-append front slots, ap length popped ∙ length-append front (slot ∷ []));
     }
 
-pub filled-read : (front slots : List Slot) (slot : Slot) → Filled (front ++ slot ∷ []) → Filled slots → Filled (front ++ slots)
-filled-read front slots slot h i = each-append (λ (s : Slot). IsFilled s.writer) front slots (each-front (λ (s : Slot). IsFilled s.writer) front slot h) i
+pub work-read : (stack later : List Slot) (level : Level) → Shrinks stack later level → work_left later < work_left stack
+work-read stack later level s = omega (arith, s.waits, s.lengths)
 
-pub filled-skip : (front : List Slot) (slot : Slot) → Filled (front ++ slot ∷ []) → Filled front
-filled-skip front slot h = each-front (λ (s : Slot). IsFilled s.writer) front slot h
+pub work-skip : (stack front : List Slot) (slot : Slot) → stack ≡ front ++ slot ∷ [] → slot.writer ≡ None → work_left front < work_left stack
+work-skip stack front slot popped none = omega (arith, ap waiting popped ∙ waiting-skip front slot none, ap length popped ∙ length-append front (slot ∷ []))
+
+-- the numbers of what was done, with what waits
+pub record Counts (stack : List Slot) (written groups runs : ℕ) : Type 0 where
+  pub few : waiting stack ≤ 2 ^ 31
+  pub few_rows : written + 2 ^ 31 * waiting stack ≤ 2 ^ 31 + 2 ^ 62
+  pub few_groups : groups + 2 ^ 20 * waiting stack ≤ 2 ^ 20 + 2 ^ 51
+  pub few_runs : runs ≤ written
+
+-- the numbers of the first reading
+first-waiting : (budget bound : ℕ) (slots : List Slot) (level : Level) → Numbers budget bound slots level → bound ≤ 2 ^ 31 → waiting slots ≤ 2 ^ 31
+first-waiting budget bound slots level n few = at level.rows_written refl
+  where
+    at : (written : ℕ) → level.rows_written ≡ written → waiting slots ≤ 2 ^ 31
+    at zero e = omega (arith, n.waits, e)
+    at (suc written) e = let less : level.rows_written < level.rows_read = n.fewer (omega (arith, e)) in omega (arith, less, n.read, n.waits, few)
+
+pub counts-first : (budget bound : ℕ) (slots : List Slot) (level : Level) → Numbers budget bound slots level → bound ≤ 2 ^ 31 → budget ≤ 1048576 → Counts slots level.rows_written level.groups level.runs
+counts-first budget bound slots level n few small =
+    let waits = first-waiting budget bound slots level n few in
+    record {
+      few = waits;
+      few_rows = omega (arith, waits, n.waits);
+      few_groups = omega (arith, waits, n.few, small);
+      few_runs = n.runs;
+    }
+
+pub counts-skip : (stack front : List Slot) (slot : Slot) (written groups runs : ℕ) → stack ≡ front ++ slot ∷ [] → slot.writer ≡ None → Counts stack written groups runs → Counts front written groups runs
+counts-skip stack front slot written groups runs popped none c = record {
+  few = omega (arith, c.few, same);
+  few_rows = omega (arith, c.few_rows, same);
+  few_groups = omega (arith, c.few_groups, same);
+  few_runs = c.few_runs;
+}
+  where
+    same : waiting stack ≡ waiting front
+    same = ap waiting popped ∙ waiting-skip front slot none
+
+pub counts-read : (budget bound : ℕ) (stack later slots : List Slot) (written groups runs : ℕ) (level : Level) → budget ≤ 1048576 → Shrinks stack later level → Numbers budget bound slots level → Counts stack written groups runs
+    → Counts later (written + level.rows_written) (groups + level.groups) (runs + level.runs)
+counts-read budget bound stack later slots written groups runs level small s n c = record {
+  few = omega (arith, c.few, s.waits);
+  few_rows = omega (arith, c.few, c.few_rows, s.waits, s.wrote);
+  few_groups = omega (arith, c.few_groups, s.waits, n.few, small);
+  few_runs = omega (arith, c.few_runs, n.runs);
+}
+
+-- what is read next counts among what waits, so the numbers stay far below what there is room for
+pub top-waits : (stack front : List Slot) (slot : Slot) (w : Writing) → stack ≡ front ++ slot ∷ [] → slot.writer ≡ Some w → w.mark.records ≤ waiting stack
+top-waits stack front slot w popped is = omega (arith, ap waiting popped, top-waiting front slot w is)
+
+pub counts-room : (budget bound : ℕ) (stack slots : List Slot) (written groups runs : ℕ) (level : Level) → budget ≤ 1048576 → bound ≤ waiting stack → Numbers budget bound slots level → Counts stack written groups runs
+    → (written + level.rows_written ≤ 2 ^ 63) × (groups + level.groups ≤ 2 ^ 63) × (runs + level.runs ≤ 2 ^ 63)
+counts-room budget bound stack slots written groups runs level small top n c =
+    let wrote : level.rows_written ≤ 2 ^ 31 = at level.rows_written refl in
+    (omega (arith, c.few_rows, wrote), omega (arith, c.few_groups, n.few, small), omega (arith, c.few_rows, c.few_runs, wrote, n.runs))
+  where
+    at : (k : ℕ) → level.rows_written ≡ k → level.rows_written ≤ 2 ^ 31
+    at zero e = omega (arith, e)
+    at (suc k) e = let less : level.rows_written < level.rows_read = n.fewer (omega (arith, e)) in omega (arith, less, n.read, top, c.few)
+
+-- what was made before and since
+pub made-more : (m n r k b : ℕ) → m ≡ b + r → n ≡ m + k → n ≡ b + (r + k)
+made-more m n r k b had more = omega (arith, had, more)
+
+pub filled-read : (stack front slots later : List Slot) (slot : Slot) → stack ≡ front ++ slot ∷ [] → later ≡ front ++ slots → Filled stack → Filled slots → Filled later
+filled-read stack front slots later slot popped joined h i =
+    subst Filled (sym joined) (each-append (λ (s : Slot). IsFilled s.writer) front slots (each-front (λ (s : Slot). IsFilled s.writer) front slot (subst Filled popped h)) i)
+
+pub filled-skip : (stack front : List Slot) (slot : Slot) → stack ≡ front ++ slot ∷ [] → Filled stack → Filled front
+filled-skip stack front slot popped h = each-front (λ (s : Slot). IsFilled s.writer) front slot (subst Filled popped h)
 
 -- ---- all is discarded
 
@@ -385,14 +497,6 @@ gone-cause Memory mine r s t gone h = tt
 gone-cause StoreFault mine r s t gone h = omega (arith, gone.same_failures, h)
 gone-cause Damaged mine r s t gone h = h
 
--- the numbers of the first reading
-pub first-waiting : (budget bound : ℕ) (slots : List Slot) (level : Level) → Numbers budget bound slots level → bound ≤ 2 ^ 31 → waiting slots ≤ 2 ^ 31
-first-waiting budget bound slots level n few = at level.rows_written refl
-  where
-    at : (written : ℕ) → level.rows_written ≡ written → waiting slots ≤ 2 ^ 31
-    at zero e = omega (arith, n.waits, e)
-    at (suc written) e = let less : level.rows_written < level.rows_read = n.fewer (omega (arith, e)) in omega (arith, less, n.read, n.waits, few)
-
 -- ---- the end
 
 no_slots : (r : Runs) (pile : List (List (List Value))) → AllHeld r [] pile → pile ≡ []
@@ -405,11 +509,16 @@ waits-end spec budget rows columns runs spent holds w = subst (λ l. Piled spec 
 
 -- ---- the run on top of the stack
 
-pub top-live : (front : List Slot) (slot : Slot) (w : Writing) (r : Runs) → slot.writer ≡ Some w → Ours (front ++ slot ∷ []) r → IsTrue (r.live w.mark.id.number)
-top-live front slot w r is ours = ours.live w.mark.id.number (among-some front slot w w.mark.id.number is ∙ or_from (among front w.mark.id.number) (only w.mark.id.number w.mark.id.number) (inr (same_number w.mark.id.number)))
+top-in : (stack front : List Slot) (slot : Slot) (w : Writing) → stack ≡ front ++ slot ∷ [] → slot.writer ≡ Some w → IsTrue (among stack w.mark.id.number)
+top-in stack front slot w popped is =
+    let run = w.mark.id.number in
+    ap (λ st. among st run) popped ∙ among-some front slot w run is ∙ or_from (among front run) (only run run) (inr (same_number run))
 
-pub top-apart : (front : List Slot) (slot : Slot) (w : Writing) (k : RunSet) → slot.writer ≡ Some w → Apart (among (front ++ slot ∷ [])) k → k w.mark.id.number ≡ false
-top-apart front slot w k is apart = apart w.mark.id.number (among-some front slot w w.mark.id.number is ∙ or_from (among front w.mark.id.number) (only w.mark.id.number w.mark.id.number) (inr (same_number w.mark.id.number)))
+pub top-live : (stack front : List Slot) (slot : Slot) (w : Writing) (r : Runs) → stack ≡ front ++ slot ∷ [] → slot.writer ≡ Some w → Ours stack r → IsTrue (r.live w.mark.id.number)
+top-live stack front slot w r popped is ours = ours.live w.mark.id.number (top-in stack front slot w popped is)
 
-pub sink_apart : (src k : RunSet) (run : ℕ) → either src k run ≡ false → k run ≡ false
-sink_apart src k run e = or_right (src run) (k run) e
+pub top-apart : (stack front : List Slot) (slot : Slot) (w : Writing) (src k : RunSet) → stack ≡ front ++ slot ∷ [] → slot.writer ≡ Some w → Apart (among stack) (either src k) → k w.mark.id.number ≡ false
+top-apart stack front slot w src k popped is apart = or_right (src w.mark.id.number) (k w.mark.id.number) (apart w.mark.id.number (top-in stack front slot w popped is))
+
+pub top-few : (stack front : List Slot) (slot : Slot) (w : Writing) → stack ≡ front ++ slot ∷ [] → slot.writer ≡ Some w → waiting stack ≤ 2 ^ 31 → w.mark.records ≤ 2 ^ 31
+top-few stack front slot w popped is few = omega (arith, few, ap waiting popped, top-waiting front slot w is)

@@ -1,4 +1,6 @@
 use Rattle.std.proofs.Common.{◌∙◌, refl, sym, subst, rules}
+use Rattle.gq_group.proofs.Results.{on_ok_err}
+use Rattle.std.proofs.lemmas.Result.{IfOk-from_err}
 use Rattle.gq_group.specs.Access.{LeavesOthers}
 use Rattle.gq_group.specs.Entries.{Sent}
 use Rattle.gq_group.proofs.AccessLemmas.{leaves-trans, leaves-refl}
@@ -59,3 +61,57 @@ returns-clause-no_overflow g c = λ spec rows grouped.
     let none = rw c.in_default.is at c.in_ok-key.ensures.end in
     let sent = c.groups.invariant.sent in
     sent-fine _ _ _ sent.0 c.args.all.pairs spec rows (rw none at sent.2) sent.1 grouped
+
+pub returns-in_err-key-clause-count : goal.returns-in_err-key-clause-count
+returns-in_err-key-clause-count g c = IfOk-from_err c.from_residual.result _ c.from_residual.ensures.0
+
+pub returns-in_err-key-clause-entries : goal.returns-in_err-key-clause-entries
+returns-in_err-key-clause-entries g c = IfOk-from_err c.from_residual.result _ c.from_residual.ensures.0
+
+pub returns-in_err-key-clause-sent : goal.returns-in_err-key-clause-sent
+returns-in_err-key-clause-sent g c = on_ok_err _ c.from_residual.result c.from_residual.ensures.0
+
+pub returns-in_err-key-clause-no_overflow : goal.returns-in_err-key-clause-no_overflow
+returns-in_err-key-clause-no_overflow g c = on_ok_err _ c.from_residual.result c.from_residual.ensures.0
+
+pub returns-in_err-key-clause-sink : goal.returns-in_err-key-clause-sink
+returns-in_err-key-clause-sink g c = on_ok_err _ c.from_residual.result c.from_residual.ensures.0
+
+pub returns-in_err-push-clause-count : goal.returns-in_err-push-clause-count
+returns-in_err-push-clause-count g c = IfOk-from_err c.from_residual-in_err-push.result _ c.from_residual-in_err-push.ensures.0
+
+pub returns-in_err-push-clause-entries : goal.returns-in_err-push-clause-entries
+returns-in_err-push-clause-entries g c = IfOk-from_err c.from_residual-in_err-push.result _ c.from_residual-in_err-push.ensures.0
+
+pub returns-in_err-push-clause-sent : goal.returns-in_err-push-clause-sent
+returns-in_err-push-clause-sent g c = on_ok_err _ c.from_residual-in_err-push.result c.from_residual-in_err-push.ensures.0
+
+pub returns-in_err-push-clause-no_overflow : goal.returns-in_err-push-clause-no_overflow
+returns-in_err-push-clause-no_overflow g c = on_ok_err _ c.from_residual-in_err-push.result c.from_residual-in_err-push.ensures.0
+
+pub returns-in_err-push-clause-sink : goal.returns-in_err-push-clause-sink
+returns-in_err-push-clause-sink g c = on_ok_err _ c.from_residual-in_err-push.result c.from_residual-in_err-push.ensures.0
+
+pub returns-in_err-key-clause-others : goal.returns-in_err-key-clause-others
+returns-in_err-key-clause-others g c = c.groups.invariant.others
+
+pub returns-in_err-key-clause-made : goal.returns-in_err-key-clause-made
+returns-in_err-key-clause-made g c = c.groups.invariant.made
+
+pub returns-in_err-push-clause-others : goal.returns-in_err-push-clause-others
+returns-in_err-push-clause-others g c = leaves-trans _ _ _ _ _ _ c.groups.invariant.others c.in_err-push.ensures.others
+
+pub returns-in_err-push-clause-made : goal.returns-in_err-push-clause-made
+returns-in_err-push-clause-made g c = λ none. c.in_err-push.ensures.made none ∙ c.groups.invariant.made none
+
+pub returns-clause-entries : goal.returns-clause-entries
+returns-clause-entries g c = c.len-groups.ensures
+
+pub returns-clause-sink : goal.returns-clause-sink
+returns-clause-sink g c = c.groups.invariant.ready
+
+pub returns-clause-others : goal.returns-clause-others
+returns-clause-others g c = c.groups.invariant.others
+
+pub returns-clause-made : goal.returns-clause-made
+returns-clause-made g c = c.groups.invariant.made

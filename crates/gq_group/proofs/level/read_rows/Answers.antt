@@ -1,4 +1,6 @@
-use Rattle.std.proofs.Common.{arith, ◌∙◌, refl, subst, rules}
+use Rattle.std.proofs.Common.{arith, ◌∙◌, refl, subst}
+use Rattle.gq_group.proofs.Results.{if_err_is, on_ok_err}
+use Rattle.std.proofs.lemmas.Result.{IfOk-from_err}
 use Rattle.std.proofs.lemmas.Grind.{common_steps}
 use Rattle.sw_table.specs.LaidOut.{hash_by}
 use Rattle.gq_row.specs.Classes.{bytes_of}
@@ -54,7 +56,7 @@ returns-in_err-placed-clause-cause g c =
     let held = held-stays r s c.rows.slots.items _ kept c.rows.invariant.ours c.rows.invariant.read.held in
     let told = c.in_err-placed.ensures.cause _ held in
     let all = cause-later _ _ _ (g.S.RunStore.runs c.args.store.now) s t (leaves-trans _ _ _ _ _ _ c.rows.invariant.others (leaves-left _ _ (among c.rows.slots.items) r s step)) told in
-    search rules
+    if_err_is _ c.from_residual-in_err-placed.result c.in_err-placed.field-0.0 c.from_residual-in_err-placed.ensures.1 all
 
 pub rows-preserved : goal.rows-preserved
 rows-preserved g c =
@@ -144,3 +146,128 @@ returns-in_err-placed-clause-apart g c =
     let apart : Apart k b = apart-step r s a b k step inv.apart inv.ours.live in
     let live = g.met.R.RowSource.own_live c.next.new.self s c.in_ok-row.ensures.ready in
     apart-flip b k' (apart-step s t k k' b then (apart-flip k b apart) live)
+
+pub returns-in_err-row-clause-read : goal.returns-in_err-row-clause-read
+returns-in_err-row-clause-read g c = IfOk-from_err c.from_residual.result _ c.from_residual.ensures.0
+
+pub returns-in_err-row-clause-bound : goal.returns-in_err-row-clause-bound
+returns-in_err-row-clause-bound g c = IfOk-from_err c.from_residual.result _ c.from_residual.ensures.0
+
+pub returns-in_err-row-clause-less_runs : goal.returns-in_err-row-clause-less_runs
+returns-in_err-row-clause-less_runs g c = IfOk-from_err c.from_residual.result _ c.from_residual.ensures.0
+
+pub returns-in_err-row-clause-made : goal.returns-in_err-row-clause-made
+returns-in_err-row-clause-made g c = λ none. IfOk-from_err c.from_residual.result _ c.from_residual.ensures.0
+
+pub returns-in_err-row-clause-source : goal.returns-in_err-row-clause-source
+returns-in_err-row-clause-source g c = on_ok_err _ c.from_residual.result c.from_residual.ensures.0
+
+pub returns-in_err-row-clause-places : goal.returns-in_err-row-clause-places
+returns-in_err-row-clause-places g c = c.rows.invariant.same_length
+
+pub returns-in_err-row-clause-ours : goal.returns-in_err-row-clause-ours
+returns-in_err-row-clause-ours g c =
+    ours-stays (g.S.RunStore.runs c.rows.store) (g.S.RunStore.runs c.next.new.store) (g.R.RowSource.owns c.rows.source) (g.R.RowSource.owns c.next.new.self) c.rows.slots.items c.in_err-row.ensures.others c.rows.invariant.ours
+
+pub returns-in_err-row-clause-apart : goal.returns-in_err-row-clause-apart
+returns-in_err-row-clause-apart g c =
+    apart-step (g.S.RunStore.runs c.rows.store) (g.S.RunStore.runs c.next.new.store) (g.R.RowSource.owns c.rows.source) (g.R.RowSource.owns c.next.new.self) (among c.rows.slots.items) c.in_err-row.ensures.others c.rows.invariant.apart c.rows.invariant.ours.live
+
+pub returns-in_err-row-clause-others : goal.returns-in_err-row-clause-others
+returns-in_err-row-clause-others g c =
+    leaves-trans _ _ _ _ _ _ c.rows.invariant.others (leaves-left (g.R.RowSource.owns c.rows.source) (g.R.RowSource.owns c.next.new.self) (among c.rows.slots.items) (g.S.RunStore.runs c.rows.store) (g.S.RunStore.runs c.next.new.store) c.in_err-row.ensures.others)
+
+pub returns-in_err-row-clause-grows : goal.returns-in_err-row-clause-grows
+returns-in_err-row-clause-grows g c = λ run h. c.in_err-row.ensures.others.grows run (c.rows.invariant.grows run h)
+
+pub returns-in_err-row-clause-owned : goal.returns-in_err-row-clause-owned
+returns-in_err-row-clause-owned g c = λ none run h. c.rows.invariant.owned none run (c.in_err-row.ensures.owned none run h)
+
+pub returns-then-not-fits-clause-places : goal.returns-then-not-fits-clause-places
+returns-then-not-fits-clause-places g c = c.rows.invariant.same_length
+
+pub returns-then-not-fits-clause-ours : goal.returns-then-not-fits-clause-ours
+returns-then-not-fits-clause-ours g c =
+    ours-stays (g.S.RunStore.runs c.rows.store) (g.S.RunStore.runs c.next.new.store) (g.R.RowSource.owns c.rows.source) (g.R.RowSource.owns c.next.new.self) c.rows.slots.items c.in_ok-row.ensures.others c.rows.invariant.ours
+
+pub returns-then-not-fits-clause-apart : goal.returns-then-not-fits-clause-apart
+returns-then-not-fits-clause-apart g c =
+    apart-step (g.S.RunStore.runs c.rows.store) (g.S.RunStore.runs c.next.new.store) (g.R.RowSource.owns c.rows.source) (g.R.RowSource.owns c.next.new.self) (among c.rows.slots.items) c.in_ok-row.ensures.others c.rows.invariant.apart c.rows.invariant.ours.live
+
+pub returns-then-not-fits-clause-grows : goal.returns-then-not-fits-clause-grows
+returns-then-not-fits-clause-grows g c = λ run h. c.in_ok-row.ensures.others.grows run (c.rows.invariant.grows run h)
+
+pub returns-then-not-fits-clause-owned : goal.returns-then-not-fits-clause-owned
+returns-then-not-fits-clause-owned g c = λ none run h. c.rows.invariant.owned none run (c.in_ok-row.ensures.owned none run h)
+
+pub returns-clause-places : goal.returns-clause-places
+returns-clause-places g c = c.rows.invariant.same_length
+
+pub returns-clause-ours : goal.returns-clause-ours
+returns-clause-ours g c =
+    ours-stays (g.S.RunStore.runs c.rows.store) (g.S.RunStore.runs c.next.new.store) (g.R.RowSource.owns c.rows.source) (g.R.RowSource.owns c.next.new.self) c.rows.slots.items c.in_ok-row.ensures.others c.rows.invariant.ours
+
+pub returns-clause-apart : goal.returns-clause-apart
+returns-clause-apart g c =
+    apart-step (g.S.RunStore.runs c.rows.store) (g.S.RunStore.runs c.next.new.store) (g.R.RowSource.owns c.rows.source) (g.R.RowSource.owns c.next.new.self) (among c.rows.slots.items) c.in_ok-row.ensures.others c.rows.invariant.apart c.rows.invariant.ours.live
+
+pub returns-clause-others : goal.returns-clause-others
+returns-clause-others g c =
+    leaves-trans _ _ _ _ _ _ c.rows.invariant.others (leaves-left (g.R.RowSource.owns c.rows.source) (g.R.RowSource.owns c.next.new.self) (among c.rows.slots.items) (g.S.RunStore.runs c.rows.store) (g.S.RunStore.runs c.next.new.store) c.in_ok-row.ensures.others)
+
+pub returns-clause-grows : goal.returns-clause-grows
+returns-clause-grows g c = λ run h. c.in_ok-row.ensures.others.grows run (c.rows.invariant.grows run h)
+
+pub returns-clause-owned : goal.returns-clause-owned
+returns-clause-owned g c = λ none run h. c.rows.invariant.owned none run (c.in_ok-row.ensures.owned none run h)
+
+pub returns-in_err-row-clause-cause : goal.returns-in_err-row-clause-cause
+returns-in_err-row-clause-cause g c =
+    let e = c.in_err-row.field-0.0 in
+    if_err_is _ c.from_residual.result e c.from_residual.ensures.1 (cause-later e _ _ (g.S.RunStore.runs c.args.store.now) (g.S.RunStore.runs c.rows.store) (g.S.RunStore.runs c.next.new.store) c.rows.invariant.others c.in_err-row.ensures.cause)
+
+pub returns-clause-less_runs : goal.returns-clause-less_runs
+returns-clause-less_runs g c = c.rows.invariant.less_runs
+
+pub returns-clause-source : goal.returns-clause-source
+returns-clause-source g c = c.in_ok-row.ensures.ready
+
+pub returns-clause-made : goal.returns-clause-made
+returns-clause-made g c = λ none. c.in_ok-row.ensures.made none ∙ c.rows.invariant.made none
+
+pub place_row-requires-clause-each : goal.place_row-requires-clause-each
+place_row-requires-clause-each g c = c.rows.invariant.each
+
+pub place_row-requires-clause-places : goal.place_row-requires-clause-places
+place_row-requires-clause-places g c = c.rows.invariant.same_length
+
+pub place_row-requires-clause-ours : goal.place_row-requires-clause-ours
+place_row-requires-clause-ours g c =
+    ours-stays (g.S.RunStore.runs c.rows.store) (g.S.RunStore.runs c.next.new.store) (g.R.RowSource.owns c.rows.source) (g.R.RowSource.owns c.next.new.self) c.rows.slots.items c.in_ok-row.ensures.others c.rows.invariant.ours
+
+pub returns-in_err-placed-clause-read : goal.returns-in_err-placed-clause-read
+returns-in_err-placed-clause-read g c = IfOk-from_err c.from_residual-in_err-placed.result _ c.from_residual-in_err-placed.ensures.0
+
+pub returns-in_err-placed-clause-bound : goal.returns-in_err-placed-clause-bound
+returns-in_err-placed-clause-bound g c = IfOk-from_err c.from_residual-in_err-placed.result _ c.from_residual-in_err-placed.ensures.0
+
+pub returns-in_err-placed-clause-less_runs : goal.returns-in_err-placed-clause-less_runs
+returns-in_err-placed-clause-less_runs g c = IfOk-from_err c.from_residual-in_err-placed.result _ c.from_residual-in_err-placed.ensures.0
+
+pub returns-in_err-placed-clause-made : goal.returns-in_err-placed-clause-made
+returns-in_err-placed-clause-made g c = λ none. IfOk-from_err c.from_residual-in_err-placed.result _ c.from_residual-in_err-placed.ensures.0
+
+pub returns-in_err-placed-clause-source : goal.returns-in_err-placed-clause-source
+returns-in_err-placed-clause-source g c = on_ok_err _ c.from_residual-in_err-placed.result c.from_residual-in_err-placed.ensures.0
+
+pub returns-in_err-placed-clause-places : goal.returns-in_err-placed-clause-places
+returns-in_err-placed-clause-places g c = c.in_err-placed.ensures.same_length
+
+pub returns-in_err-placed-clause-ours : goal.returns-in_err-placed-clause-ours
+returns-in_err-placed-clause-ours g c = c.in_err-placed.ensures.ours
+
+pub returns-in_err-placed-clause-grows : goal.returns-in_err-placed-clause-grows
+returns-in_err-placed-clause-grows g c = λ run h. c.in_ok-row.ensures.others.grows run (c.rows.invariant.grows run h)
+
+pub returns-in_err-placed-clause-owned : goal.returns-in_err-placed-clause-owned
+returns-in_err-placed-clause-owned g c = λ none run h. c.rows.invariant.owned none run (c.in_ok-row.ensures.owned none run h)

@@ -39,7 +39,6 @@ returns-clause-parted g c = λ h.
     let old : c.open.result.tail.id.number ≡ w.mark.id.number = ap (λ (x : Reading). x.tail.id.number) is in
     let new = c.one_level-outcome.new.source.reader.tail.id.number in
     let same : new ≡ w.mark.id.number = equal_number new c.open.result.tail.id.number (told.owned refl new (same_number new)) ∙ old in
-    let k = g.K.GroupSink.owns c.args.sink.now in
     let k' = g.K.GroupSink.owns c.one_level-outcome.new.sink in
     let slots = c.one_level-outcome.new.slots.items in
     let gone : Gone (only w.mark.id.number) s t = subst (λ (n : ℕ). Gone (only n) s t) (ap (λ (m : RunMark). m.id.number) c.finish-mark.ensures) (gone-one _ s t c.discard.ensures) in
@@ -60,25 +59,13 @@ returns-clause-parted g c = λ h.
 pub returns-clause-overflow : goal.returns-clause-overflow
 returns-clause-overflow g c = λ e h rows run fit.
     let r = g.S.RunStore.runs c.args.store.now in
-    let s = g.S.RunStore.runs c.one_level-outcome.new.store in
-    let t = g.S.RunStore.runs c.discard.new.self in
     let w = c.args.writer in
     let told = c.one_level-outcome.ensures in
     let is : c.open.result ≡ opened w.mark c.args.columns = c.open.ensures ∙ ap (λ (m : RunMark). opened m c.args.columns) c.finish-mark.ensures in
-    let old : c.open.result.tail.id.number ≡ w.mark.id.number = ap (λ (x : Reading). x.tail.id.number) is in
-    let new = c.one_level-outcome.new.source.reader.tail.id.number in
-    let same : new ≡ w.mark.id.number = equal_number new c.open.result.tail.id.number (told.owned refl new (same_number new)) ∙ old in
-    let k = g.K.GroupSink.owns c.args.sink.now in
-    let k' = g.K.GroupSink.owns c.one_level-outcome.new.sink in
-    let slots = c.one_level-outcome.new.slots.items in
-    let gone : Gone (only w.mark.id.number) s t = subst (λ (n : ℕ). Gone (only n) s t) (ap (λ (m : RunMark). m.id.number) c.finish-mark.ensures) (gone-one _ s t c.discard.ensures) in
-    let still : k' w.mark.id.number ≡ false = ap k' (sym same) ∙ told.still_apart new (same_number new) in
-    let apart : Apart (among slots) (either (only w.mark.id.number) k') = subst (λ (n : ℕ). Apart (among slots) (either (only n) k')) same told.apart in
     told.overflow e h rows (subst (λ x. Left x r rows) (sym is) (left-open c.args.spec.now w c.args.columns r rows h run fit))
 
 pub returns-clause-sink : goal.returns-clause-sink
 returns-clause-sink g c =
-    let r = g.S.RunStore.runs c.args.store.now in
     let s = g.S.RunStore.runs c.one_level-outcome.new.store in
     let t = g.S.RunStore.runs c.discard.new.self in
     let w = c.args.writer in
@@ -87,12 +74,9 @@ returns-clause-sink g c =
     let old : c.open.result.tail.id.number ≡ w.mark.id.number = ap (λ (x : Reading). x.tail.id.number) is in
     let new = c.one_level-outcome.new.source.reader.tail.id.number in
     let same : new ≡ w.mark.id.number = equal_number new c.open.result.tail.id.number (told.owned refl new (same_number new)) ∙ old in
-    let k = g.K.GroupSink.owns c.args.sink.now in
     let k' = g.K.GroupSink.owns c.one_level-outcome.new.sink in
-    let slots = c.one_level-outcome.new.slots.items in
     let gone : Gone (only w.mark.id.number) s t = subst (λ (n : ℕ). Gone (only n) s t) (ap (λ (m : RunMark). m.id.number) c.finish-mark.ensures) (gone-one _ s t c.discard.ensures) in
     let still : k' w.mark.id.number ≡ false = ap k' (sym same) ∙ told.still_apart new (same_number new) in
-    let apart : Apart (among slots) (either (only w.mark.id.number) k') = subst (λ (n : ℕ). Apart (among slots) (either (only n) k')) same told.apart in
     on_ok _ _ c.one_level-outcome.result (λ ready. g.met.K.GroupSink.stays_ready c.one_level-outcome.new.sink s t (gone-keeps k' w.mark.id.number s t gone still) ready) told.sink
 
 pub returns-clause-others : goal.returns-clause-others
@@ -110,8 +94,6 @@ returns-clause-others g c =
     let k' = g.K.GroupSink.owns c.one_level-outcome.new.sink in
     let slots = c.one_level-outcome.new.slots.items in
     let gone : Gone (only w.mark.id.number) s t = subst (λ (n : ℕ). Gone (only n) s t) (ap (λ (m : RunMark). m.id.number) c.finish-mark.ensures) (gone-one _ s t c.discard.ensures) in
-    let still : k' w.mark.id.number ≡ false = ap k' (sym same) ∙ told.still_apart new (same_number new) in
-    let apart : Apart (among slots) (either (only w.mark.id.number) k') = subst (λ (n : ℕ). Apart (among slots) (either (only n) k')) same told.apart in
     let first = subst (λ (n : ℕ). LeavesOthers (either (only n) k) (either (either (only new) (among slots)) k') r s) old told.others in
     let both = subst (λ (n : ℕ). LeavesOthers (either (only w.mark.id.number) k) (either (either (only n) (among slots)) k') r s) same first in
     (s, both, gone)
