@@ -1,29 +1,23 @@
 //! The blocks of a table, while there is memory for some of them.
+use crate::expected::expect;
+use crate::numbers::{Call, Numbers, expect_as_values, insert_as_values, insert_each, play};
 use crate::starved::Starved;
 use std::alloc::Global;
 use std::process::Abort;
 use std::test::Fail;
-use sw_flat::{Emplaced, FlatMap, Why};
+use sw_flat::{FlatMap, Why};
 use sw_probe::Fnv1a;
-
-type Numbers = FlatMap<u64, u64, Fnv1a>;
 
 // The bytes of the slots and the control bytes of 32 entries of two numbers.
 const SLOTS: usize = 32 * 16;
 
 const CONTROL: usize = 32;
 
-fn is_added(map: &mut Numbers, key: u64, value: u64) -> bool {
-    matches!(map.try_emplace(key, value), Ok(Emplaced::Inserted))
-}
-
 // A map of fourteen entries in sixteen slots, which is as many as these take.
-fn fourteen(rt: &impl Abort, alloc: Global) -> Result<Numbers, Fail> {
+fn fourteen(rt: &impl Abort, alloc: Global) -> Result<Numbers<Fnv1a>, Fail> {
     let mut map = FlatMap::with_room(alloc, Fnv1a { seed: 0 }, 12)?;
-    for key in 0..14u64 {
-        assert!(rt; is_added(&mut map, key, key), "key {key}");
-    }
-    assert_eq!(rt; map.capacity(), 16);
+    insert_as_values(rt, &mut map, 0..14);
+    expect(rt, map.capacity(), 16);
     Ok(map)
 }
 
@@ -31,21 +25,33 @@ fn fourteen(rt: &impl Abort, alloc: Global) -> Result<Numbers, Fail> {
 // succeeds.
 fn growth_is_refused(rt: &impl Abort, alloc: Global, left: usize) -> Result<(), Fail> {
     let mut map = fourteen(rt, alloc)?;
-    let starved = Starved::leaving(alloc, left)?;
-    let refused = map.try_emplace(14, 7);
-    assert!(rt; matches!(refused, Err(refused) if refused.key == 14 && refused.why == Why::Memory));
-    assert_eq!(rt; map.reserve(15), Err(Why::Memory));
-    assert_eq!(rt; map.capacity(), 16);
-    assert_eq!(rt; map.len(), 14);
-    for key in 0..14u64 {
-        assert_eq!(rt; map.get(&key).copied(), Some(key), "key {key}");
-    }
+    let starved = Starved::leaving(rt, alloc, left)?;
+    play(
+        rt,
+        &mut map,
+        &[
+            Call::Refused(14, 7),
+            Call::Reserve(15, Err(Why::Memory)),
+            Call::Sizes(14, 16),
+        ],
+    );
+    expect_as_values(rt, &map, 0..14);
     drop(starved);
-    assert!(rt; is_added(&mut map, 14, 7));
-    assert_eq!(rt; map.capacity(), 32);
-    assert_eq!(rt; map.get(&13).copied(), Some(13));
-    assert_eq!(rt; map.get(&14).copied(), Some(7));
+    grows(rt, &mut map);
     Ok(())
+}
+
+fn grows(rt: &impl Abort, map: &mut Numbers<Fnv1a>) {
+    play(
+        rt,
+        map,
+        &[
+            Call::Insert(14, 7),
+            Call::Sizes(15, 32),
+            Call::Get(13, Some(13)),
+            Call::Get(14, Some(7)),
+        ],
+    );
 }
 
 #[test]
@@ -63,36 +69,50 @@ fn of_a_growth_only_the_slots_are_had(rt: HostRuntime) -> Result<(), Fail> {
     growth_is_refused(&rt, rt.alloc(), SLOTS)
 }
 
+// A table of 64 slots, which has grown twice, and is let go.
+fn sixty_four(rt: &impl Abort, alloc: Global, round: u64) -> Result<(), Fail> {
+    let mut map = fourteen(rt, alloc)?;
+    insert_each(rt, &mut map, 14..40, round);
+    play(
+        rt,
+        &mut map,
+        &[Call::Sizes(40, 64), Call::Get(39, Some(round))],
+    );
+    Ok(())
+}
+
 // A table of 64 slots takes about a kilobyte, and its blocks before that half of it again. Were a
 // block not given back, a few dozen rounds would use up what is free.
 #[test]
 fn a_table_gives_its_blocks_back(rt: HostRuntime) -> Result<(), Fail> {
-    let alloc = rt.alloc();
-    let starved = Starved::leaving(alloc, 1 << 16)?;
+    let starved = Starved::leaving(&rt, rt.alloc(), 1 << 16)?;
     for round in 0..1_000u64 {
-        let mut map = fourteen(&rt, alloc)?;
-        for key in 14..40u64 {
-            assert!(rt; is_added(&mut map, key, round), "round {round}, key {key}");
-        }
-        assert_eq!(rt; map.capacity(), 64);
-        assert_eq!(rt; map.get(&39).copied(), Some(round));
+        sixty_four(&rt, rt.alloc(), round)?;
     }
+    drop(starved);
+    Ok(())
+}
+
+fn merge_without_memory(
+    rt: &impl Abort,
+    alloc: Global,
+    map: &mut Numbers<Fnv1a>,
+    same: &mut Numbers<Fnv1a>,
+) -> Result<(), Fail> {
+    let mut none = FlatMap::new(alloc, Fnv1a { seed: 0 });
+    let starved = Starved::new(rt, alloc)?;
+    expect(rt, map.merge(&mut none), Ok(()));
+    expect(rt, map.merge(same), Ok(()));
     drop(starved);
     Ok(())
 }
 
 #[test]
 fn a_merge_without_a_new_key_takes_no_memory(rt: HostRuntime) -> Result<(), Fail> {
-    let alloc = rt.alloc();
-    let mut map = fourteen(&rt, alloc)?;
-    let mut same = fourteen(&rt, alloc)?;
-    let mut none: Numbers = FlatMap::new(alloc, Fnv1a { seed: 0 });
-    let starved = Starved::new(alloc)?;
-    assert!(rt; starved.refuses(alloc));
-    assert_eq!(rt; map.merge(&mut none), Ok(()));
-    assert_eq!(rt; map.merge(&mut same), Ok(()));
-    assert_eq!(rt; map.capacity(), 16);
-    assert_eq!(rt; map.len(), 14);
-    assert_eq!(rt; same.len(), 14);
+    let mut map = fourteen(&rt, rt.alloc())?;
+    let mut same = fourteen(&rt, rt.alloc())?;
+    merge_without_memory(&rt, rt.alloc(), &mut map, &mut same)?;
+    expect(&rt, map.capacity(), 16);
+    expect(&rt, (map.len(), same.len()), (14, 14));
     Ok(())
 }

@@ -10,7 +10,13 @@ mod blocks;
 #[cfg(test)]
 mod counted;
 #[cfg(test)]
+mod expected;
+#[cfg(test)]
+mod loaded;
+#[cfg(test)]
 mod map;
+#[cfg(test)]
+mod numbers;
 #[cfg(test)]
 mod starved;
 #[cfg(test)]

@@ -1,5 +1,6 @@
 //! A process without memory.
 use std::alloc::{AllocError, Global};
+use std::process::Abort;
 
 // More blocks than there are of any size that is tried.
 const BLOCKS: usize = 500_000;
@@ -15,20 +16,26 @@ pub(crate) struct Starved {
 
 impl Starved {
     /// Takes blocks of the greatest size until none is had, then of half of it, down to one byte.
-    pub(crate) fn new(alloc: Global) -> Result<Starved, AllocError> {
+    /// Then a request for one byte has to be refused.
+    pub(crate) fn new(rt: &impl Abort, alloc: Global) -> Result<Starved, AllocError> {
         let mut starved = Starved {
             held: Vec::with_capacity(alloc, BLOCKS)?,
         };
         for halvings in 0..=46u32 {
             starved.take_all(alloc, GREATEST >> halvings);
         }
+        assert!(rt; refuses(alloc));
         Ok(starved)
     }
 
     /// Takes all memory but a block of so many bytes, which is free then.
-    pub(crate) fn leaving(alloc: Global, size: usize) -> Result<Starved, AllocError> {
+    pub(crate) fn leaving(
+        rt: &impl Abort,
+        alloc: Global,
+        size: usize,
+    ) -> Result<Starved, AllocError> {
         let spare: Vec<u8> = Vec::with_capacity(alloc, size)?;
-        let starved = Starved::new(alloc)?;
+        let starved = Starved::new(rt, alloc)?;
         drop(spare);
         Ok(starved)
     }
@@ -42,10 +49,10 @@ impl Starved {
             let _ = self.held.push(block);
         }
     }
+}
 
-    /// Whether a request for one byte is refused.
-    pub(crate) fn refuses(&self, alloc: Global) -> bool {
-        let block: Result<Vec<u8>, AllocError> = Vec::with_capacity(alloc, 1);
-        block.is_err()
-    }
+// Whether a request for one byte is refused.
+fn refuses(alloc: Global) -> bool {
+    let block: Result<Vec<u8>, AllocError> = Vec::with_capacity(alloc, 1);
+    block.is_err()
 }

@@ -1,6 +1,8 @@
 //! Calls of a map, a set and a table while memory runs out: first with none, then with a little more
 //! each time, so that each request for more than is free is the first to be refused in some run. What is
 //! refused is skipped by a plain list too, and after each call the contents are that list's.
+use crate::expected::{expect, expect_at};
+use crate::loaded::{FIRST, GONE, LATER, SECOND};
 use starved_tests::{POOLS, Starved};
 use std::alloc::{AllocError, Global};
 use std::ops::Range;
@@ -62,7 +64,7 @@ enum Call {
 }
 
 // What came of a call.
-#[derive(Clone, Copy, PartialEq, Eq, Debug)]
+#[derive(Clone, Copy, PartialEq, Eq)]
 enum Came {
     // As of a list.
     Right,
@@ -156,14 +158,19 @@ fn make_each<H: KeyHash<u64>>(
     refused
 }
 
+// Expects the entries of a list that a map was made into.
+fn expect_list(rt: &impl Abort, entries: &[(u64, u64)], list: &Plain) {
+    expect(rt, entries.len(), list.entries.len());
+    for (key, value) in entries {
+        expect_at(rt, *key, list.get(*key), Some(*value));
+    }
+}
+
 // Makes a list of a map, or hands the map back; how many calls were refused.
 fn list_of<H: KeyHash<u64> + Drop>(rt: &impl Abort, map: Numbers<H>, list: &Plain) -> usize {
     match map.into_list() {
         Ok(entries) => {
-            assert_eq!(rt; entries.len(), list.entries.len());
-            for (key, value) in &entries {
-                assert_eq!(rt; list.get(*key), Some(*value));
-            }
+            expect_list(rt, entries.as_slice(), list);
             0
         }
         Err(back) => {
@@ -173,110 +180,148 @@ fn list_of<H: KeyHash<u64> + Drop>(rt: &impl Abort, map: Numbers<H>, list: &Plai
     }
 }
 
-// Makes calls of a map with room for some entries, and a list of it in the end; how many were refused.
-fn run<H: KeyHash<u64> + Copy + Drop>(
-    rt: &impl Abort,
-    alloc: Global,
-    hasher: H,
-    room: usize,
-    calls: &[Call],
-    list: &mut Plain,
-) -> usize {
-    list.entries.clear();
-    let mut map = match FlatMap::with_room(alloc, hasher, room) {
-        Ok(map) => map,
-        Err(why) => {
-            assert_eq!(rt; why, Why::Memory);
-            return 1;
-        }
-    };
-    let refused = make_each(rt, &mut map, list, calls);
-    refused.saturating_add(list_of(rt, map, list))
+// What is run with no memory, then with a little more each time.
+trait Turn {
+    // Runs once, and tells how many calls were refused.
+    fn run(&mut self, rt: &impl Abort, alloc: Global) -> usize;
 }
 
-// Runs with no memory, then with a little more each time, until no call is refused; how many runs there
-// were before that. It is run once with memory to spare before, so that the stack has grown.
-fn starve<H: KeyHash<u64> + Copy + Drop>(
+// Leaves so many bytes for one run; how many calls were refused.
+fn run_with<T: Turn>(
     rt: &impl Abort,
     alloc: Global,
-    hasher: H,
-    room: usize,
-    calls: &[Call],
-) -> Result<usize, Fail> {
-    let mut list = Plain::new(alloc)?;
-    assert_eq!(rt; run(rt, alloc, hasher, room, calls, &mut list), 0);
+    starved: &mut Starved,
+    bytes: usize,
+    turn: &mut T,
+) -> Result<usize, AllocError> {
+    let left = starved.leave(alloc, bytes)?;
+    let refused = turn.run(rt, alloc);
+    starved.end(alloc, left);
+    Ok(refused)
+}
+
+// Runs until no call is refused, which takes more than ten steps. It is run once with memory to spare
+// before, so that the stack has grown.
+fn starve<T: Turn>(rt: &impl Abort, alloc: Global, turn: &mut T) -> Result<(), Fail> {
+    expect(rt, turn.run(rt, alloc), 0);
     let mut starved = Starved::new(alloc)?;
     for step in 0..POOLS / 2 {
-        let left = starved.leave(alloc, STEP.saturating_mul(step))?;
-        let refused = run(rt, alloc, hasher, room, calls, &mut list);
-        starved.end(alloc, left);
-        if refused == 0 {
-            return Ok(step);
+        if run_with(rt, alloc, &mut starved, STEP.saturating_mul(step), turn)? == 0 {
+            assert!(rt; 10 < step, "{step} steps");
+            return Ok(());
         }
     }
     Err(Fail::new("memory was wanting to the end"))
 }
 
-// Forty keys, of which the even ones leave, and twenty more; then the slots are gone over.
-fn forty(alloc: Global) -> Result<Vec<Call>, AllocError> {
-    let mut calls = Vec::new(alloc);
-    for key in 0..40u64 {
+// Calls of a map with room for some entries, and a list of it in the end.
+#[derive(Drop)]
+struct OfMap<'a, H> {
+    hasher: H,
+    room: usize,
+    calls: &'a [Call],
+    list: Plain,
+}
+
+impl<H: KeyHash<u64> + Copy + Drop> Turn for OfMap<'_, H> {
+    fn run(&mut self, rt: &impl Abort, alloc: Global) -> usize {
+        self.list.entries.clear();
+        match FlatMap::with_room(alloc, self.hasher, self.room) {
+            Ok(mut map) => {
+                let refused = make_each(rt, &mut map, &mut self.list, self.calls);
+                refused.saturating_add(list_of(rt, map, &self.list))
+            }
+            Err(why) => {
+                expect(rt, why, Why::Memory);
+                1
+            }
+        }
+    }
+}
+
+fn starve_map<H: KeyHash<u64> + Copy + Drop>(
+    rt: &impl Abort,
+    alloc: Global,
+    hasher: H,
+    room: usize,
+    calls: &[Call],
+) -> Result<(), Fail> {
+    let list = Plain::new(alloc)?;
+    let mut turn = OfMap {
+        hasher,
+        room,
+        calls,
+        list,
+    };
+    starve(rt, alloc, &mut turn)
+}
+
+fn add_each(calls: &mut Vec<Call>, keys: Range<u64>) -> Result<(), AllocError> {
+    for key in keys {
         calls.push(Call::Add(key, key))?;
     }
+    Ok(())
+}
+
+// Forty keys, of which the even ones leave, and twenty more; then the slots are gone over.
+fn forty(calls: &mut Vec<Call>) -> Result<(), AllocError> {
+    add_each(calls, 0..40)?;
     for key in 0..20u64 {
         calls.push(Call::Erase(2 * key))?;
     }
-    for key in 100..120u64 {
-        calls.push(Call::Add(key, key))?;
-    }
+    add_each(calls, 100..120)?;
     calls.push(Call::Rehash)?;
-    Ok(calls)
+    Ok(())
+}
+
+fn starve_forty<H: KeyHash<u64> + Copy + Drop>(
+    rt: &impl Abort,
+    alloc: Global,
+    hasher: H,
+) -> Result<(), Fail> {
+    let mut calls = Vec::new(alloc);
+    forty(&mut calls)?;
+    starve_map(rt, alloc, hasher, 0, calls.as_slice())
 }
 
 #[test]
 fn forty_keys_of_one_hash(rt: HostRuntime) -> Result<(), Fail> {
-    let calls = forty(rt.alloc())?;
-    let steps = starve(&rt, rt.alloc(), Constant(0), 0, calls.as_slice())?;
-    assert!(rt; 10 < steps, "{steps} steps");
-    Ok(())
+    starve_forty(&rt, rt.alloc(), Constant(0))
 }
 
 #[test]
 fn forty_keys_of_seven_bits(rt: HostRuntime) -> Result<(), Fail> {
-    let calls = forty(rt.alloc())?;
-    let steps = starve(&rt, rt.alloc(), LowBits(7), 0, calls.as_slice())?;
-    assert!(rt; 10 < steps, "{steps} steps");
+    starve_forty(&rt, rt.alloc(), LowBits(7))
+}
+
+// Adds each key n of these, with the value n / 256.
+fn add_parts(calls: &mut Vec<Call>, keys: &[u64]) -> Result<(), AllocError> {
+    for key in keys {
+        calls.push(Call::Add(*key, *key / 256))?;
+    }
     Ok(())
 }
 
 // Two groups of sixteen slots, loaded to the last slot that the load allows, and a key more: first where
 // no entry left before it, then where one did.
-fn loaded(alloc: Global) -> Result<Vec<Call>, AllocError> {
-    let mut calls = Vec::new(alloc);
-    for j in 0..16u64 {
-        calls.push(Call::Add(256 * j, j))?;
+fn loaded(calls: &mut Vec<Call>) -> Result<(), AllocError> {
+    add_parts(calls, &FIRST)?;
+    add_parts(calls, &SECOND)?;
+    for key in GONE {
+        calls.push(Call::Erase(key))?;
     }
-    for j in 0..9u64 {
-        calls.push(Call::Add(128 + 256 * j, j))?;
-    }
-    for j in 0..3u64 {
-        calls.push(Call::Erase(256 * j))?;
-    }
-    for j in 9..12u64 {
-        calls.push(Call::Add(128 + 256 * j, j))?;
-    }
+    add_parts(calls, &LATER)?;
     calls.push(Call::Add(3200, 12))?;
     calls.push(Call::Erase(768))?;
     calls.push(Call::Add(3200, 12))?;
-    Ok(calls)
+    Ok(())
 }
 
 #[test]
 fn two_groups_loaded_to_the_last_slot(rt: HostRuntime) -> Result<(), Fail> {
-    let calls = loaded(rt.alloc())?;
-    let steps = starve(&rt, rt.alloc(), Direct, 25, calls.as_slice())?;
-    assert!(rt; 10 < steps, "{steps} steps");
-    Ok(())
+    let mut calls = Vec::new(rt.alloc());
+    loaded(&mut calls)?;
+    starve_map(&rt, rt.alloc(), Direct, 25, calls.as_slice())
 }
 
 const EACH: [Call; 10] = [
@@ -294,9 +339,7 @@ const EACH: [Call; 10] = [
 
 #[test]
 fn each_call_of_a_small_map(rt: HostRuntime) -> Result<(), Fail> {
-    let steps = starve(&rt, rt.alloc(), Fnv1a { seed: 0 }, 0, &EACH)?;
-    assert!(rt; 10 < steps, "{steps} steps");
-    Ok(())
+    starve_map(&rt, rt.alloc(), Fnv1a { seed: 0 }, 0, &EACH)
 }
 
 // Adds so many keys from one on, each with this value; how many were refused.
@@ -318,53 +361,58 @@ fn fill(
     refused
 }
 
-// What two lists come to where one is merged into the other.
-fn merge_lists(one: &mut Plain, other: &mut Plain) {
-    for key in 0..50u64 {
-        if let (None, Some(value)) = (one.get(key), other.get(key)) {
-            let _ = other.take(key);
-            let _ = one.put(key, value);
+// Twelve entries, of which two have keys that are in twelve others, and what both come to.
+#[derive(Drop)]
+struct OfMerge {
+    one: Plain,
+    other: Plain,
+}
+
+impl OfMerge {
+    // What the lists come to where one is merged into the other.
+    fn merge_lists(&mut self) {
+        for key in 0..50u64 {
+            if let (None, Some(value)) = (self.one.get(key), self.other.get(key)) {
+                let _ = self.other.take(key);
+                let _ = self.one.put(key, value);
+            }
         }
+    }
+
+    // A merge that is refused leaves both maps as they were.
+    fn merge(
+        &mut self,
+        rt: &impl Abort,
+        map: &mut Numbers<Fnv1a>,
+        second: &mut Numbers<Fnv1a>,
+    ) -> usize {
+        let merged = map.merge(second);
+        match merged {
+            Ok(()) => self.merge_lists(),
+            Err(why) => expect(rt, why, Why::Memory),
+        }
+        assert!(rt; is_as(map, &self.one) && is_as(second, &self.other));
+        usize::from(merged.is_err())
     }
 }
 
-// Merges twelve entries, of which two have keys that are there, into twelve others; how many calls were
-// refused. A merge that is refused leaves both maps as they were.
-fn merge(rt: &impl Abort, alloc: Global, one: &mut Plain, other: &mut Plain) -> usize {
-    one.entries.clear();
-    other.entries.clear();
-    let (mut map, mut second) = (
-        FlatMap::new(alloc, Fnv1a { seed: 0 }),
-        FlatMap::new(alloc, Fnv1a { seed: 7 }),
-    );
-    let first = fill(rt, &mut map, one, 0, 1);
-    let refused = first.saturating_add(fill(rt, &mut second, other, 10, 2));
-    let merged = map.merge(&mut second);
-    if merged.is_ok() {
-        merge_lists(one, other);
-    } else {
-        assert_eq!(rt; merged, Err(Why::Memory));
+impl Turn for OfMerge {
+    fn run(&mut self, rt: &impl Abort, alloc: Global) -> usize {
+        self.one.entries.clear();
+        self.other.entries.clear();
+        let mut map = FlatMap::new(alloc, Fnv1a { seed: 0 });
+        let mut second = FlatMap::new(alloc, Fnv1a { seed: 7 });
+        let first = fill(rt, &mut map, &mut self.one, 0, 1);
+        let both = first.saturating_add(fill(rt, &mut second, &mut self.other, 10, 2));
+        both.saturating_add(self.merge(rt, &mut map, &mut second))
     }
-    assert!(rt; is_as(&map, one) && is_as(&second, other));
-    refused.saturating_add(usize::from(merged.is_err()))
 }
 
 #[test]
 fn a_merge_of_two_maps(rt: HostRuntime) -> Result<(), Fail> {
-    let alloc = rt.alloc();
-    let (mut one, mut other) = (Plain::new(alloc)?, Plain::new(alloc)?);
-    assert_eq!(rt; merge(&rt, alloc, &mut one, &mut other), 0);
-    let mut starved = Starved::new(alloc)?;
-    for step in 0..POOLS / 2 {
-        let left = starved.leave(alloc, STEP.saturating_mul(step))?;
-        let refused = merge(&rt, alloc, &mut one, &mut other);
-        starved.end(alloc, left);
-        if refused == 0 {
-            assert!(rt; 10 < step, "{step} steps");
-            return Ok(());
-        }
-    }
-    Err(Fail::new("memory was wanting to the end"))
+    let one = Plain::new(rt.alloc())?;
+    let other = Plain::new(rt.alloc())?;
+    starve(&rt, rt.alloc(), &mut OfMerge { one, other })
 }
 
 type Keys = FlatSet<u64, Fnv1a>;
@@ -383,61 +431,73 @@ fn is_refused(rt: &impl Abort, set: &mut Keys, key: u64) -> bool {
     }
 }
 
-// Two sets that share a key are merged, and made a list; how many calls were refused. What is refused
-// leaves both sets as they were.
-fn merge_sets(rt: &impl Abort, mut set: Keys, mut other: Keys) -> usize {
-    let mut refused = usize::from(is_refused(rt, &mut set, 4));
-    refused = refused.saturating_add(usize::from(is_refused(rt, &mut other, 4)));
-    refused = refused.saturating_add(usize::from(is_refused(rt, &mut other, 5)));
-    let sizes = (set.len(), other.len());
-    refused = refused.saturating_add(usize::from(set.reserve(13).is_err()));
+// Two sets that share a key are merged; how many calls were refused. What is refused leaves both as they
+// were.
+fn merge_sets(rt: &impl Abort, set: &mut Keys, other: &mut Keys) -> usize {
+    let (len, other_len) = (set.len(), other.len());
     let shared = set.contains(&4) && other.contains(&4);
-    if set.merge(&mut other).is_ok() {
-        let both = sizes.0.saturating_add(sizes.1);
-        assert_eq!(rt; set.len().saturating_add(other.len()), both);
-        assert_eq!(rt; other.len(), usize::from(shared));
-    } else {
-        assert_eq!(rt; (set.len(), other.len()), sizes);
-        refused = refused.saturating_add(1);
-    }
-    let len = set.len();
-    match set.into_list() {
-        Ok(keys) => assert_eq!(rt; keys.len(), len),
-        Err(back) => {
-            assert_eq!(rt; back.len(), len);
-            refused = refused.saturating_add(1);
+    match set.merge(other) {
+        Ok(()) => {
+            let both = len.saturating_add(other_len);
+            expect(rt, set.len().saturating_add(other.len()), both);
+            expect(rt, other.len(), usize::from(shared));
+            0
+        }
+        Err(_) => {
+            expect(rt, (set.len(), other.len()), (len, other_len));
+            1
         }
     }
-    refused
 }
 
-// Two sets, the first with room for a key; how many calls were refused.
-fn sets(rt: &impl Abort, alloc: Global) -> usize {
-    let hasher = Fnv1a { seed: 0 };
-    match FlatSet::with_room(alloc, hasher, 1) {
-        Ok(set) => merge_sets(rt, set, FlatSet::new(alloc, hasher)),
-        Err(why) => {
-            assert_eq!(rt; why, Why::Memory);
+// Makes a list of a set, or hands the set back; how many calls were refused.
+fn keys_of(rt: &impl Abort, set: Keys) -> usize {
+    let len = set.len();
+    match set.into_list() {
+        Ok(keys) => {
+            expect(rt, keys.len(), len);
+            0
+        }
+        Err(back) => {
+            expect(rt, back.len(), len);
             1
+        }
+    }
+}
+
+// Adds a key to one set and two to another, and merges both; how many calls were refused.
+fn call_sets(rt: &impl Abort, set: &mut Keys, other: &mut Keys) -> usize {
+    let mut refused = usize::from(is_refused(rt, set, 4));
+    for key in [4, 5] {
+        refused = refused.saturating_add(usize::from(is_refused(rt, other, key)));
+    }
+    refused = refused.saturating_add(usize::from(set.reserve(13).is_err()));
+    refused.saturating_add(merge_sets(rt, set, other))
+}
+
+// Two sets, the first with room for a key.
+#[derive(Drop)]
+struct OfSets;
+
+impl Turn for OfSets {
+    fn run(&mut self, rt: &impl Abort, alloc: Global) -> usize {
+        let hasher = Fnv1a { seed: 0 };
+        match FlatSet::with_room(alloc, hasher, 1) {
+            Ok(mut set) => {
+                let refused = call_sets(rt, &mut set, &mut FlatSet::new(alloc, hasher));
+                refused.saturating_add(keys_of(rt, set))
+            }
+            Err(why) => {
+                expect(rt, why, Why::Memory);
+                1
+            }
         }
     }
 }
 
 #[test]
 fn each_call_of_a_small_set(rt: HostRuntime) -> Result<(), Fail> {
-    let alloc = rt.alloc();
-    assert_eq!(rt; sets(&rt, alloc), 0);
-    let mut starved = Starved::new(alloc)?;
-    for step in 0..POOLS / 2 {
-        let left = starved.leave(alloc, STEP.saturating_mul(step))?;
-        let refused = sets(&rt, alloc);
-        starved.end(alloc, left);
-        if refused == 0 {
-            assert!(rt; 10 < step, "{step} steps");
-            return Ok(());
-        }
-    }
-    Err(Fail::new("memory was wanting to the end"))
+    starve(&rt, rt.alloc(), &mut OfSets)
 }
 
 // A set of these keys.
@@ -449,59 +509,77 @@ fn set_of(rt: &impl Abort, alloc: Global, keys: Range<u64>) -> Keys {
     set
 }
 
-// A set that is as full as its room allows, and one of another key.
-#[test]
-fn a_set_that_may_not_grow(rt: HostRuntime) -> Result<(), Fail> {
-    let alloc = rt.alloc();
-    let mut set = set_of(&rt, alloc, 0..12);
-    let mut other = set_of(&rt, alloc, 12..13);
-    let starved = Starved::new(alloc)?;
-    assert_eq!(rt; set.reserve(13), Err(Why::Memory));
-    assert_eq!(rt; set.merge(&mut other), Err(Why::Memory));
-    assert_eq!(rt; (set.len(), other.len()), (12, 1));
-    let Err(back) = set.into_list() else {
-        return Err(Fail::new("a list without memory"));
-    };
-    assert_eq!(rt; back.len(), 12);
-    assert!(rt; back.contains(&11) && other.contains(&12));
-    drop(starved);
+// Hands a set back, of which no list is made without memory.
+fn refused_list(set: Keys) -> Result<Keys, Fail> {
+    match set.into_list() {
+        Ok(_) => Err(Fail::new("a list without memory")),
+        Err(back) => Ok(back),
+    }
+}
+
+fn expect_full(rt: &impl Abort, set: &mut Keys, other: &mut Keys) {
+    expect(rt, set.reserve(13), Err(Why::Memory));
+    expect(rt, set.merge(other), Err(Why::Memory));
+    expect(rt, (set.len(), other.len()), (12, 1));
+    expect(rt, other.contains(&12), true);
+}
+
+fn expect_back(rt: &impl Abort, set: Keys) -> Result<(), Fail> {
+    let back = refused_list(set)?;
+    expect(rt, back.len(), 12);
+    expect(rt, back.contains(&11), true);
     Ok(())
 }
 
-// A table with room for thirteen entries that takes one, and is to grow; how many calls were refused.
-// What is refused leaves the table as it was, and past the greatest capacity memory isn't asked for.
-fn grow(rt: &impl Abort, alloc: Global) -> usize {
-    let past: Result<Table<u64, u64, Direct>, Why> = Table::with_room(alloc, Direct, 209_715_201);
-    assert!(rt; matches!(past, Err(Why::Limit)));
-    let Ok(mut table) = Table::with_room(alloc, Direct, 13) else {
-        return 1;
-    };
-    assert!(rt; table.find(&1).is_none());
-    assert!(rt; table.place(1, 10).is_ok());
+// A set that is as full as its room allows, and one of another key.
+#[test]
+fn a_set_that_may_not_grow(rt: HostRuntime) -> Result<(), Fail> {
+    let mut set = set_of(&rt, rt.alloc(), 0..12);
+    let mut other = set_of(&rt, rt.alloc(), 12..13);
+    let starved = Starved::new(rt.alloc())?;
+    expect_full(&rt, &mut set, &mut other);
+    let came = expect_back(&rt, set);
+    drop(starved);
+    came
+}
+
+// A table that takes one entry and is to grow; how many calls were refused. What is refused leaves the
+// table as it was.
+fn grow(rt: &impl Abort, table: &mut Table<u64, u64, Direct>) -> usize {
+    assert!(rt; table.find(&1).is_none() && table.place(1, 10).is_ok());
     let grown = table.reserve(26);
     let room = if grown.is_ok() { 50 } else { 25 };
-    assert_eq!(rt; (table.room(), table.len()), (room, 1));
-    let Some(slot) = table.find(&1) else {
-        assert!(rt; false, "the entry is gone");
-        return 1;
-    };
-    assert_eq!(rt; *table.at(slot).1, 10);
+    expect(rt, (table.room(), table.len()), (room, 1));
+    expect(rt, value_of(table, 1), Some(10));
     usize::from(grown.is_err())
+}
+
+fn value_of(table: &Table<u64, u64, Direct>, key: u64) -> Option<u64> {
+    let slot = table.find(&key)?;
+    Some(*table.at(slot).1)
+}
+
+// Past the greatest capacity memory isn't asked for.
+fn is_past(alloc: Global) -> bool {
+    let past: Result<Table<u64, u64, Direct>, Why> = Table::with_room(alloc, Direct, 209_715_201);
+    matches!(past, Err(Why::Limit))
+}
+
+// A table with room for thirteen entries.
+#[derive(Drop)]
+struct OfTable;
+
+impl Turn for OfTable {
+    fn run(&mut self, rt: &impl Abort, alloc: Global) -> usize {
+        expect(rt, is_past(alloc), true);
+        match Table::with_room(alloc, Direct, 13) {
+            Ok(mut table) => grow(rt, &mut table),
+            Err(_) => 1,
+        }
+    }
 }
 
 #[test]
 fn each_call_of_a_small_table(rt: HostRuntime) -> Result<(), Fail> {
-    let alloc = rt.alloc();
-    assert_eq!(rt; grow(&rt, alloc), 0);
-    let mut starved = Starved::new(alloc)?;
-    for step in 0..POOLS / 2 {
-        let left = starved.leave(alloc, STEP.saturating_mul(step))?;
-        let refused = grow(&rt, alloc);
-        starved.end(alloc, left);
-        if refused == 0 {
-            assert!(rt; 10 < step, "{step} steps");
-            return Ok(());
-        }
-    }
-    Err(Fail::new("memory was wanting to the end"))
+    starve(&rt, rt.alloc(), &mut OfTable)
 }

@@ -1,0 +1,122 @@
+//! Maps of numbers, and calls of them that stand in a list with what is due to come of each.
+use crate::expected::expect_at;
+use std::ops::Range;
+use std::process::Abort;
+use sw_flat::{Emplaced, FlatMap, Why};
+use sw_probe::KeyHash;
+
+pub(crate) type Numbers<H> = FlatMap<u64, u64, H>;
+
+/// A call of a map, and what is due to come of it.
+#[derive(Clone, Copy)]
+pub(crate) enum Call {
+    /// An entry is added, whose key is new.
+    Insert(u64, u64),
+    /// An entry comes back, since its key is there.
+    Present(u64, u64),
+    /// An entry comes back, since memory is wanting.
+    Refused(u64, u64),
+    /// A value is assigned to a key that is there, and the old one is handed out.
+    Assign(u64, u64, u64),
+    /// A key and the value that was to be assigned come back, since memory is wanting.
+    RefusedAssign(u64, u64),
+    Get(u64, Option<u64>),
+    /// A key leaves that is there.
+    Erase(u64),
+    Reserve(usize, Result<(), Why>),
+    Rehash,
+    /// The map has so many entries and so many slots.
+    Sizes(usize, usize),
+}
+
+/// Makes each call of a list, and expects what is due of it.
+pub(crate) fn play<H: KeyHash<u64>>(rt: &impl Abort, map: &mut Numbers<H>, calls: &[Call]) {
+    for (i, call) in calls.iter().enumerate() {
+        assert!(rt; answers(map, *call), "call {i}");
+    }
+}
+
+// Makes a call, and says whether what came of it is what was due.
+fn answers<H: KeyHash<u64>>(map: &mut Numbers<H>, call: Call) -> bool {
+    match call {
+        Call::Insert(key, value) => inserts(map, key, value),
+        Call::Present(key, value) => gives_back(map, key, value),
+        Call::Refused(key, value) => refuses(map, key, value),
+        Call::Assign(key, value, due) => assigns(map, key, value, due),
+        Call::RefusedAssign(key, value) => refuses_assign(map, key, value),
+        Call::Get(key, due) => map.get(&key).copied() == due,
+        Call::Erase(key) => map.erase(&key),
+        Call::Reserve(n, due) => map.reserve(n) == due,
+        Call::Rehash => {
+            map.rehash();
+            true
+        }
+        Call::Sizes(len, capacity) => [map.len(), map.capacity()] == [len, capacity],
+    }
+}
+
+fn inserts<H: KeyHash<u64>>(map: &mut Numbers<H>, key: u64, value: u64) -> bool {
+    matches!(map.try_emplace(key, value), Ok(Emplaced::Inserted))
+}
+
+fn gives_back<H: KeyHash<u64>>(map: &mut Numbers<H>, key: u64, value: u64) -> bool {
+    match map.try_emplace(key, value) {
+        Ok(Emplaced::Present(back, unused)) => back == key && unused == value,
+        _ => false,
+    }
+}
+
+fn refuses<H: KeyHash<u64>>(map: &mut Numbers<H>, key: u64, value: u64) -> bool {
+    match map.try_emplace(key, value) {
+        Err(back) => back.key == key && back.value == value && back.why == Why::Memory,
+        Ok(_) => false,
+    }
+}
+
+fn assigns<H: KeyHash<u64>>(map: &mut Numbers<H>, key: u64, value: u64, due: u64) -> bool {
+    match map.insert_or_assign(key, value) {
+        Ok(old) => old == Some(due),
+        Err(_) => false,
+    }
+}
+
+fn refuses_assign<H: KeyHash<u64>>(map: &mut Numbers<H>, key: u64, value: u64) -> bool {
+    match map.insert_or_assign(key, value) {
+        Err(back) => back.key == key && back.value == value && back.why == Why::Memory,
+        Ok(_) => false,
+    }
+}
+
+/// Adds each of these keys, which are new, with this value.
+pub(crate) fn insert_each<H: KeyHash<u64>>(
+    rt: &impl Abort,
+    map: &mut Numbers<H>,
+    keys: Range<u64>,
+    value: u64,
+) {
+    for key in keys {
+        assert!(rt; inserts(map, key, value), "key {key}");
+    }
+}
+
+/// Adds each of these keys, which are new, as its own value.
+pub(crate) fn insert_as_values<H: KeyHash<u64>>(
+    rt: &impl Abort,
+    map: &mut Numbers<H>,
+    keys: Range<u64>,
+) {
+    for key in keys {
+        assert!(rt; inserts(map, key, key), "key {key}");
+    }
+}
+
+/// Expects each of these keys, as its own value.
+pub(crate) fn expect_as_values<H: KeyHash<u64>>(
+    rt: &impl Abort,
+    map: &Numbers<H>,
+    keys: Range<u64>,
+) {
+    for key in keys {
+        expect_at(rt, key, map.get(&key).copied(), Some(key));
+    }
+}
