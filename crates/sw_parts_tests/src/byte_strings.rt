@@ -1,37 +1,46 @@
 //! Byte strings that are the same, by their lengths.
+use crate::expected::{expect, expect_at};
+use std::alloc::{AllocError, Global};
+use std::process::Abort;
 use std::test::Fail;
 use sw_probe::same_bytes;
 
+// Bytes of which the one at a place is another.
+fn altered(alloc: Global, bytes: &[u8], at: usize) -> Result<Vec<u8>, AllocError> {
+    let mut other = Vec::from_slice(alloc, bytes)?;
+    if let Some(byte) = other.get_mut(at) {
+        *byte = b'*';
+    }
+    Ok(other)
+}
+
+fn longer(alloc: Global, bytes: &[u8]) -> Result<Vec<u8>, AllocError> {
+    let mut longer = Vec::from_slice(alloc, bytes)?;
+    longer.push(0)?;
+    Ok(longer)
+}
+
+// Some bytes are the same as their copy, and not as bytes of which one is another, or one more.
+fn tell_apart(rt: &impl Abort, alloc: Global, one: &[u8]) -> Result<(), Fail> {
+    let copy = Vec::from_slice(alloc, one)?;
+    expect(rt, same_bytes(one, copy.as_slice()), true);
+    for at in 0..one.len() {
+        let other = altered(alloc, one, at)?;
+        expect_at(rt, at as u64, same_bytes(one, other.as_slice()), false);
+    }
+    let longer = longer(alloc, one)?;
+    expect(rt, same_bytes(one, longer.as_slice()), false);
+    expect(rt, same_bytes(longer.as_slice(), one), false);
+    Ok(())
+}
+
 #[test]
 fn one_byte_tells_them_apart(rt: HostRuntime) -> Result<(), Fail> {
-    let alloc = rt.alloc();
-    let text = b"the quick brown fox";
     for len in 0..20usize {
-        let one: Vec<u8> = text.iter().copied().take(len).collect(alloc)?;
-        assert!(rt;
-            same_bytes(one.as_slice(), one.clone()?.as_slice()),
-            "{len} bytes"
-        );
-        for at in 0..len {
-            let mut other = one.clone()?;
-            if let Some(byte) = other.get_mut(at) {
-                *byte = b'*';
-            }
-            assert!(rt;
-                !same_bytes(one.as_slice(), other.as_slice()),
-                "byte {at} of {len}"
-            );
-        }
-        let mut longer = one.clone()?;
-        longer.push(0)?;
-        assert!(rt;
-            !same_bytes(one.as_slice(), longer.as_slice()),
-            "{len} bytes"
-        );
-        assert!(rt;
-            !same_bytes(longer.as_slice(), one.as_slice()),
-            "{len} bytes"
-        );
+        let one = b"the quick brown fox"
+            .get(..len)
+            .ok_or("it has so many bytes")?;
+        tell_apart(&rt, rt.alloc(), one)?;
     }
     Ok(())
 }

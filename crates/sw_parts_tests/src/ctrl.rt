@@ -1,6 +1,26 @@
 //! Control bytes and masks.
+use crate::expected::{expect, expect_at};
+use std::process::Abort;
 use std::test::Fail;
 use sw_ctrl::{Ctrl, Group};
+
+// A group that begins with 5, a deleted byte and 5, and is empty behind.
+fn expect_masks(rt: &impl Abort, group: Group) {
+    let found = group.match_h2(5);
+    expect(rt, found.bits(), 0x0005);
+    expect(rt, found.count(), 2);
+    expect(rt, found.lowest(), Some(0));
+    expect(rt, found.any(), true);
+    expect(rt, found.without_lowest().bits(), 0x0004);
+    expect(rt, found.without_lowest().lowest(), Some(2));
+    expect(rt, group.match_empty().bits(), 0xfff8);
+    expect(rt, group.match_free().bits(), 0xfffa);
+    expect(rt, group.match_full().bits(), 0x0005);
+    let none = group.match_h2(6);
+    expect(rt, none.any(), false);
+    expect(rt, none.lowest(), None);
+    expect(rt, none.without_lowest().bits(), 0);
+}
 
 #[test]
 fn masks_of_one_group(rt: HostRuntime) -> Result<(), Fail> {
@@ -8,27 +28,38 @@ fn masks_of_one_group(rt: HostRuntime) -> Result<(), Fail> {
     ctrl.set(0, 0x05);
     ctrl.set(1, 0xfe);
     ctrl.set(2, 0x05);
-    let group = ctrl.group(0);
-    let found = group.match_h2(5);
-    assert_eq!(rt; found.bits(), 0x0005);
-    assert_eq!(rt; found.count(), 2);
-    assert_eq!(rt; found.lowest(), Some(0));
-    assert!(rt; found.any());
-    assert_eq!(rt; found.without_lowest().bits(), 0x0004);
-    assert_eq!(rt; found.without_lowest().lowest(), Some(2));
-    assert_eq!(rt; group.match_empty().bits(), 0xfff8);
-    assert_eq!(rt; group.match_free().bits(), 0xfffa);
-    assert_eq!(rt; group.match_full().bits(), 0x0005);
-    let none = group.match_h2(6);
-    assert!(rt; !none.any());
-    assert_eq!(rt; none.lowest(), None);
-    assert_eq!(rt; none.without_lowest().bits(), 0);
+    expect_masks(&rt, ctrl.group(0));
     ctrl.mark_for_rehash();
     for i in 0..ctrl.len() {
         let due = if i == 0 || i == 2 { 0xfe } else { 0x80 };
-        assert_eq!(rt; ctrl.get(i), due, "byte {i}");
+        expect_at(&rt, i as u64, ctrl.get(i), due);
     }
     Ok(())
+}
+
+// The mask of a lane where something holds of its byte, and no lane else.
+fn mask_if(here: u16, holds: bool) -> u16 {
+    if holds { here } else { 0 }
+}
+
+// Expects the masks of a group whose byte in one lane is this one, and whose others are deleted.
+fn expect_lane(rt: &impl Abort, group: Group, byte: u8, here: u16) {
+    let empty = mask_if(here, byte == 0x80);
+    let deleted = mask_if(here, byte == 0xfe);
+    let full = mask_if(here, byte < 0x80);
+    let number = u64::from(byte);
+    expect_at(rt, number, group.match_empty().bits(), empty);
+    expect_at(
+        rt,
+        number,
+        group.match_free().bits(),
+        empty | deleted | !here,
+    );
+    expect_at(rt, number, group.match_full().bits(), full);
+    for h2 in 0..128u8 {
+        let due = mask_if(here, byte == h2);
+        expect_at(rt, number, group.match_h2(h2).bits(), due);
+    }
 }
 
 #[test]
@@ -37,23 +68,7 @@ fn each_byte_in_each_lane(rt: HostRuntime) {
         for lane in 0..16usize {
             let mut bytes = [0xfe; 16];
             bytes[lane] = byte;
-            let group = Group::of(&bytes);
-            let here = 1u16 << lane;
-            let others = !here;
-            let empty = if byte == 0x80 { here } else { 0 };
-            let deleted = if byte == 0xfe { here } else { 0 };
-            let full = if byte < 0x80 { here } else { 0 };
-            assert_eq!(rt; group.match_empty().bits(), empty, "empty {byte} {lane}");
-            assert_eq!(rt;
-                group.match_free().bits(),
-                empty | deleted | others,
-                "free {byte} {lane}"
-            );
-            assert_eq!(rt; group.match_full().bits(), full, "full {byte} {lane}");
-            for h2 in 0..128u8 {
-                let due = if byte == h2 { here } else { 0 };
-                assert_eq!(rt; group.match_h2(h2).bits(), due, "{h2} {byte} {lane}");
-            }
+            expect_lane(&rt, Group::of(&bytes), byte, 1u16 << lane);
         }
     }
 }
@@ -72,10 +87,10 @@ fn each_control_byte_is_marked(rt: HostRuntime) -> Result<(), Fail> {
         ctrl.set(143, 0xfe);
     }
     ctrl.mark_for_rehash();
-    assert_eq!(rt; ctrl.len(), 144);
+    expect(&rt, ctrl.len(), 144);
     for i in 0..ctrl.len() {
         let due = if i < 128 { 0xfe } else { 0x80 };
-        assert_eq!(rt; ctrl.get(i), due, "byte {i}");
+        expect_at(&rt, i as u64, ctrl.get(i), due);
     }
     Ok(())
 }
@@ -84,6 +99,6 @@ fn each_control_byte_is_marked(rt: HostRuntime) -> Result<(), Fail> {
 fn no_bytes_at_all(rt: HostRuntime) -> Result<(), Fail> {
     let mut ctrl = Ctrl::new(rt.alloc(), 0)?;
     ctrl.mark_for_rehash();
-    assert!(rt; ctrl.is_empty());
+    expect(&rt, ctrl.is_empty(), true);
     Ok(())
 }

@@ -1,8 +1,10 @@
 //! The functions on sixteen lanes behind calls that stay calls, so that their machine code can be
 //! read in the program of these tests. Each is a few instructions on all lanes at once, with no loop
 //! over lanes and no test of an index; only marking has a loop, over groups.
-ghost use Rattle.std.specs.Prelude.{◌*◌, ◌<◌, length};
+ghost use Rattle.std.specs.Prelude.{◌≡◌, ◌*◌, ◌<◌, length};
 
+use crate::expected::expect;
+use std::process::Abort;
 use std::test::Fail;
 use sw_ctrl::{Ctrl, Mask16};
 
@@ -38,27 +40,33 @@ fn mark_for_rehash(ctrl: &mut Ctrl) {
     ctrl.mark_for_rehash();
 }
 
+fn expect_lanes(rt: &impl Abort, ctrl: &Ctrl)
+    requires { length ctrl.now ≡ 32 }
+{
+    expect(rt, match_h2(ctrl, 0, 0x11), 1 << 3);
+    expect(rt, match_h2(ctrl, 1, 0x12), 1 << 15);
+    expect(rt, match_free(ctrl, 0), 0xfff7);
+    expect(rt, match_free(ctrl, 1), 0x7fff);
+    expect(rt, match_full(ctrl, 0), 1 << 3);
+    expect(rt, match_full(ctrl, 1), 1 << 15);
+    expect(rt, lowest(ctrl.group(0).match_h2(0x11)), Some(3));
+    expect(rt, lowest(ctrl.group(1).match_h2(0x11)), None);
+    expect(rt, ctrl.group(0).match_free().lowest_from(3), Some(4));
+    expect(rt, ctrl.group(1).match_full().lowest_from(15), Some(15));
+    expect(rt, ctrl.group(0).match_full().lowest_from(4), None);
+}
+
 #[test]
 fn lanes_of_two_groups(rt: HostRuntime) -> Result<(), Fail> {
     let mut ctrl = Ctrl::new(rt.alloc(), 32)?;
     ctrl.set(3, 0x11);
     ctrl.set(9, 0xfe);
     ctrl.set(31, 0x12);
-    assert_eq!(rt; match_h2(&ctrl, 0, 0x11), 1 << 3);
-    assert_eq!(rt; match_h2(&ctrl, 1, 0x12), 1 << 15);
-    assert_eq!(rt; match_free(&ctrl, 0), 0xfff7);
-    assert_eq!(rt; match_free(&ctrl, 1), 0x7fff);
-    assert_eq!(rt; match_full(&ctrl, 0), 1 << 3);
-    assert_eq!(rt; match_full(&ctrl, 1), 1 << 15);
-    assert_eq!(rt; lowest(ctrl.group(0).match_h2(0x11)), Some(3));
-    assert_eq!(rt; lowest(ctrl.group(1).match_h2(0x11)), None);
-    assert_eq!(rt; ctrl.group(0).match_free().lowest_from(3), Some(4));
-    assert_eq!(rt; ctrl.group(1).match_full().lowest_from(15), Some(15));
-    assert_eq!(rt; ctrl.group(0).match_full().lowest_from(4), None);
+    expect_lanes(&rt, &ctrl);
     mark_for_rehash(&mut ctrl);
     if ctrl.len() == 32 {
-        assert_eq!(rt; ctrl.group(0).match_empty().bits(), 0xfff7);
-        assert_eq!(rt; ctrl.group(1).match_empty().bits(), 0x7fff);
+        expect(&rt, ctrl.group(0).match_empty().bits(), 0xfff7);
+        expect(&rt, ctrl.group(1).match_empty().bits(), 0x7fff);
     }
     Ok(())
 }

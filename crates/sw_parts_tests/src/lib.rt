@@ -10,6 +10,8 @@ mod byte_strings;
 #[cfg(test)]
 mod ctrl;
 #[cfg(test)]
+mod expected;
+#[cfg(test)]
 mod lanes;
 #[cfg(test)]
 mod probe;

@@ -1,6 +1,8 @@
 //! Probes, keys and hashers.
 ghost use Rattle.std.specs.Prelude.{◌≡◌, IsTrue};
 
+use crate::expected::{expect, expect_at};
+use std::process::Abort;
 use std::test::Fail;
 use sw_probe::{
     ByteKey, Constant, Direct, Fnv1a, KeyHash, Keyed, LowBits, Names, Probe, comes_everywhere,
@@ -27,37 +29,37 @@ fn walk_over_four_groups(rt: HostRuntime) {
     comes_everywhere(5, 4);
     let mut probe = Probe::new(640, 4);
     for due in [1, 2, 0] {
-        assert_eq!(rt; probe.group(), due);
-        assert!(rt; probe.advance());
+        expect(&rt, probe.group(), due);
+        expect(&rt, probe.advance(), true);
     }
-    assert_eq!(rt; probe.group(), 3);
-    assert!(rt; !probe.advance());
-    assert_eq!(rt; probe.group(), 3);
-    assert!(rt; !probe.advance());
+    expect(&rt, probe.group(), 3);
+    expect(&rt, probe.advance(), false);
+    expect(&rt, probe.group(), 3);
+    expect(&rt, probe.advance(), false);
 }
 
 #[test]
 fn walks_at_the_limits(rt: HostRuntime) {
     let mut one = Probe::new(u64::MAX, 1);
-    assert_eq!(rt; one.group(), 0);
-    assert!(rt; !one.advance());
+    expect(&rt, one.group(), 0);
+    expect(&rt, one.advance(), false);
     let mut most = Probe::new(u64::MAX, 1 << 24);
     for due in [0xff_ffff, 0, 2, 5, 9] {
-        assert_eq!(rt; most.group(), due);
-        assert!(rt; most.advance());
+        expect(&rt, most.group(), due);
+        expect(&rt, most.advance(), true);
     }
 }
 
 #[test]
 fn published_values_of_fnv_1a(rt: HostRuntime) {
     let plain = Fnv1a { seed: 0 };
-    assert_eq!(rt; hash_bytes(&plain, b""), 0xcbf29ce484222325);
-    assert_eq!(rt; hash_bytes(&plain, b"a"), 0xaf63dc4c8601ec8c);
-    assert_eq!(rt; hash_bytes(&plain, b"foobar"), 0x85944171f73967e8);
+    expect(&rt, hash_bytes(&plain, b""), 0xcbf29ce484222325);
+    expect(&rt, hash_bytes(&plain, b"a"), 0xaf63dc4c8601ec8c);
+    expect(&rt, hash_bytes(&plain, b"foobar"), 0x85944171f73967e8);
     let seeded = Fnv1a {
         seed: 0xcbf29ce484222325,
     };
-    assert_eq!(rt; hash_bytes(&seeded, b""), 0);
+    expect(&rt, hash_bytes(&seeded, b""), 0);
 }
 
 #[test]
@@ -70,35 +72,38 @@ fn other_hashers(rt: HostRuntime) {
         (200, 0xaf63dc4c8601ec8c),
     ];
     for (bits, due) in low {
-        assert_eq!(rt; hash_bytes(&LowBits(bits), b"a"), due, "{bits} bits");
+        expect_at(&rt, u64::from(bits), hash_bytes(&LowBits(bits), b"a"), due);
     }
-    assert_eq!(rt; hash_bytes(&Constant(9), b"a"), 9);
+    expect(&rt, hash_bytes(&Constant(9), b"a"), 9);
     for key in [0, 1, 0x0102030405060708, u64::MAX] {
-        assert_eq!(rt; Direct.hash(&key), key);
-        assert_eq!(rt; direct_is_the_key(key), key);
+        expect(&rt, Direct.hash(&key), key);
+        expect(&rt, direct_is_the_key(key), key);
     }
+}
+
+fn expect_alike(rt: &impl Abort, owned: &Vec<u8>, borrowed: &ByteKey) {
+    let hasher = Fnv1a { seed: 7 };
+    let hash = KeyHash::<Vec<u8>>::hash(&hasher, owned);
+    expect(rt, hash, hash_bytes(&hasher, b"Oslo"));
+    expect(rt, hashes_agree(&hasher, owned, borrowed), true);
+    expect(rt, hashes_agree(&LowBits(9), owned, owned), true);
+}
+
+fn expect_same(rt: &impl Abort, owned: &Vec<u8>) {
+    expect(rt, ByteKey(b"Oslo").same(owned), true);
+    expect(rt, owned.same(owned), true);
+    expect(rt, ByteKey(b"oslo").same(owned), false);
+    expect(rt, ByteKey(b"Osl").same(owned), false);
 }
 
 #[test]
 fn owned_and_borrowed_keys_are_alike(rt: HostRuntime) -> Result<(), Fail> {
-    let owned: Vec<u8> = Vec::from_slice(rt.alloc(), b"Oslo")?;
-    let borrowed = ByteKey(b"Oslo");
-    let hasher = Fnv1a { seed: 7 };
-    assert!(rt; borrowed.same(&owned));
-    assert!(rt; owned.same(&owned));
-    assert!(rt; !ByteKey(b"oslo").same(&owned));
-    assert!(rt; !ByteKey(b"Osl").same(&owned));
-    assert_eq!(rt;
-        KeyHash::<Vec<u8>>::hash(&hasher, &owned),
-        hash_bytes(&hasher, b"Oslo")
-    );
-    assert!(rt; hashes_agree(&hasher, &owned, &borrowed));
-    assert!(rt; hashes_agree(&LowBits(9), &owned, &owned));
-    let number = 0x4f736c6fu64;
-    assert!(rt; number.same(&number));
-    assert_eq!(rt;
-        KeyHash::<u64>::hash(&hasher, &number),
-        hash_bytes(&hasher, b"\0\0\0\0Oslo")
-    );
+    let owned = Vec::from_slice(rt.alloc(), b"Oslo")?;
+    expect_same(&rt, &owned);
+    expect_alike(&rt, &owned, &ByteKey(b"Oslo"));
+    let (hasher, number) = (Fnv1a { seed: 7 }, 0x4f736c6fu64);
+    expect(&rt, number.same(&number), true);
+    let hash = KeyHash::<u64>::hash(&hasher, &number);
+    expect(&rt, hash, hash_bytes(&hasher, b"\0\0\0\0Oslo"));
     Ok(())
 }

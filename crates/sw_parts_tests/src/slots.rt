@@ -1,4 +1,5 @@
 //! Raw slots.
+use crate::expected::expect;
 use std::cell::Cell;
 use std::test::Fail;
 use sw_slots::Slots;
@@ -19,15 +20,15 @@ impl Drop for Counted<'_> {
 #[test]
 fn four_slots(rt: HostRuntime) -> Result<(), Fail> {
     let mut slots = Slots::<u64>::new(rt.alloc(), 4)?;
-    assert_eq!(rt; slots.len(), 4);
+    expect(&rt, slots.len(), 4);
     slots.put(2, 9);
-    assert_eq!(rt; *slots.get(2), 9);
+    expect(&rt, *slots.get(2), 9);
     *slots.get_mut(2) = 10;
     slots.put(0, 5);
     slots.swap(0, 2);
-    assert_eq!(rt; *slots.get(0), 10);
-    assert_eq!(rt; slots.take(2), 5);
-    assert_eq!(rt; slots.take(0), 10);
+    expect(&rt, *slots.get(0), 10);
+    expect(&rt, slots.take(2), 5);
+    expect(&rt, slots.take(0), 10);
     slots.release();
     Ok(())
 }
@@ -35,7 +36,7 @@ fn four_slots(rt: HostRuntime) -> Result<(), Fail> {
 #[test]
 fn no_slots(rt: HostRuntime) -> Result<(), Fail> {
     let slots = Slots::<u64>::new(rt.alloc(), 0)?;
-    assert_eq!(rt; slots.len(), 0);
+    expect(&rt, slots.len(), 0);
     slots.release();
     Ok(())
 }
@@ -43,9 +44,9 @@ fn no_slots(rt: HostRuntime) -> Result<(), Fail> {
 #[test]
 fn values_of_no_size(rt: HostRuntime) -> Result<(), Fail> {
     let mut slots = Slots::<()>::new(rt.alloc(), 3)?;
-    assert_eq!(rt; slots.len(), 3);
+    expect(&rt, slots.len(), 3);
     slots.put(1, ());
-    assert_eq!(rt; slots.take(1), ());
+    expect(&rt, slots.take(1), ());
     slots.release();
     Ok(())
 }
@@ -56,7 +57,7 @@ fn values_of_four_kibibytes(rt: HostRuntime) -> Result<(), Fail> {
     slots.put(0, [1; 4096]);
     slots.put(2, [3; 4096]);
     slots.swap(0, 2);
-    assert_eq!(rt; slots.get(0)[4095], 3);
+    expect(&rt, slots.get(0)[4095], 3);
     let last = slots.take(2);
     assert!(rt; last == [1; 4096]);
     let first = slots.take(0);
@@ -76,15 +77,15 @@ fn a_value_taken_out_is_dropped_once(rt: HostRuntime) -> Result<(), Fail> {
             drops: &drops,
         },
     );
-    assert_eq!(rt; drops.get(), 0);
-    assert_eq!(rt; slots.get(1).id, 7);
-    assert_eq!(rt; drops.get(), 0);
+    expect(&rt, drops.get(), 0);
+    expect(&rt, slots.get(1).id, 7);
+    expect(&rt, drops.get(), 0);
     let value = slots.take(1);
-    assert_eq!(rt; drops.get(), 0);
-    assert_eq!(rt; value.id, 7);
+    expect(&rt, drops.get(), 0);
+    expect(&rt, value.id, 7);
     drop(value);
-    assert_eq!(rt; drops.get(), 1);
+    expect(&rt, drops.get(), 1);
     slots.release();
-    assert_eq!(rt; drops.get(), 1);
+    expect(&rt, drops.get(), 1);
     Ok(())
 }
