@@ -1,8 +1,10 @@
 //! A store that lies: one byte of each run reads as another.
-use crate::reading::answers;
+use crate::reading::{DAMAGED, expect_answers};
 use crate::rows::numbers;
 use crate::whole::write_rows;
 use gq_spill::{MemStore, RunId, RunStore, StoreError};
+use std::alloc::Global;
+use std::process::Abort;
 use std::test::Fail;
 
 /// A store in memory, but that the byte at a place of each run reads as itself xor another.
@@ -43,43 +45,33 @@ impl RunStore for Altered {
     }
 }
 
+// Expects what is read of two rows where the byte at a place reads as another.
+fn expect_altered(rt: &impl Abort, alloc: Global, at: u64, by: u8, due: &str) -> Result<(), Fail> {
+    let rows = numbers(alloc, 2)?;
+    let inner = MemStore::new(alloc);
+    let mut store = Altered { inner, at, by };
+    let Ok(mark) = write_rows(alloc, &mut store, rows.as_slice()) else {
+        return Err(Fail::from("not written"));
+    };
+    expect_answers(rt, alloc, &mut store, mark, 1, due)?;
+    store.discard(mark.id);
+    Ok(())
+}
+
 #[test]
 fn what_a_lie_comes_to(rt: HostRuntime) -> Result<(), Fail> {
     let alloc = rt.alloc();
-    let rows = numbers(alloc, 2)?;
-    for (at, by, due) in [
-        // The first byte of a length, the byte that tells the kind, and bytes of a number.
-        (
-            0u64,
-            128u8,
-            "a run is damaged;a run is damaged;a run is damaged;a run is damaged;",
-        ),
-        (
-            4,
-            64,
-            "a run is damaged;a run is damaged;a run is damaged;a run is damaged;",
-        ),
-        (12, 2, "3;2;none;none;"),
-        (18, 128, "1;-9223372036854775806;none;none;"),
-        (
-            17,
-            1,
-            "1;a run is damaged;a run is damaged;a run is damaged;",
-        ),
-        (26, 1, "1;2;none;none;"),
-    ] {
-        let mut store = Altered {
-            inner: MemStore::new(alloc),
-            at,
-            by,
-        };
-        let Ok(mark) = write_rows(alloc, &mut store, rows.as_slice()) else {
-            assert!(rt; false);
-            return Ok(());
-        };
-        let found = answers(alloc, &mut store, mark, 1)?;
-        assert_eq!(rt; found.as_str(), due, "byte {at}");
-        store.discard(mark.id);
-    }
-    Ok(())
+    // The first byte of a length, the byte that tells the kind, and bytes of a number.
+    expect_altered(&rt, alloc, 0, 128, DAMAGED)?;
+    expect_altered(&rt, alloc, 4, 64, DAMAGED)?;
+    expect_altered(&rt, alloc, 12, 2, "3;2;none;none;")?;
+    expect_altered(&rt, alloc, 18, 128, "1;-9223372036854775806;none;none;")?;
+    expect_altered(
+        &rt,
+        alloc,
+        17,
+        1,
+        "1;a run is damaged;a run is damaged;a run is damaged;",
+    )?;
+    expect_altered(&rt, alloc, 26, 1, "1;2;none;none;")
 }

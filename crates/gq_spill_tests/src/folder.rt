@@ -1,14 +1,18 @@
 //! Runs in a real folder.
 ghost use Rattle.std.specs.Prelude.{◌≡◌, IfOk, IsTrue};
 
-use crate::reading::answers;
+use crate::expected::{expect, expect_at};
+use crate::reading::expect_answers;
 use crate::reluctant::{Manner, Reluctant, WILLING};
 use crate::rows::{numbers, spelled};
 use crate::whole::{read_rows, write_rows};
 use gq_dir::DirStore;
+use gq_row::Row;
 use gq_spill::{RunId, RunStore, StoreError};
-use std::alloc::Global;
+use std::alloc::{Alloc, Global};
+use std::fs::Files;
 use std::os::unix::fs::symlink;
+use std::process::Abort;
 use std::test::Fail;
 use std::time::SystemTime;
 use std::{env, fs};
@@ -117,14 +121,68 @@ fn by_turns<S: RunStore>(alloc: Global, store: &mut S) -> Result<bool, StoreErro
     Ok(same)
 }
 
-/// What comes of a run by turns, in a folder whose files are of this manner.
-fn in_manner(rt: &HostRuntime, manner: Manner) -> Result<Result<bool, StoreError>, Fail> {
+/// Whether a write that fails is told by the append that makes it.
+fn tells_at_once<S: RunStore>(alloc: Global, store: &mut S) -> Result<bool, StoreError> {
+    let bytes = pattern(alloc, 70_000, 7)?;
+    let run = store.make()?;
+    let found = store.append(run, bytes.as_slice());
+    store.discard(run);
+    Ok(found == Err(StoreError::Fault))
+}
+
+/// Whether a read that failed, since a part of what waited was written, gives all bytes when it is repeated.
+fn repeats<S: RunStore>(alloc: Global, store: &mut S) -> Result<bool, StoreError> {
+    let run = store.make()?;
+    store.append(run, b"0123456789")?;
+    let failed = gives_back(alloc, store, run, b"0123456789") == Err(StoreError::Fault);
+    let found = gives_back(alloc, store, run, b"0123456789")?;
+    store.discard(run);
+    Ok(failed && found)
+}
+
+/// What is done with a store.
+#[derive(Clone, Copy)]
+enum Task {
+    ByTurns,
+    TellAtOnce,
+    Repeat,
+}
+
+fn carry_out<S: RunStore>(alloc: Global, store: &mut S, task: Task) -> Result<bool, StoreError> {
+    match task {
+        Task::ByTurns => by_turns(alloc, store),
+        Task::TellAtOnce => tells_at_once(alloc, store),
+        Task::Repeat => repeats(alloc, store),
+    }
+}
+
+/// What comes of a task in a folder of its own, whose files are of this manner.
+fn in_manner(
+    rt: &HostRuntime,
+    manner: Manner,
+    task: Task,
+) -> Result<Result<bool, StoreError>, Fail> {
     let folder = new_folder(rt)?;
     let files = Reluctant::new(rt, manner);
     let mut store = DirStore::new(rt.alloc(), &files, folder.as_str())?;
-    let found = by_turns(rt.alloc(), &mut store);
+    let found = carry_out(rt.alloc(), &mut store, task);
     fs::remove_dir(rt, folder.as_str())?;
     Ok(found)
+}
+
+/// Whether this comes of a task in each of these manners.
+fn gives_in_each(
+    rt: &HostRuntime,
+    manners: &[Manner],
+    task: Task,
+    due: Result<bool, StoreError>,
+) -> Result<bool, Fail> {
+    for manner in manners {
+        if in_manner(rt, *manner, task)? != due {
+            return Ok(false);
+        }
+    }
+    Ok(true)
 }
 
 #[test]
@@ -158,45 +216,38 @@ fn bytes_come_back_in_any_manner(rt: HostRuntime) -> Result<(), Fail> {
             ..WILLING
         },
     ];
-    for manner in manners {
-        assert_eq!(rt; in_manner(&rt, manner)?, Ok(true));
-    }
+    let found = gives_in_each(&rt, &manners, Task::ByTurns, Ok(true))?;
+    expect(&rt, found, true);
     Ok(())
+}
+
+/// What comes of a run by turns where a call of its file fails, counted from 0.
+fn turns_failing(rt: &HostRuntime, call: u64) -> Result<Result<bool, StoreError>, Fail> {
+    let manner = Manner {
+        gives: 50_000,
+        takes: 50_000,
+        failing: call,
+        ..WILLING
+    };
+    in_manner(rt, manner, Task::ByTurns)
 }
 
 #[test]
 fn each_call_of_a_file_fails_in_turn(rt: HostRuntime) -> Result<(), Fail> {
     for call in 0..1_000 {
-        let manner = Manner {
-            gives: 50_000,
-            takes: 50_000,
-            failing: call,
-            ..WILLING
-        };
-        let found = in_manner(&rt, manner)?;
+        let found = turns_failing(&rt, call)?;
         if found != Err(StoreError::Fault) {
-            assert_eq!(rt; found, Ok(true), "call {call}");
+            expect_at(&rt, call, found, Ok(true));
             assert!(rt; call > 40, "{call}");
             return Ok(());
         }
     }
-    assert!(rt; false);
-    Ok(())
-}
-
-/// Whether a write that fails is told by the append that makes it.
-fn tells_at_once<S: RunStore>(alloc: Global, store: &mut S) -> Result<bool, StoreError> {
-    let bytes = pattern(alloc, 70_000, 7)?;
-    let run = store.make()?;
-    let found = store.append(run, bytes.as_slice());
-    store.discard(run);
-    Ok(found == Err(StoreError::Fault))
+    Err(Fail::from("each call failed"))
 }
 
 #[test]
 fn a_write_that_fails_is_told_at_once(rt: HostRuntime) -> Result<(), Fail> {
-    let folder = new_folder(&rt)?;
-    for manner in [
+    let manners = [
         Manner {
             takes: 0,
             ..WILLING
@@ -205,37 +256,21 @@ fn a_write_that_fails_is_told_at_once(rt: HostRuntime) -> Result<(), Fail> {
             failing: 0,
             ..WILLING
         },
-    ] {
-        let files = Reluctant::new(&rt, manner);
-        let mut store = DirStore::new(rt.alloc(), &files, folder.as_str())?;
-        assert_eq!(rt; tells_at_once(rt.alloc(), &mut store), Ok(true));
-    }
-    fs::remove_dir(&rt, folder.as_str())?;
+    ];
+    let found = gives_in_each(&rt, &manners, Task::TellAtOnce, Ok(true))?;
+    expect(&rt, found, true);
     Ok(())
-}
-
-/// Whether a read that failed, since a part of what waited was written, gives all bytes when it is repeated.
-fn repeats<S: RunStore>(alloc: Global, store: &mut S) -> Result<bool, StoreError> {
-    let run = store.make()?;
-    store.append(run, b"0123456789")?;
-    let failed = gives_back(alloc, store, run, b"0123456789") == Err(StoreError::Fault);
-    let found = gives_back(alloc, store, run, b"0123456789")?;
-    store.discard(run);
-    Ok(failed && found)
 }
 
 #[test]
 fn a_read_that_failed_is_repeated(rt: HostRuntime) -> Result<(), Fail> {
-    let folder = new_folder(&rt)?;
     let manner = Manner {
         takes: 4,
         failing: 1,
         ..WILLING
     };
-    let files = Reluctant::new(&rt, manner);
-    let mut store = DirStore::new(rt.alloc(), &files, folder.as_str())?;
-    assert_eq!(rt; repeats(rt.alloc(), &mut store), Ok(true));
-    fs::remove_dir(&rt, folder.as_str())?;
+    let found = gives_in_each(&rt, &[manner], Task::Repeat, Ok(true))?;
+    expect(&rt, found, true);
     Ok(())
 }
 
@@ -255,16 +290,18 @@ fn files_that_give_or_take_nothing(rt: HostRuntime) -> Result<(), Fail> {
             ..WILLING
         },
     ];
-    for manner in manners {
-        assert_eq!(rt; in_manner(&rt, manner)?, Err(StoreError::Fault));
-    }
+    let found = gives_in_each(&rt, &manners, Task::ByTurns, Err(StoreError::Fault))?;
+    expect(&rt, found, true);
     Ok(())
 }
 
-/// Writes two runs of a store side by side: whether each gives back its own bytes.
-fn side_by_side<S: RunStore>(alloc: Global, store: &mut S) -> Result<bool, StoreError> {
-    let (one, two) = (pattern(alloc, 150_000, 3)?, pattern(alloc, 150_000, 11)?);
-    let (one, two) = (one.as_slice(), two.as_slice());
+/// Writes two runs of a store by turns: whether each gives back its own bytes.
+fn both_by_turns<S: RunStore>(
+    alloc: Global,
+    store: &mut S,
+    one: &[u8],
+    two: &[u8],
+) -> Result<bool, StoreError> {
     let first = store.make()?;
     let second = store.make()?;
     let mut same = true;
@@ -282,11 +319,22 @@ fn side_by_side<S: RunStore>(alloc: Global, store: &mut S) -> Result<bool, Store
     Ok(same && left)
 }
 
+fn side_by_side<S: RunStore>(alloc: Global, store: &mut S) -> Result<bool, StoreError> {
+    let one = pattern(alloc, 150_000, 3)?;
+    let two = pattern(alloc, 150_000, 11)?;
+    both_by_turns(alloc, store, one.as_slice(), two.as_slice())
+}
+
+fn expect_side_by_side(rt: &(impl Files + AllocGlobal + Abort), folder: &str) -> Result<(), Fail> {
+    let mut store = DirStore::new(rt.alloc(), rt, folder)?;
+    expect(rt, side_by_side(rt.alloc(), &mut store), Ok(true));
+    Ok(())
+}
+
 #[test]
 fn runs_side_by_side(rt: HostRuntime) -> Result<(), Fail> {
     let folder = new_folder(&rt)?;
-    let mut store = DirStore::new(rt.alloc(), &rt, folder.as_str())?;
-    assert_eq!(rt; side_by_side(rt.alloc(), &mut store), Ok(true));
+    expect_side_by_side(&rt, folder.as_str())?;
     fs::remove_dir(&rt, folder.as_str())?;
     Ok(())
 }
@@ -315,77 +363,136 @@ fn two_stores_share_a_folder(rt: HostRuntime) -> Result<(), Fail> {
     let folder = new_folder(&rt)?;
     let mut one = DirStore::new(rt.alloc(), &rt, folder.as_str())?;
     let mut other = DirStore::new(rt.alloc(), &rt, folder.as_str())?;
-    assert_eq!(rt; in_two_stores(rt.alloc(), &mut one, &mut other), Ok(true));
+    expect(
+        &rt,
+        in_two_stores(rt.alloc(), &mut one, &mut other),
+        Ok(true),
+    );
     fs::remove_dir(&rt, folder.as_str())?;
     Ok(())
 }
 
+fn expect_same(rt: &impl Abort, alloc: Global, read: &[Row], rows: &[Row]) -> Result<(), Fail> {
+    let found = spelled(alloc, read)?;
+    let due = spelled(alloc, rows)?;
+    assert!(rt; found.as_str() == due.as_str());
+    Ok(())
+}
+
+/// Writes rows to a run, which is there although the folder is empty.
+fn read_nameless<S: RunStore>(
+    rt: &(impl Files + AllocGlobal + Abort),
+    store: &mut S,
+    folder: &str,
+    rows: &[Row],
+) -> Result<(), Fail> {
+    let Ok(mark) = write_rows(rt.alloc(), store, rows) else {
+        return Err(Fail::from("not written"));
+    };
+    expect(rt, mark.id.number, 0);
+    fs::remove_dir(rt, folder)?;
+    let Ok(read) = read_rows(rt.alloc(), store, mark, 1) else {
+        return Err(Fail::from("not read"));
+    };
+    expect_same(rt, rt.alloc(), read.as_slice(), rows)
+}
+
 #[test]
 fn a_file_has_no_name(rt: HostRuntime) -> Result<(), Fail> {
-    let alloc = rt.alloc();
     let folder = new_folder(&rt)?;
-    let mut store = DirStore::new(alloc, &rt, folder.as_str())?;
-    let rows = numbers(alloc, 10_000)?;
-    let due = spelled(alloc, rows.as_slice())?;
-    let Ok(mark) = write_rows(alloc, &mut store, rows.as_slice()) else {
-        assert!(rt; false);
-        return Ok(());
+    let rows = numbers(rt.alloc(), 10_000)?;
+    let mut store = DirStore::new(rt.alloc(), &rt, folder.as_str())?;
+    read_nameless(&rt, &mut store, folder.as_str(), rows.as_slice())
+}
+
+/// Appends behind two rows, and reads from their last byte on.
+fn append_behind<S: RunStore>(rt: &impl Abort, store: &mut S, run: RunId)
+    requires { IsTrue ((S.runs store.old).live run.number) }
+{
+    expect(rt, store.append(run, b"ab").is_ok(), true);
+    let mut buffer = [b'.'; 4];
+    expect(rt, store.read(run, 25, &mut buffer).ok(), Some(3));
+    expect(rt, buffer, *b"\x02ab.");
+    expect(rt, store.read(run, 28, &mut buffer).ok(), Some(0));
+    store.discard(run);
+}
+
+fn append_after_reads<S: RunStore>(
+    rt: &(impl Files + AllocGlobal + Abort),
+    store: &mut S,
+    folder: &str,
+    rows: &[Row],
+) -> Result<(), Fail> {
+    let Ok(mark) = write_rows(rt.alloc(), store, rows) else {
+        return Err(Fail::from("not written"));
     };
-    assert_eq!(rt; mark.id.number, 0);
-    // The run is there, and the folder is empty all the same.
-    fs::remove_dir(&rt, folder.as_str())?;
-    match read_rows(alloc, &mut store, mark, 1) {
-        Ok(read) => {
-            let found = spelled(alloc, read.as_slice())?;
-            assert!(rt; found.as_str() == due.as_str());
-        }
-        Err(why) => assert!(rt; false, "{why}"),
-    }
+    expect_answers(rt, rt.alloc(), store, mark, 1, "1;2;none;none;")?;
+    append_behind(rt, store, mark.id);
+    fs::remove_dir(rt, folder)?;
     Ok(())
 }
 
 #[test]
 fn what_is_appended_after_a_read_goes_to_the_end(rt: HostRuntime) -> Result<(), Fail> {
-    let alloc = rt.alloc();
     let folder = new_folder(&rt)?;
-    let mut store = DirStore::new(alloc, &rt, folder.as_str())?;
-    let few = numbers(alloc, 2)?;
-    let Ok(mark) = write_rows(alloc, &mut store, few.as_slice()) else {
-        assert!(rt; false);
-        return Ok(());
-    };
-    let found = answers(alloc, &mut store, mark, 1)?;
-    assert_eq!(rt; found.as_str(), "1;2;none;none;");
-    assert!(rt; store.append(mark.id, b"ab").is_ok());
-    let mut buffer = [b'.'; 4];
-    assert_eq!(rt; store.read(mark.id, 25, &mut buffer).ok(), Some(3));
-    assert!(rt; buffer == *b"\x02ab.");
-    assert_eq!(rt; store.read(mark.id, 28, &mut buffer).ok(), Some(0));
-    store.discard(mark.id);
-    fs::remove_dir(&rt, folder.as_str())?;
+    let rows = numbers(rt.alloc(), 2)?;
+    let mut store = DirStore::new(rt.alloc(), &rt, folder.as_str())?;
+    append_after_reads(&rt, &mut store, folder.as_str(), rows.as_slice())
+}
+
+/// Runs go by two names, of which one was a file's and one a link's.
+fn take_names(
+    rt: &(impl Files + AllocGlobal + Abort),
+    folder: &str,
+    target: &str,
+    file: &str,
+    link: &str,
+) -> Result<(), Fail> {
+    fs::write(rt, target, b"kept")?;
+    fs::write(rt, file, b"old")?;
+    symlink(rt, target, link)?;
+    expect_side_by_side(rt, folder)?;
+    expect(rt, fs::symlink_metadata(rt, file).is_err(), true);
+    expect(rt, fs::symlink_metadata(rt, link).is_err(), true);
+    Ok(())
+}
+
+fn expect_kept(rt: &(impl Files + AllocGlobal + Abort), target: &str) -> Result<(), Fail> {
+    let kept = fs::read(rt, target)?;
+    expect(rt, kept.as_slice(), b"kept".as_slice());
+    fs::remove_file(rt, target)?;
     Ok(())
 }
 
 #[test]
 fn what_had_the_name_loses_it(rt: HostRuntime) -> Result<(), Fail> {
-    let alloc = rt.alloc();
     let folder = new_folder(&rt)?;
-    let target = within(&rt, folder.as_str(), "target")?;
-    let names = [
-        within(&rt, folder.as_str(), "run-0.gq")?,
-        within(&rt, folder.as_str(), "run-1.gq")?,
-    ];
-    fs::write(&rt, target.as_str(), b"kept")?;
-    fs::write(&rt, names[0].as_str(), b"old")?;
-    symlink(&rt, target.as_str(), names[1].as_str())?;
-    let mut store = DirStore::new(alloc, &rt, folder.as_str())?;
-    assert_eq!(rt; side_by_side(alloc, &mut store), Ok(true));
-    for name in &names {
-        assert!(rt; fs::symlink_metadata(&rt, name.as_str()).is_err());
-    }
-    assert!(rt; fs::read(&rt, target.as_str())?.as_slice() == b"kept".as_slice());
-    fs::remove_file(&rt, target.as_str())?;
-    fs::remove_dir(&rt, folder.as_str())?;
+    let folder = folder.as_str();
+    let target = within(&rt, folder, "target")?;
+    let file = within(&rt, folder, "run-0.gq")?;
+    let link = within(&rt, folder, "run-1.gq")?;
+    take_names(&rt, folder, target.as_str(), file.as_str(), link.as_str())?;
+    expect_kept(&rt, target.as_str())?;
+    fs::remove_dir(&rt, folder)?;
+    Ok(())
+}
+
+/// Whether a store makes no run.
+fn faults<S: RunStore>(store: &mut S) -> bool {
+    matches!(store.make(), Err(StoreError::Fault))
+}
+
+/// Makes a run once its name is free.
+fn make_after<S: RunStore>(
+    rt: &(impl Files + AllocGlobal + Abort),
+    store: &mut S,
+    folder: &str,
+    inner: &str,
+) -> Result<(), Fail> {
+    expect(rt, faults(store), true);
+    fs::remove_dir(rt, inner)?;
+    expect(rt, store.make().is_ok(), true);
+    fs::remove_dir(rt, folder)?;
     Ok(())
 }
 
@@ -395,25 +502,37 @@ fn a_folder_keeps_its_name(rt: HostRuntime) -> Result<(), Fail> {
     let inner = within(&rt, folder.as_str(), "run-0.gq")?;
     fs::create_dir(&rt, inner.as_str())?;
     let mut store = DirStore::new(rt.alloc(), &rt, folder.as_str())?;
-    assert_eq!(rt; store.make().err(), Some(StoreError::Fault));
-    fs::remove_dir(&rt, inner.as_str())?;
-    assert!(rt; store.make().is_ok());
-    fs::remove_dir(&rt, folder.as_str())?;
-    Ok(())
+    make_after(&rt, &mut store, folder.as_str(), inner.as_str())
 }
 
 #[test]
 fn a_folder_that_is_not_there(rt: HostRuntime) -> Result<(), Fail> {
     let folder = fresh_folder(&rt)?;
     let mut store = DirStore::new(rt.alloc(), &rt, folder.as_str())?;
-    assert_eq!(rt; store.make().err(), Some(StoreError::Fault));
-    assert_eq!(rt; store.make().err(), Some(StoreError::Fault));
+    expect(&rt, faults(&mut store), true);
+    expect(&rt, faults(&mut store), true);
     Ok(())
 }
 
 /// How many files this process has open.
-fn open_files(rt: &HostRuntime) -> Result<usize, Fail> {
+fn open_files(rt: &(impl Files + Alloc + Clone + Drop)) -> Result<usize, Fail> {
     Ok(fs::read_dir(rt, "/proc/self/fd")?.count())
+}
+
+/// Makes a run and discards it, with so many files open before, and makes another.
+fn close_first<S: RunStore>(
+    rt: &(impl Files + Alloc + Clone + Drop + Abort),
+    store: &mut S,
+    before: usize,
+) -> Result<(), Fail> {
+    let Ok(run) = store.make() else {
+        return Err(Fail::from("no run"));
+    };
+    expect(rt, open_files(rt)?.checked_sub(before), Some(1));
+    store.discard(run);
+    expect(rt, open_files(rt)?, before);
+    expect(rt, store.make().is_ok(), true);
+    Ok(())
 }
 
 #[test]
@@ -421,16 +540,9 @@ fn a_file_is_closed_with_its_run(rt: HostRuntime) -> Result<(), Fail> {
     let folder = new_folder(&rt)?;
     let mut store = DirStore::new(rt.alloc(), &rt, folder.as_str())?;
     let before = open_files(&rt)?;
-    let Ok(run) = store.make() else {
-        assert!(rt; false);
-        return Ok(());
-    };
-    assert_eq!(rt; open_files(&rt)?.checked_sub(before), Some(1));
-    store.discard(run);
-    assert_eq!(rt; open_files(&rt)?, before);
-    assert!(rt; store.make().is_ok());
+    close_first(&rt, &mut store, before)?;
     drop(store);
-    assert_eq!(rt; open_files(&rt)?, before);
+    expect(&rt, open_files(&rt)?, before);
     fs::remove_dir(&rt, folder.as_str())?;
     Ok(())
 }

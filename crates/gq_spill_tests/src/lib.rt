@@ -11,6 +11,8 @@
 #[cfg(test)]
 mod altered;
 #[cfg(test)]
+mod expected;
+#[cfg(test)]
 mod folder;
 #[cfg(test)]
 mod memory;

@@ -1,25 +1,24 @@
 //! Readers of runs: what they answer, and in how many pieces they read.
 ghost use Rattle.std.specs.Prelude.{IsTrue};
 
-use crate::rows::{no_values, number, numbers, spelled, text};
+use crate::expected::{expect, expect_at};
+use crate::rows::{no_values, number, numbers, spelled, spelled_row, text};
 use crate::stores::with_trouble;
 use crate::whole::{read_rows, write_rows};
 use gq_row::Row;
 use gq_spill::{MemStore, RunMark, RunReader, RunStore, SpillRefusal, Trouble};
 use std::alloc::{AllocError, Global};
+use std::process::Abort;
 use std::test::Fail;
 
 /// What a reader answered: its row, that there is none, or why not.
-fn told(
+pub(crate) fn told(
     alloc: Global,
     out: &mut String,
     answer: Result<Option<Row>, SpillRefusal>,
 ) -> Result<(), AllocError> {
     match answer {
-        Ok(Some(row)) => {
-            let rows = vec![in alloc; row]?;
-            out.push_str(spelled(alloc, rows.as_slice())?.as_str())
-        }
+        Ok(Some(row)) => out.push_str(spelled_row(alloc, &row)?.as_str()),
         Ok(None) => out.push_str("none;"),
         Err(why) => out.push_str(format!(in alloc; "{why};")?.as_str()),
     }
@@ -36,59 +35,84 @@ pub(crate) fn answers<S: RunStore>(
     ensures { IsTrue ((S.runs store.new).live mark.id.number) }
 {
     let mut reader = RunReader::open(alloc, mark, columns);
-    let first = reader.next(alloc, store, no_values(alloc));
-    let second = reader.next(alloc, store, no_values(alloc));
-    let third = reader.next(alloc, store, no_values(alloc));
-    let fourth = reader.next(alloc, store, no_values(alloc));
     let mut out = String::new(alloc);
+    let first = reader.next(alloc, store, no_values(alloc));
     told(alloc, &mut out, first)?;
+    let second = reader.next(alloc, store, no_values(alloc));
     told(alloc, &mut out, second)?;
+    let third = reader.next(alloc, store, no_values(alloc));
     told(alloc, &mut out, third)?;
+    let fourth = reader.next(alloc, store, no_values(alloc));
     told(alloc, &mut out, fourth)?;
     Ok(out)
 }
 
+/// Expects the first four answers of a reader.
+pub(crate) fn expect_answers<S: RunStore>(
+    rt: &impl Abort,
+    alloc: Global,
+    store: &mut S,
+    mark: RunMark,
+    columns: usize,
+    due: &str,
+) -> Result<(), Fail>
+    requires { IsTrue ((S.runs store.old).live mark.id.number) }
+    ensures { IsTrue ((S.runs store.new).live mark.id.number) }
+{
+    let found = answers(alloc, store, mark, columns)?;
+    assert_eq!(rt; found.as_str(), due);
+    Ok(())
+}
+
+/// The four answers of a reader that finds at once that its run is damaged.
+pub(crate) const DAMAGED: &str =
+    "a run is damaged;a run is damaged;a run is damaged;a run is damaged;";
+
+/// Reads two rows by marks that tell another number of rows or of bytes, and as rows of other columns.
+fn expect_by_marks<S: RunStore>(
+    rt: &impl Abort,
+    alloc: Global,
+    store: &mut S,
+    mark: RunMark,
+) -> Result<(), Fail>
+    requires { IsTrue ((S.runs store.old).live mark.id.number) }
+    ensures { IsTrue ((S.runs store.new).live mark.id.number) }
+{
+    let longer = RunMark { records: 3, ..mark };
+    expect_answers(
+        rt,
+        alloc,
+        store,
+        longer,
+        1,
+        "1;2;a run is damaged;a run is damaged;",
+    )?;
+    let fewer = RunMark { records: 1, ..mark };
+    expect_answers(rt, alloc, store, fewer, 1, "1;none;none;none;")?;
+    let shorter = RunMark { bytes: 25, ..mark };
+    expect_answers(
+        rt,
+        alloc,
+        store,
+        shorter,
+        1,
+        "1;a run is damaged;a run is damaged;a run is damaged;",
+    )?;
+    let past = RunMark { bytes: 27, ..mark };
+    expect_answers(rt, alloc, store, past, 1, DAMAGED)?;
+    expect_answers(rt, alloc, store, mark, 2, DAMAGED)
+}
+
 #[test]
 fn rows_read_are_the_rows_written(rt: HostRuntime) -> Result<(), Fail> {
-    let alloc = rt.alloc();
-    let mut store = MemStore::new(alloc);
-    let mark = match write_rows(alloc, &mut store, numbers(alloc, 2)?.as_slice()) {
-        Ok(mark) => mark,
-        Err(why) => {
-            assert!(rt; false, "{why}");
-            return Ok(());
-        }
+    let rows = numbers(rt.alloc(), 2)?;
+    let mut store = MemStore::new(rt.alloc());
+    let Ok(mark) = write_rows(rt.alloc(), &mut store, rows.as_slice()) else {
+        return Err(Fail::from("not written"));
     };
-    assert_eq!(rt; mark.bytes, 26);
-    assert_eq!(rt; mark.records, 2);
-    let found = answers(alloc, &mut store, mark, 1)?;
-    assert_eq!(rt; found.as_str(), "1;2;none;none;");
-    // A mark that tells another number of rows or of bytes, and another number of columns.
-    let longer = RunMark { records: 3, ..mark };
-    let found = answers(alloc, &mut store, longer, 1)?;
-    assert_eq!(rt; found.as_str(), "1;2;a run is damaged;a run is damaged;");
-    let fewer = RunMark { records: 1, ..mark };
-    let found = answers(alloc, &mut store, fewer, 1)?;
-    assert_eq!(rt; found.as_str(), "1;none;none;none;");
-    let shorter = RunMark { bytes: 25, ..mark };
-    let found = answers(alloc, &mut store, shorter, 1)?;
-    assert_eq!(rt;
-        found.as_str(),
-        "1;a run is damaged;a run is damaged;a run is damaged;"
-    );
-    let past = RunMark { bytes: 27, ..mark };
-    let found = answers(alloc, &mut store, past, 1)?;
-    assert!(rt;
-        found
-            .as_str()
-            .starts_with("a run is damaged;a run is damaged;")
-    );
-    let found = answers(alloc, &mut store, mark, 2)?;
-    assert!(rt;
-        found
-            .as_str()
-            .starts_with("a run is damaged;a run is damaged;")
-    );
+    expect(&rt, (mark.bytes, mark.records), (26, 2));
+    expect_answers(&rt, rt.alloc(), &mut store, mark, 1, "1;2;none;none;")?;
+    expect_by_marks(&rt, rt.alloc(), &mut store, mark)?;
     store.discard(mark.id);
     Ok(())
 }
@@ -108,38 +132,49 @@ fn comes_back(alloc: Global, rows: &[Row], fails_at: u64) -> Result<bool, AllocE
     Ok(spelled(alloc, read.as_slice())?.as_str() == due.as_str())
 }
 
-#[test]
-fn pieces_of_64_kib(rt: HostRuntime) -> Result<(), Fail> {
-    let alloc = rt.alloc();
-    // 13 bytes a row: one piece, and two.
-    for (last, reads) in [(5_041i64, 1u64), (5_042, 2), (10_000, 2)] {
-        let rows = numbers(alloc, last)?;
-        for k in 1..=reads {
-            assert!(rt;
-                !comes_back(alloc, rows.as_slice(), k)?,
-                "{last} rows, call {k}"
-            );
-        }
-        assert!(rt;
-            comes_back(alloc, rows.as_slice(), reads + 1)?,
-            "{last} rows"
-        );
+// Of so many rows, which are read in so many pieces.
+fn expect_reads(rt: &impl Abort, alloc: Global, last: i64, reads: u64) -> Result<(), Fail> {
+    let rows = numbers(alloc, last)?;
+    for k in 1..=reads {
+        expect_at(rt, k, comes_back(alloc, rows.as_slice(), k)?, false);
     }
+    expect(
+        rt,
+        comes_back(alloc, rows.as_slice(), reads.saturating_add(1))?,
+        true,
+    );
     Ok(())
 }
 
 #[test]
-fn a_record_longer_than_a_piece(rt: HostRuntime) -> Result<(), Fail> {
-    let alloc = rt.alloc();
+fn pieces_of_64_kib(rt: HostRuntime) -> Result<(), Fail> {
+    // 13 bytes a row: one piece, and two.
+    expect_reads(&rt, rt.alloc(), 5_041, 1)?;
+    expect_reads(&rt, rt.alloc(), 5_042, 2)?;
+    expect_reads(&rt, rt.alloc(), 10_000, 2)
+}
+
+// A row of a text of 200,000 bytes.
+fn long_row(alloc: Global) -> Result<Row, AllocError> {
     let mut chars = String::new(alloc);
     for _ in 0..40_000 {
         chars.push_str("abcde")?;
     }
+    Ok(Row::new(vec![in alloc; text(alloc, chars.as_str())?]?))
+}
+
+fn with_long_row(alloc: Global) -> Result<Vec<Row>, AllocError> {
     let mut rows = numbers(alloc, 6_000)?;
-    rows.push(Row::new(vec![in alloc; text(alloc, chars.as_str())?]?))?;
+    rows.push(long_row(alloc)?)?;
     for n in 0..6_000i64 {
         rows.push(number(alloc, n)?)?;
     }
-    assert!(rt; comes_back(alloc, rows.as_slice(), 1_000)?);
+    Ok(rows)
+}
+
+#[test]
+fn a_record_longer_than_a_piece(rt: HostRuntime) -> Result<(), Fail> {
+    let rows = with_long_row(rt.alloc())?;
+    expect(&rt, comes_back(rt.alloc(), rows.as_slice(), 1_000)?, true);
     Ok(())
 }

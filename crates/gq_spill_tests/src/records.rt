@@ -1,18 +1,19 @@
 //! Records of rows, written down by hand.
-use crate::rows::{no_case, number, spelled, text, worked};
+use crate::rows::{no_case, number, spelled_row, text, worked};
 use gq_row::{Row, Value};
 use gq_spill::{decode_row, encode_row, is_storable};
 use std::alloc::{AllocError, Global};
+use std::process::Abort;
 use std::test::Fail;
 
-/// Some bytes with a row's record behind them, where it has one.
-fn with_record(alloc: Global, front: &[u8], row: &Row) -> Result<Option<Vec<u8>>, AllocError> {
+/// Some bytes with a row's record behind them.
+pub(crate) fn with_record(alloc: Global, front: &[u8], row: &Row) -> Result<Vec<u8>, Fail> {
     let mut bytes = Vec::from_slice(alloc, front)?;
     if !is_storable(row) {
-        return Ok(None);
+        return Err(Fail::from("it has no record"));
     }
     encode_row(row, &mut bytes)?;
-    Ok(Some(bytes))
+    Ok(bytes)
 }
 
 /// The row whose record is at the front, spelled out, and how long the record is.
@@ -20,107 +21,157 @@ fn decoded(alloc: Global, bytes: &[u8]) -> Result<Option<(String, usize)>, Alloc
     let Some((row, len)) = decode_row(alloc, bytes)? else {
         return Ok(None);
     };
-    let rows = vec![in alloc; row]?;
-    Ok(Some((spelled(alloc, rows.as_slice())?, len)))
+    Ok(Some((spelled_row(alloc, &row)?, len)))
+}
+
+/// Expects that some bytes begin with the record of a row, which is so long.
+fn expect_decoded(
+    rt: &impl Abort,
+    alloc: Global,
+    bytes: &[u8],
+    due: &str,
+    due_len: usize,
+) -> Result<(), Fail> {
+    let (row, len) = decoded(alloc, bytes)?.ok_or("it begins with a record")?;
+    assert_eq!(rt; row.as_str(), due);
+    assert_eq!(rt; len, due_len);
+    Ok(())
+}
+
+fn expect_no_record(rt: &impl Abort, alloc: Global, bytes: &[u8]) -> Result<(), Fail> {
+    let found = decoded(alloc, bytes)?;
+    assert!(rt; found.is_none(), "{bytes:?}");
+    Ok(())
+}
+
+/// Expects the record of a row, and the row of its record.
+fn expect_record(rt: &impl Abort, alloc: Global, row: &Row, due: &[u8]) -> Result<(), Fail> {
+    let found = with_record(alloc, b"", row)?;
+    assert_eq!(rt; found.as_slice(), due);
+    let spelled = spelled_row(alloc, row)?;
+    expect_decoded(rt, alloc, due, spelled.as_str(), due.len())
 }
 
 const WORKED: &[u8] = b"\0\0\0\x13\0\x01\xff\xff\xff\xff\xff\xff\xff\xff\x02\0\0\0\x04Oslo";
 
-#[test]
-fn the_record_of_a_row(rt: HostRuntime) -> Result<(), Fail> {
-    let alloc = rt.alloc();
-    let found = with_record(alloc, b"", &worked(alloc)?)?.ok_or("it has a record")?;
-    assert_eq!(rt; found.as_slice(), WORKED);
-    let behind = with_record(alloc, b"ab", &worked(alloc)?)?.ok_or("it has a record")?;
+// A record goes behind what is there.
+fn expect_behind(rt: &impl Abort, alloc: Global, row: &Row) -> Result<(), Fail> {
+    let behind = with_record(alloc, b"ab", row)?;
     assert_eq!(rt; behind.len(), 25);
     assert!(rt; behind.starts_with(b"ab\0\0\0\x13\0\x01"));
-    let (row, len) = decoded(alloc, WORKED)?.ok_or("it is a record")?;
-    assert_eq!(rt; row.as_str(), "null,-1,'Oslo';");
-    assert_eq!(rt; len, 23);
+    Ok(())
+}
+
+#[test]
+fn the_record_of_a_row(rt: HostRuntime) -> Result<(), Fail> {
+    let row = worked(rt.alloc())?;
+    expect_record(&rt, rt.alloc(), &row, WORKED)?;
+    expect_behind(&rt, rt.alloc(), &row)?;
+    expect_decoded(&rt, rt.alloc(), WORKED, "null,-1,'Oslo';", 23)?;
     // No front of a record is one.
     for cut in 0..WORKED.len() {
-        assert!(rt; decoded(alloc, &WORKED[..cut])?.is_none(), "cut at {cut}");
+        expect_no_record(&rt, rt.alloc(), &WORKED[..cut])?;
+    }
+    Ok(())
+}
+
+// Rows without texts, whose records stand beside them in the test.
+fn plain_rows(alloc: Global) -> Result<Vec<Row>, AllocError> {
+    let none = Row::new(Vec::new(alloc));
+    let null = Row::new(vec![in alloc; Value::Null]?);
+    Ok(vec![in alloc;
+        none,
+        null,
+        number(alloc, 258)?,
+        number(alloc, i64::MAX)?,
+        number(alloc, i64::MIN)?,
+    ]?)
+}
+
+fn rows_of_texts(alloc: Global) -> Result<Vec<Row>, AllocError> {
+    let empty = Row::new(vec![in alloc; text(alloc, "")?]?);
+    let accented = Row::new(vec![in alloc; text(alloc, "é")?, Value::Null]?);
+    let spelling = Row::new(vec![in alloc; no_case(alloc, "OsLO")?, no_case(alloc, "")?]?);
+    Ok(vec![in alloc; empty, accented, spelling]?)
+}
+
+fn expect_records(rt: &impl Abort, alloc: Global, rows: &[Row], due: &[&[u8]]) -> Result<(), Fail> {
+    assert_eq!(rt; rows.len(), due.len());
+    for (row, record) in rows.iter().zip(due.iter()) {
+        expect_record(rt, alloc, row, record)?;
     }
     Ok(())
 }
 
 #[test]
 fn records_of_each_kind(rt: HostRuntime) -> Result<(), Fail> {
-    let alloc = rt.alloc();
-    let none = Row::new(Vec::new(alloc));
-    let null = Row::new(vec![in alloc; Value::Null]?);
-    let empty = Row::new(vec![in alloc; text(alloc, "")?]?);
-    let accented = Row::new(vec![in alloc; text(alloc, "é")?, Value::Null]?);
-    let spelling = Row::new(vec![in alloc; no_case(alloc, "OsLO")?, no_case(alloc, "")?]?);
-    for (row, due) in [
-        (none, &b"\0\0\0\0"[..]),
-        (null, b"\0\0\0\x01\0"),
-        (empty, b"\0\0\0\x05\x02\0\0\0\0"),
-        (accented, b"\0\0\0\x08\x02\0\0\0\x02\xc3\xa9\0"),
-        (spelling, b"\0\0\0\x0e\x03\0\0\0\x04OsLO\x03\0\0\0\0"),
-        (number(alloc, 258)?, b"\0\0\0\x09\x01\0\0\0\0\0\0\x01\x02"),
-        (
-            number(alloc, i64::MAX)?,
+    let plain = plain_rows(rt.alloc())?;
+    expect_records(
+        &rt,
+        rt.alloc(),
+        plain.as_slice(),
+        &[
+            b"\0\0\0\0",
+            b"\0\0\0\x01\0",
+            b"\0\0\0\x09\x01\0\0\0\0\0\0\x01\x02",
             b"\0\0\0\x09\x01\x7f\xff\xff\xff\xff\xff\xff\xff",
-        ),
-        (
-            number(alloc, i64::MIN)?,
             b"\0\0\0\x09\x01\x80\0\0\0\0\0\0\0",
-        ),
-    ] {
-        let found = with_record(alloc, b"", &row)?.ok_or("it has a record")?;
-        assert_eq!(rt; found.as_slice(), due);
-        let rows = vec![in alloc; row]?;
-        let (again, len) = decoded(alloc, due)?.ok_or("it is a record")?;
-        assert_eq!(rt; again.as_str(), spelled(alloc, rows.as_slice())?.as_str());
-        assert_eq!(rt; len, due.len());
-    }
-    Ok(())
+        ],
+    )?;
+    let texts = rows_of_texts(rt.alloc())?;
+    expect_records(
+        &rt,
+        rt.alloc(),
+        texts.as_slice(),
+        &[
+            b"\0\0\0\x05\x02\0\0\0\0",
+            b"\0\0\0\x08\x02\0\0\0\x02\xc3\xa9\0",
+            b"\0\0\0\x0e\x03\0\0\0\x04OsLO\x03\0\0\0\0",
+        ],
+    )
 }
 
 #[test]
 fn what_stands_behind_a_record_is_left(rt: HostRuntime) -> Result<(), Fail> {
     let alloc = rt.alloc();
-    for (bytes, due, due_len) in [
-        (&b"\0\0\0\x01\0\0\0\0\x01"[..], "null;", 5usize),
-        (b"\0\0\0\0abc", ";", 4),
-        (b"\0\0\0\x06\x02\0\0\0\x01a\xff", "'a';", 10),
-        (b"\0\0\0\x06\x03\0\0\0\x01A\xff", "~'A';", 10),
-    ] {
-        let (row, len) = decoded(alloc, bytes)?.ok_or("it begins with a record")?;
-        assert_eq!(rt; row.as_str(), due);
-        assert_eq!(rt; len, due_len);
+    expect_decoded(&rt, alloc, b"\0\0\0\x01\0\0\0\0\x01", "null;", 5)?;
+    expect_decoded(&rt, alloc, b"\0\0\0\0abc", ";", 4)?;
+    expect_decoded(&rt, alloc, b"\0\0\0\x06\x02\0\0\0\x01a\xff", "'a';", 10)?;
+    expect_decoded(&rt, alloc, b"\0\0\0\x06\x03\0\0\0\x01A\xff", "~'A';", 10)
+}
+
+const NO_RECORDS: [&[u8]; 16] = [
+    // No length, and no body.
+    b"\0\0\0",
+    b"\0\0\0\x01",
+    b"\xff\xff\xff\xff\0",
+    // Kinds that there are not.
+    b"\0\0\0\x01\x04",
+    b"\0\0\0\x06\x04\0\0\0\x01a",
+    b"\0\0\0\x02\0\xff",
+    // A number of seven bytes, and one that ends behind its body.
+    b"\0\0\0\x08\x01\0\0\0\0\0\0\0",
+    b"\0\0\0\x08\x01\0\0\0\0\0\0\0\0",
+    // A text that ends behind its body, one with bytes behind it, and one that is not UTF-8.
+    b"\0\0\0\x06\x02\0\0\0\x02ab",
+    b"\0\0\0\x06\x02\0\0\0\0a",
+    b"\0\0\0\x06\x02\0\0\0\x01\xff",
+    b"\0\0\0\x03\x02\0\0",
+    // The same of a text without case.
+    b"\0\0\0\x01\x03",
+    b"\0\0\0\x06\x03\0\0\0\x02ab",
+    b"\0\0\0\x06\x03\0\0\0\0a",
+    b"\0\0\0\x06\x03\0\0\0\x01\xff",
+];
+
+fn expect_no_records(rt: &impl Abort, alloc: Global, records: &[&[u8]]) -> Result<(), Fail> {
+    for bytes in records {
+        expect_no_record(rt, alloc, bytes)?;
     }
     Ok(())
 }
 
 #[test]
 fn what_is_no_record(rt: HostRuntime) -> Result<(), Fail> {
-    let alloc = rt.alloc();
-    for bytes in [
-        // No length, and no body.
-        &b"\0\0\0"[..],
-        b"\0\0\0\x01",
-        b"\xff\xff\xff\xff\0",
-        // Kinds that there are not.
-        b"\0\0\0\x01\x04",
-        b"\0\0\0\x06\x04\0\0\0\x01a",
-        b"\0\0\0\x02\0\xff",
-        // A number of seven bytes, and one that ends behind its body.
-        b"\0\0\0\x08\x01\0\0\0\0\0\0\0",
-        b"\0\0\0\x08\x01\0\0\0\0\0\0\0\0",
-        // A text that ends behind its body, one with bytes behind it, and one that is not UTF-8.
-        b"\0\0\0\x06\x02\0\0\0\x02ab",
-        b"\0\0\0\x06\x02\0\0\0\0a",
-        b"\0\0\0\x06\x02\0\0\0\x01\xff",
-        b"\0\0\0\x03\x02\0\0",
-        // The same of a text without case.
-        b"\0\0\0\x01\x03",
-        b"\0\0\0\x06\x03\0\0\0\x02ab",
-        b"\0\0\0\x06\x03\0\0\0\0a",
-        b"\0\0\0\x06\x03\0\0\0\x01\xff",
-    ] {
-        assert!(rt; decoded(alloc, bytes)?.is_none(), "{bytes:?}");
-    }
-    Ok(())
+    expect_no_records(&rt, rt.alloc(), &NO_RECORDS)
 }

@@ -35,28 +35,42 @@ pub(crate) fn worked(alloc: Global) -> Result<Row, AllocError> {
     Ok(Row::new(vec![in alloc; Value::Null, Value::Int(-1), text(alloc, "Oslo")?]?))
 }
 
+fn spell_text(alloc: Global, out: &mut String, sign: &str, text: &Text) -> Result<(), AllocError> {
+    let chars = text.as_str();
+    out.push_str(format!(in alloc; "{sign}'{chars}'")?.as_str())
+}
+
+fn spell_value(alloc: Global, out: &mut String, value: &Value) -> Result<(), AllocError> {
+    match value {
+        Value::Null => out.push_str("null"),
+        Value::Int(n) => out.push_str(format!(in alloc; "{n}")?.as_str()),
+        Value::Text(text) => spell_text(alloc, out, "", text),
+        Value::NoCase(text) => spell_text(alloc, out, "~", text),
+    }
+}
+
+fn spell_row(alloc: Global, out: &mut String, row: &Row) -> Result<(), AllocError> {
+    for (i, value) in row.cells().iter().enumerate() {
+        if i > 0 {
+            out.push_str(",")?;
+        }
+        spell_value(alloc, out, value)?;
+    }
+    out.push_str(";")
+}
+
 /// Each row with its values between commas, a `~` before a text without case, and a semicolon behind it.
 pub(crate) fn spelled(alloc: Global, rows: &[Row]) -> Result<String, AllocError> {
     let mut out = String::new(alloc);
     for row in rows {
-        for (i, value) in row.cells().iter().enumerate() {
-            if i > 0 {
-                out.push_str(",")?;
-            }
-            match value {
-                Value::Null => out.push_str("null")?,
-                Value::Int(n) => out.push_str(format!(in alloc; "{n}")?.as_str())?,
-                Value::Text(text) => {
-                    let chars = text.as_str();
-                    out.push_str(format!(in alloc; "'{chars}'")?.as_str())?;
-                }
-                Value::NoCase(text) => {
-                    let chars = text.as_str();
-                    out.push_str(format!(in alloc; "~'{chars}'")?.as_str())?;
-                }
-            }
-        }
-        out.push_str(";")?;
+        spell_row(alloc, &mut out, row)?;
     }
+    Ok(out)
+}
+
+/// A row, spelled so.
+pub(crate) fn spelled_row(alloc: Global, row: &Row) -> Result<String, AllocError> {
+    let mut out = String::new(alloc);
+    spell_row(alloc, &mut out, row)?;
     Ok(out)
 }

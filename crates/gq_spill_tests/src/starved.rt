@@ -1,13 +1,20 @@
 //! Runs and records while memory runs out: first with none, then with a little more each time, so
 //! that each request is the first to be refused in some run.
+ghost use Rattle.std.specs.Prelude.{IsTrue};
+
+use crate::expected::expect;
+use crate::reading::told;
+use crate::records::with_record;
 use crate::rows::{no_case, no_values, spelled, text, worked};
 use crate::whole::{read_rows, write_rows};
 use gq_row::{Row, Value};
 use gq_spill::{
-    MemStore, RunReader, RunStore, RunWriter, SpillRefusal, decode_row, encode_row, is_storable,
+    MemStore, RunMark, RunReader, RunStore, RunWriter, SpillRefusal, decode_row, encode_row,
+    is_storable,
 };
 use starved_tests::{POOLS, Starved};
 use std::alloc::{AllocError, Global};
+use std::process::Abort;
 use std::test::Fail;
 
 // By how many bytes what is left grows with each step.
@@ -32,100 +39,133 @@ fn through_memory(alloc: Global, rows: &[Row]) -> Result<Vec<Row>, SpillRefusal>
     read_rows(alloc, &mut store, mark, 3)
 }
 
-#[test]
-fn each_request_refused_in_turn(rt: HostRuntime) -> Result<(), Fail> {
-    let alloc = rt.alloc();
-    let rows = rows(alloc)?;
-    // Once while there is memory, so that the stack has grown as far as runs need it.
-    assert!(rt; through_memory(alloc, rows.as_slice()).is_ok());
-    let mut starved = Starved::new(alloc)?;
-    let mut refused = 0usize;
-    for step in 0..POOLS {
-        let kept = starved.leave(alloc, STEP.saturating_mul(step))?;
-        let answer = through_memory(alloc, rows.as_slice());
-        let is_whole = answer.is_ok();
-        if let Err(why) = &answer {
-            assert_eq!(rt; *why, SpillRefusal::Memory, "step {step}");
-        }
-        drop(kept);
-        if let Ok(read) = answer {
+// Expects of an answer that it is all rows, or that memory was wanting; whether it is the rows.
+fn is_whole(
+    rt: &impl Abort,
+    alloc: Global,
+    answer: Result<Vec<Row>, SpillRefusal>,
+) -> Result<bool, AllocError> {
+    match answer {
+        Ok(read) => {
             let found = spelled(alloc, read.as_slice())?;
             assert_eq!(rt; found.as_str(), DUE);
+            Ok(true)
         }
-        starved.end(alloc, Vec::new(alloc));
-        if is_whole {
-            break;
+        Err(why) => {
+            expect(rt, why, SpillRefusal::Memory);
+            Ok(false)
         }
-        refused = refused.saturating_add(1);
     }
+}
+
+// Leaves so many bytes for a run of these rows; whether they came back.
+fn comes_back_with(
+    rt: &impl Abort,
+    alloc: Global,
+    starved: &mut Starved,
+    rows: &[Row],
+    bytes: usize,
+) -> Result<bool, AllocError> {
+    let kept = starved.leave(alloc, bytes)?;
+    let answer = through_memory(alloc, rows);
+    drop(kept);
+    let whole = is_whole(rt, alloc, answer)?;
+    starved.end(alloc, Vec::new(alloc));
+    Ok(whole)
+}
+
+// How many runs were refused a request before one was not.
+fn refused_runs(rt: &impl Abort, alloc: Global, rows: &[Row]) -> Result<usize, AllocError> {
+    let mut starved = Starved::new(alloc)?;
+    for step in 0..POOLS {
+        if comes_back_with(rt, alloc, &mut starved, rows, STEP.saturating_mul(step))? {
+            return Ok(step);
+        }
+    }
+    Ok(POOLS)
+}
+
+#[test]
+fn each_request_refused_in_turn(rt: HostRuntime) -> Result<(), Fail> {
+    let rows = rows(rt.alloc())?;
+    // Once while there is memory, so that the stack has grown as far as runs need it.
+    assert!(rt; through_memory(rt.alloc(), rows.as_slice()).is_ok());
+    let refused = refused_runs(&rt, rt.alloc(), rows.as_slice())?;
     // The requests grow from a few bytes to some hundred, so many steps were refused.
     assert!(rt; 10 < refused && refused < POOLS, "{refused} refused");
     Ok(())
 }
 
+// Whether a row is neither written nor read.
+fn refuses(alloc: Global, row: &Row, bytes: &mut Vec<u8>, record: &[u8]) -> bool {
+    is_storable(row) && encode_row(row, bytes).is_err() && decode_row(alloc, record).is_err()
+}
+
 #[test]
 fn records_without_memory(rt: HostRuntime) -> Result<(), Fail> {
-    let alloc = rt.alloc();
-    let row = worked(alloc)?;
-    let mut record = Vec::new(alloc);
-    let mut bytes = Vec::from_slice(alloc, b"ab")?;
-    if !is_storable(&row) {
-        assert!(rt; false);
-        return Ok(());
-    }
-    encode_row(&row, &mut record)?;
-    let starved = Starved::new(alloc)?;
+    let row = worked(rt.alloc())?;
+    let record = with_record(rt.alloc(), b"", &row)?;
+    let mut bytes = Vec::from_slice(rt.alloc(), b"ab")?;
+    let starved = Starved::new(rt.alloc())?;
     // What was there stays, and neither call takes its memory from elsewhere.
-    assert!(rt; encode_row(&row, &mut bytes).is_err());
-    assert_eq!(rt; bytes.as_slice(), b"ab".as_slice());
-    assert!(rt; decode_row(alloc, record.as_slice()).is_err());
+    expect(
+        &rt,
+        refuses(rt.alloc(), &row, &mut bytes, record.as_slice()),
+        true,
+    );
+    expect(&rt, bytes.as_slice(), b"ab".as_slice());
     // What is no record is told without memory for its row.
-    assert!(rt; matches!(decode_row(alloc, b"\0\0\0\x01"), Ok(None)));
+    assert!(rt; matches!(decode_row(rt.alloc(), b"\0\0\0\x01"), Ok(None)));
     drop(starved);
     Ok(())
+}
+
+type Refusals = [Option<SpillRefusal>; 2];
+
+// What a writer answers without memory, and then with it.
+fn write_twice<S: RunStore>(alloc: Global, store: &mut S, row: &Row) -> Result<Refusals, Fail> {
+    let Ok(mut writer) = RunWriter::begin(alloc, store) else {
+        return Err(Fail::from("no run"));
+    };
+    if !is_storable(row) {
+        return Err(Fail::from("it has no record"));
+    }
+    let starved = Starved::new(alloc)?;
+    let first = writer.write(store, row).err();
+    drop(starved);
+    let again = writer.write(store, row).err();
+    store.discard(writer.finish().id);
+    Ok([first, again])
+}
+
+// What a reader answers without memory, and then with it.
+fn read_twice<S: RunStore>(alloc: Global, store: &mut S, mark: RunMark) -> Result<Refusals, Fail>
+    requires { IsTrue ((S.runs store.old).live mark.id.number) }
+{
+    let mut reader = RunReader::open(alloc, mark, 3);
+    let starved = Starved::new(alloc)?;
+    let first = reader.next(alloc, store, no_values(alloc)).err();
+    drop(starved);
+    let again = reader.next(alloc, store, no_values(alloc)).err();
+    store.discard(mark.id);
+    Ok([first, again])
 }
 
 #[test]
 fn refusals_for_memory_repeat(rt: HostRuntime) -> Result<(), Fail> {
-    let alloc = rt.alloc();
-    let row = worked(alloc)?;
-    let rows = rows(alloc)?;
-    let mut store = MemStore::new(alloc);
-    let (Ok(mark), Ok(mut writer)) = (
-        write_rows(alloc, &mut store, rows.as_slice()),
-        RunWriter::begin(alloc, &mut store),
-    ) else {
-        assert!(rt; false);
-        return Ok(());
+    let rows = rows(rt.alloc())?;
+    let mut store = MemStore::new(rt.alloc());
+    let Ok(mark) = write_rows(rt.alloc(), &mut store, rows.as_slice()) else {
+        return Err(Fail::from("not written"));
     };
-    let mut reader = RunReader::open(alloc, mark, 3);
-    if !is_storable(&row) {
-        assert!(rt; false);
-        return Ok(());
-    }
-    let starved = Starved::new(alloc)?;
-    let written = writer.write(&mut store, &row).err();
-    let read = reader.next(alloc, &mut store, no_values(alloc)).err();
-    drop(starved);
-    assert_eq!(rt; written, Some(SpillRefusal::Memory));
-    assert_eq!(rt; read, Some(SpillRefusal::Memory));
-    // There is memory again.
-    assert_eq!(rt;
-        writer.write(&mut store, &row).err(),
-        Some(SpillRefusal::Memory)
-    );
-    assert_eq!(rt;
-        reader.next(alloc, &mut store, no_values(alloc)).err(),
-        Some(SpillRefusal::Memory)
-    );
-    store.discard(writer.finish().id);
-    store.discard(mark.id);
+    let refused = [Some(SpillRefusal::Memory); 2];
+    expect(&rt, read_twice(rt.alloc(), &mut store, mark)?, refused);
+    let row = worked(rt.alloc())?;
+    expect(&rt, write_twice(rt.alloc(), &mut store, &row)?, refused);
     Ok(())
 }
 
-#[test]
-fn a_row_over_another_takes_no_memory(rt: HostRuntime) -> Result<(), Fail> {
-    let alloc = rt.alloc();
+fn long_rows(alloc: Global) -> Result<Vec<Row>, AllocError> {
     let mut rows = Vec::new(alloc);
     for chars in [
         "a city of a name that takes a block of its own",
@@ -134,29 +174,38 @@ fn a_row_over_another_takes_no_memory(rt: HostRuntime) -> Result<(), Fail> {
     ] {
         rows.push(Row::new(vec![in alloc; text(alloc, chars)?, Value::Int(7)]?))?;
     }
-    let mut store = MemStore::new(alloc);
-    let Ok(mark) = write_rows(alloc, &mut store, rows.as_slice()) else {
-        assert!(rt; false);
-        return Ok(());
-    };
+    Ok(rows)
+}
+
+// What a reader answers without memory, first over a row that it read before, and then over none.
+fn told_over<S: RunStore>(alloc: Global, store: &mut S, mark: RunMark) -> Result<String, Fail>
+    requires { IsTrue ((S.runs store.old).live mark.id.number) }
+{
     let mut reader = RunReader::open(alloc, mark, 2);
-    let Ok(Some(first)) = reader.next(alloc, &mut store, no_values(alloc)) else {
-        assert!(rt; false);
-        return Ok(());
+    let Ok(Some(first)) = reader.next(alloc, store, no_values(alloc)) else {
+        return Err(Fail::from("no row"));
     };
     let starved = Starved::new(alloc)?;
-    let second = reader.next(alloc, &mut store, first);
-    let third = reader.next(alloc, &mut store, no_values(alloc)).err();
+    let second = reader.next(alloc, store, first);
+    let third = reader.next(alloc, store, no_values(alloc));
     drop(starved);
-    let Ok(Some(second)) = second else {
-        assert!(rt; false);
-        return Ok(());
+    let mut out = String::new(alloc);
+    told(alloc, &mut out, second)?;
+    told(alloc, &mut out, third)?;
+    Ok(out)
+}
+
+#[test]
+fn a_row_over_another_takes_no_memory(rt: HostRuntime) -> Result<(), Fail> {
+    let rows = long_rows(rt.alloc())?;
+    let mut store = MemStore::new(rt.alloc());
+    let Ok(mark) = write_rows(rt.alloc(), &mut store, rows.as_slice()) else {
+        return Err(Fail::from("not written"));
     };
-    let read = vec![in alloc; second]?;
+    let found = told_over(rt.alloc(), &mut store, mark)?;
     assert_eq!(rt;
-        spelled(alloc, read.as_slice())?.as_str(),
-        "'a town of a name that takes one too',7;"
+        found.as_str(),
+        "'a town of a name that takes one too',7;out of memory;"
     );
-    assert_eq!(rt; third, Some(SpillRefusal::Memory));
     Ok(())
 }
