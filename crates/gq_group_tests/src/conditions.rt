@@ -2,6 +2,7 @@
 use gq_row::{Comparison, Row, Sequence, Text, Value};
 use gq_select::{Condition, Operand, Test, Truth, filter, having, holds};
 use std::alloc::{AllocError, Global};
+use std::process::Abort;
 use std::test::Fail;
 
 /// A side of a comparison.
@@ -39,156 +40,219 @@ fn one(alloc: Global, test: Test) -> Result<Condition, AllocError> {
     })
 }
 
-#[test]
-fn comparisons(rt: HostRuntime) -> Result<(), Fail> {
-    let alloc = rt.alloc();
-    let row = worked_row(alloc)?;
-    for (left, comparison, right, due) in [
-        (
-            Side::Column(0),
-            Comparison::Equal,
-            Side::Number(5),
-            Truth::True,
-        ),
-        (
-            Side::Column(0),
-            Comparison::NotEqual,
-            Side::Number(5),
-            Truth::False,
-        ),
-        (
-            Side::Column(0),
-            Comparison::Less,
-            Side::Number(5),
-            Truth::False,
-        ),
-        (
-            Side::Column(0),
-            Comparison::LessEqual,
-            Side::Number(5),
-            Truth::True,
-        ),
-        (
-            Side::Column(0),
-            Comparison::Greater,
-            Side::Number(5),
-            Truth::False,
-        ),
-        (
-            Side::Column(0),
-            Comparison::GreaterEqual,
-            Side::Number(5),
-            Truth::True,
-        ),
-        (
-            Side::Number(-6),
-            Comparison::Less,
-            Side::Column(0),
-            Truth::True,
-        ),
-        (
-            Side::Column(2),
-            Comparison::Greater,
-            Side::Word("a"),
-            Truth::True,
-        ),
-        (
-            Side::Column(2),
-            Comparison::Equal,
-            Side::Word("B"),
-            Truth::False,
-        ),
-        (
-            Side::Column(0),
-            Comparison::Less,
-            Side::Word(""),
-            Truth::True,
-        ),
-        (
-            Side::Column(1),
-            Comparison::Equal,
-            Side::Column(1),
-            Truth::Unknown,
-        ),
-        (
-            Side::Column(1),
-            Comparison::NotEqual,
-            Side::Number(5),
-            Truth::Unknown,
-        ),
-        (
-            Side::Number(5),
-            Comparison::GreaterEqual,
-            Side::Null,
-            Truth::Unknown,
-        ),
-        (Side::Null, Comparison::Equal, Side::Null, Truth::Unknown),
-        (
-            Side::Column(9),
-            Comparison::Equal,
-            Side::Number(5),
-            Truth::Unknown,
-        ),
-    ] {
-        let (left, right) = (operand(alloc, left)?, operand(alloc, right)?);
-        let condition = one(alloc, Test::Compare(left, comparison, right))?;
-        assert_eq!(rt; holds(&condition, row.cells()), due);
-        assert_eq!(rt; filter(&condition, row.cells()), due == Truth::True);
-        assert_eq!(rt; having(&condition, row.cells()), due == Truth::True);
+type Case<'a> = (Side<'a>, Comparison, Side<'a>, Truth);
+
+fn compared(
+    alloc: Global,
+    left: Side,
+    comparison: Comparison,
+    right: Side,
+) -> Result<Condition, AllocError> {
+    let left = operand(alloc, left)?;
+    let right = operand(alloc, right)?;
+    one(alloc, Test::Compare(left, comparison, right))
+}
+
+fn expect_truth(rt: &impl Abort, condition: &Condition, row: &Row, due: Truth) {
+    assert_eq!(rt; holds(condition, row.cells()), due);
+    assert_eq!(rt; filter(condition, row.cells()), due == Truth::True);
+    assert_eq!(rt; having(condition, row.cells()), due == Truth::True);
+}
+
+/// Expects the truth of each comparison in a row.
+fn expect_each(rt: &impl Abort, alloc: Global, row: &Row, cases: &[Case]) -> Result<(), Fail> {
+    for (left, comparison, right, due) in cases {
+        let condition = compared(alloc, *left, *comparison, *right)?;
+        expect_truth(rt, &condition, row, *due);
     }
     Ok(())
 }
 
+const COMPARISONS: [Case; 15] = [
+    (
+        Side::Column(0),
+        Comparison::Equal,
+        Side::Number(5),
+        Truth::True,
+    ),
+    (
+        Side::Column(0),
+        Comparison::NotEqual,
+        Side::Number(5),
+        Truth::False,
+    ),
+    (
+        Side::Column(0),
+        Comparison::Less,
+        Side::Number(5),
+        Truth::False,
+    ),
+    (
+        Side::Column(0),
+        Comparison::LessEqual,
+        Side::Number(5),
+        Truth::True,
+    ),
+    (
+        Side::Column(0),
+        Comparison::Greater,
+        Side::Number(5),
+        Truth::False,
+    ),
+    (
+        Side::Column(0),
+        Comparison::GreaterEqual,
+        Side::Number(5),
+        Truth::True,
+    ),
+    (
+        Side::Number(-6),
+        Comparison::Less,
+        Side::Column(0),
+        Truth::True,
+    ),
+    (
+        Side::Column(2),
+        Comparison::Greater,
+        Side::Word("a"),
+        Truth::True,
+    ),
+    (
+        Side::Column(2),
+        Comparison::Equal,
+        Side::Word("B"),
+        Truth::False,
+    ),
+    (
+        Side::Column(0),
+        Comparison::Less,
+        Side::Word(""),
+        Truth::True,
+    ),
+    (
+        Side::Column(1),
+        Comparison::Equal,
+        Side::Column(1),
+        Truth::Unknown,
+    ),
+    (
+        Side::Column(1),
+        Comparison::NotEqual,
+        Side::Number(5),
+        Truth::Unknown,
+    ),
+    (
+        Side::Number(5),
+        Comparison::GreaterEqual,
+        Side::Null,
+        Truth::Unknown,
+    ),
+    (Side::Null, Comparison::Equal, Side::Null, Truth::Unknown),
+    (
+        Side::Column(9),
+        Comparison::Equal,
+        Side::Number(5),
+        Truth::Unknown,
+    ),
+];
+
+#[test]
+fn comparisons(rt: HostRuntime) -> Result<(), Fail> {
+    let row = worked_row(rt.alloc())?;
+    expect_each(&rt, rt.alloc(), &row, &COMPARISONS)
+}
+
+const WITHOUT_CASE: [Case; 9] = [
+    (
+        Side::Column(2),
+        Comparison::Equal,
+        Side::Spelling("B"),
+        Truth::True,
+    ),
+    (
+        Side::Column(2),
+        Comparison::Less,
+        Side::Spelling("C"),
+        Truth::True,
+    ),
+    (
+        Side::Column(2),
+        Comparison::Greater,
+        Side::Spelling("_"),
+        Truth::True,
+    ),
+    (
+        Side::Word("B"),
+        Comparison::Greater,
+        Side::Spelling("_"),
+        Truth::True,
+    ),
+    (
+        Side::Word("B"),
+        Comparison::NotEqual,
+        Side::Spelling("b"),
+        Truth::False,
+    ),
+    (
+        Side::Spelling("OSLO"),
+        Comparison::Equal,
+        Side::Spelling("Oslo"),
+        Truth::True,
+    ),
+    (
+        Side::Spelling("OSLO"),
+        Comparison::Less,
+        Side::Spelling("Oslo"),
+        Truth::False,
+    ),
+    (
+        Side::Spelling("oslo"),
+        Comparison::LessEqual,
+        Side::Spelling("Rome"),
+        Truth::True,
+    ),
+    (
+        Side::Spelling("\u{c9}"),
+        Comparison::Equal,
+        Side::Spelling("\u{e9}"),
+        Truth::False,
+    ),
+];
+
 /// Of the row (5, null, 'b'): a text beside one without case is compared as one.
 #[test]
 fn comparisons_without_case(rt: HostRuntime) -> Result<(), Fail> {
-    let alloc = rt.alloc();
-    let row = worked_row(alloc)?;
-    for (left, comparison, right, due) in [
-        (Side::Column(2), Comparison::Equal, "B", true),
-        (Side::Column(2), Comparison::Less, "C", true),
-        (Side::Column(2), Comparison::Greater, "_", true),
-        (Side::Word("B"), Comparison::Greater, "_", true),
-        (Side::Word("B"), Comparison::NotEqual, "b", false),
-        (Side::Spelling("OSLO"), Comparison::Equal, "Oslo", true),
-        (Side::Spelling("OSLO"), Comparison::Less, "Oslo", false),
-        (Side::Spelling("oslo"), Comparison::LessEqual, "Rome", true),
-        (Side::Spelling("\u{c9}"), Comparison::Equal, "\u{e9}", false),
-    ] {
-        let (left, right) = (
-            operand(alloc, left)?,
-            operand(alloc, Side::Spelling(right))?,
-        );
-        let condition = one(alloc, Test::Compare(left, comparison, right))?;
-        assert_eq!(rt; filter(&condition, row.cells()), due);
-    }
+    let row = worked_row(rt.alloc())?;
+    expect_each(&rt, rt.alloc(), &row, &WITHOUT_CASE)
+}
+
+fn expect_null(
+    rt: &impl Abort,
+    alloc: Global,
+    row: &Row,
+    side: Side,
+    null: Truth,
+) -> Result<(), Fail> {
+    let is_null = one(alloc, Test::IsNull(operand(alloc, side)?))?;
+    let is_not_null = one(alloc, Test::IsNotNull(operand(alloc, side)?))?;
+    let (there, gone) = (
+        holds(&is_null, row.cells()),
+        holds(&is_not_null, row.cells()),
+    );
+    assert_eq!(rt; there, null);
+    assert!(rt; there != gone);
+    assert!(rt; filter(&is_null, row.cells()) != filter(&is_not_null, row.cells()));
     Ok(())
 }
 
 #[test]
 fn null_or_not(rt: HostRuntime) -> Result<(), Fail> {
-    let alloc = rt.alloc();
-    let row = worked_row(alloc)?;
-    for (side, null) in [
-        (Side::Column(0), Truth::False),
-        (Side::Column(1), Truth::True),
-        (Side::Column(2), Truth::False),
-        (Side::Number(2), Truth::False),
-        (Side::Null, Truth::True),
-    ] {
-        let is_null = one(alloc, Test::IsNull(operand(alloc, side)?))?;
-        let is_not_null = one(alloc, Test::IsNotNull(operand(alloc, side)?))?;
-        assert_eq!(rt; holds(&is_null, row.cells()), null);
-        assert_eq!(rt;
-            holds(&is_null, row.cells()) == holds(&is_not_null, row.cells()),
-            false
-        );
-        assert_eq!(rt;
-            filter(&is_null, row.cells()),
-            !filter(&is_not_null, row.cells())
-        );
-    }
-    Ok(())
+    let row = worked_row(rt.alloc())?;
+    expect_null(&rt, rt.alloc(), &row, Side::Column(0), Truth::False)?;
+    expect_null(&rt, rt.alloc(), &row, Side::Column(1), Truth::True)?;
+    expect_null(&rt, rt.alloc(), &row, Side::Column(2), Truth::False)?;
+    expect_null(&rt, rt.alloc(), &row, Side::Number(2), Truth::False)?;
+    expect_null(&rt, rt.alloc(), &row, Side::Null, Truth::True)
 }
 
 /// A test of this truth in each row.
@@ -201,31 +265,40 @@ fn always(truth: Truth) -> Test {
     }
 }
 
-#[test]
-fn the_table_of_and(rt: HostRuntime) -> Result<(), Fail> {
-    let alloc = rt.alloc();
-    let row = worked_row(alloc)?;
-    let none = Condition {
-        tests: Sequence::new(Vec::new(alloc)),
-    };
-    assert_eq!(rt; holds(&none, row.cells()), Truth::True);
-    for (first, second, due) in [
-        (Truth::True, Truth::True, Truth::True),
-        (Truth::True, Truth::Unknown, Truth::Unknown),
-        (Truth::True, Truth::False, Truth::False),
-        (Truth::Unknown, Truth::True, Truth::Unknown),
-        (Truth::Unknown, Truth::Unknown, Truth::Unknown),
-        (Truth::Unknown, Truth::False, Truth::False),
-        (Truth::False, Truth::True, Truth::False),
-        (Truth::False, Truth::Unknown, Truth::False),
-        (Truth::False, Truth::False, Truth::False),
-    ] {
+const AND: [(Truth, Truth, Truth); 9] = [
+    (Truth::True, Truth::True, Truth::True),
+    (Truth::True, Truth::Unknown, Truth::Unknown),
+    (Truth::True, Truth::False, Truth::False),
+    (Truth::Unknown, Truth::True, Truth::Unknown),
+    (Truth::Unknown, Truth::Unknown, Truth::Unknown),
+    (Truth::Unknown, Truth::False, Truth::False),
+    (Truth::False, Truth::True, Truth::False),
+    (Truth::False, Truth::Unknown, Truth::False),
+    (Truth::False, Truth::False, Truth::False),
+];
+
+fn expect_and(
+    rt: &impl Abort,
+    alloc: Global,
+    row: &Row,
+    cases: &[(Truth, Truth, Truth)],
+) -> Result<(), Fail> {
+    for (first, second, due) in cases {
+        let tests = vec![in alloc; always(*first), always(*second)]?;
         let condition = Condition {
-            tests: Sequence::new(vec![in alloc; always(first), always(second)]?),
+            tests: Sequence::new(tests),
         };
-        assert_eq!(rt; holds(&condition, row.cells()), due);
-        assert_eq!(rt; filter(&condition, row.cells()), due == Truth::True);
-        assert_eq!(rt; having(&condition, row.cells()), due == Truth::True);
+        expect_truth(rt, &condition, row, *due);
     }
     Ok(())
+}
+
+#[test]
+fn the_table_of_and(rt: HostRuntime) -> Result<(), Fail> {
+    let row = worked_row(rt.alloc())?;
+    let none = Condition {
+        tests: Sequence::new(Vec::new(rt.alloc())),
+    };
+    assert_eq!(rt; holds(&none, row.cells()), Truth::True);
+    expect_and(&rt, rt.alloc(), &row, &AND)
 }

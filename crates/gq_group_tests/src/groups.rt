@@ -152,67 +152,87 @@ fn remainders(alloc: Global, end: i64, by: i64) -> Result<VecDeque<Row>, AllocEr
     Ok(list)
 }
 
-pub(crate) fn rows_of(alloc: Global, rows: Rows) -> Result<VecDeque<Row>, AllocError> {
+type Numbers = &'static [&'static [Option<i64>]];
+
+const WORKED: Numbers = &[
+    &[Some(1), Some(5)],
+    &[Some(1), Some(5)],
+    &[Some(1), None],
+    &[Some(2), Some(7)],
+];
+
+const SHARED: Numbers = &[
+    &[Some(1), Some(5)],
+    &[Some(2), Some(5)],
+    &[Some(1), Some(5)],
+    &[Some(2), Some(6)],
+];
+
+const NULLS_ALONE: Numbers = &[&[Some(1), None], &[Some(1), None], &[Some(2), None]];
+
+const PAST_THE_EDGE: Numbers = &[&[Some(1), Some(i64::MAX)], &[Some(1), Some(1)]];
+
+const AT_THE_EDGE: Numbers = &[
+    &[Some(1), Some(i64::MAX)],
+    &[Some(1), Some(1)],
+    &[Some(1), Some(-1)],
+];
+
+const NULLS_AND_EMPTY_TEXTS: [(i64, Option<&str>); 5] = [
+    (1, None),
+    (2, None),
+    (3, None),
+    (4, Some("")),
+    (5, Some("")),
+];
+
+const SPELLINGS: [(i64, &str); 7] = [
+    (1, "Oslo"),
+    (2, "rome"),
+    (3, "OSLO"),
+    (4, "\u{c9}"),
+    (5, "Rome"),
+    (6, "\u{e9}"),
+    (7, "oslo"),
+];
+
+fn rows_of_numbers(alloc: Global, table: Numbers) -> Result<VecDeque<Row>, AllocError> {
     let mut list = VecDeque::new(alloc);
-    match rows {
-        Rows::None => {}
-        Rows::Worked => {
-            for values in [
-                [Some(1), Some(5)],
-                [Some(1), Some(5)],
-                [Some(1), None],
-                [Some(2), Some(7)],
-            ] {
-                list.push_back(row(alloc, &values)?)?;
-            }
-        }
-        Rows::Shared => {
-            for values in [[1, 5], [2, 5], [1, 5], [2, 6]] {
-                list.push_back(row(alloc, &[Some(values[0]), Some(values[1])])?)?;
-            }
-        }
-        Rows::NullsAlone => {
-            for n in [1, 1, 2] {
-                list.push_back(row(alloc, &[Some(n), None])?)?;
-            }
-        }
-        Rows::NullsAndEmptyTexts => {
-            for (n, name) in [
-                (1, None),
-                (2, None),
-                (3, None),
-                (4, Some("")),
-                (5, Some("")),
-            ] {
-                list.push_back(named(alloc, n, name)?)?;
-            }
-        }
-        Rows::Spellings => {
-            for (n, chars) in [
-                (1, "Oslo"),
-                (2, "rome"),
-                (3, "OSLO"),
-                (4, "\u{c9}"),
-                (5, "Rome"),
-                (6, "\u{e9}"),
-                (7, "oslo"),
-            ] {
-                list.push_back(spelling(alloc, n, chars)?)?;
-            }
-        }
-        Rows::PastTheEdge => {
-            list.push_back(row(alloc, &[Some(1), Some(i64::MAX)])?)?;
-            list.push_back(row(alloc, &[Some(1), Some(1)])?)?;
-        }
-        Rows::AtTheEdge => {
-            list.push_back(row(alloc, &[Some(1), Some(i64::MAX)])?)?;
-            list.push_back(row(alloc, &[Some(1), Some(1)])?)?;
-            list.push_back(row(alloc, &[Some(1), Some(-1)])?)?;
-        }
-        Rows::Remainders => return remainders(alloc, 500, 50),
-        Rows::Tens => return remainders(alloc, 30, 10),
+    for values in table {
+        list.push_back(row(alloc, values)?)?;
     }
     Ok(list)
+}
+
+fn named_rows(alloc: Global, table: &[(i64, Option<&str>)]) -> Result<VecDeque<Row>, AllocError> {
+    let mut list = VecDeque::new(alloc);
+    for (n, name) in table {
+        list.push_back(named(alloc, *n, *name)?)?;
+    }
+    Ok(list)
+}
+
+fn spelled_rows(alloc: Global, table: &[(i64, &str)]) -> Result<VecDeque<Row>, AllocError> {
+    let mut list = VecDeque::new(alloc);
+    for (n, chars) in table {
+        list.push_back(spelling(alloc, *n, chars)?)?;
+    }
+    Ok(list)
+}
+
+pub(crate) fn rows_of(alloc: Global, rows: Rows) -> Result<VecDeque<Row>, AllocError> {
+    match rows {
+        Rows::None => Ok(VecDeque::new(alloc)),
+        Rows::Worked => rows_of_numbers(alloc, WORKED),
+        Rows::Shared => rows_of_numbers(alloc, SHARED),
+        Rows::NullsAlone => rows_of_numbers(alloc, NULLS_ALONE),
+        Rows::NullsAndEmptyTexts => named_rows(alloc, &NULLS_AND_EMPTY_TEXTS),
+        Rows::Spellings => spelled_rows(alloc, &SPELLINGS),
+        Rows::PastTheEdge => rows_of_numbers(alloc, PAST_THE_EDGE),
+        Rows::AtTheEdge => rows_of_numbers(alloc, AT_THE_EDGE),
+        Rows::Remainders => remainders(alloc, 500, 50),
+        Rows::Tens => remainders(alloc, 30, 10),
+    }
 }
 
 pub(crate) fn spec(
