@@ -3,7 +3,7 @@ ghost use Rattle.std.specs.Prelude.{◌≡◌, ◌∷◌, []};
 
 use crate::catalog::Catalog;
 use crate::grouping::{asked_of, rows_different, rows_grouped};
-use crate::payloads::{bytes_of, is_lost, stage};
+use crate::payloads::stage_for;
 use gq_command::{Command, Item, Payload, Test};
 use gq_group::{Budget, Spent};
 use gq_plan::{GroupClauses, header_of, names_of, plan_distinct};
@@ -226,12 +226,8 @@ impl<H: KeyHash<Key> + Copy, S: RunStore> Engine<H, S> {
         ensures budget { budget_of self.new ≡ budget_of self.old }
         ensures failures { failures_of S.runs self.new ≡ failures_of S.runs self.old }
     {
-        if is_lost(&payload) {
-            return Err(Refused::from(Refusal::Memory));
-        }
-        let table = self.catalog.get(name.as_str()).ok_or(Refusal::NoTable)?;
-        let bytes = bytes_of(payload)?;
-        let (staged, count) = stage(self.alloc, bytes.as_slice(), table, &self.limits)?;
+        let (alloc, limits) = (self.alloc, &self.limits);
+        let (staged, count) = stage_for(alloc, &self.catalog, name.as_str(), payload, limits)?;
         let _keyed = self.tables();
         self.catalog.load(name.as_str(), staged, &self.limits)?;
         Ok(Reply::Done(count))

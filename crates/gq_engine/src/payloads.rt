@@ -7,8 +7,10 @@ ghost use Rattle.gq_table.specs.Refusing.{WhyNotPut};
 ghost use Rattle.gq_reply.specs.Refusals.{unnumbered};
 ghost use Rattle.gq_reply.specs.declared.refusal.Refusal.TheVariants.{Memory};
 ghost use Rattle.gq_engine.specs.Loading.{bytes_told, fault_refusal, is_lost, numbered, refused_by, rows_told};
-ghost use Rattle.gq_engine.specs.Staging.{HasStaged};
+ghost use Rattle.gq_engine.specs.Staging.{HasStaged, IsStagedFor};
+ghost use Rattle.gq_engine.specs.Steps.{load_table};
 
+use crate::catalog::Catalog;
 use gq_command::Payload;
 use gq_load::{LoadRefusal, RowReader, line_ends};
 use gq_reply::{Refusal, Refused};
@@ -17,15 +19,15 @@ use gq_table::{Table, TableRefusal};
 use std::alloc::Global;
 use sw_probe::KeyHash;
 
-/// Whether there was no memory for a payload.
-pub fn is_lost(payload: &Payload) -> bool
+// Whether there was no memory for a payload.
+fn is_lost(payload: &Payload) -> bool
     ensures { result ≡ is_lost payload.now }
 {
     matches!(payload, Payload::NoMemory)
 }
 
-/// The bytes of a payload, or why there are none.
-pub fn bytes_of(payload: Payload) -> Result<Sequence<u8>, Refused>
+// The bytes of a payload, or why there are none.
+fn bytes_of(payload: Payload) -> Result<Sequence<u8>, Refused>
     ensures { result ≡ bytes_told payload }
 {
     match payload {
@@ -36,9 +38,31 @@ pub fn bytes_of(payload: Payload) -> Result<Sequence<u8>, Refused>
     }
 }
 
-/// The rows of a payload for a table, put one after the other into a table of their own, and how
-/// many they were; or the refusal for the payload's first fault.
-pub fn stage<H: KeyHash<Key> + Copy>(
+/// The rows that a payload gives for the table of a name, put one after the other into a table of their
+/// own, and how many they were; or the refusal of a load that comes to none.
+pub fn stage_for<H: KeyHash<Key> + Copy>(
+    alloc: Global,
+    catalog: &Catalog<H>,
+    name: &str,
+    payload: Payload,
+    limits: &Limits,
+) -> Result<(Table<H>, u64), Refused>
+    ensures staged { IfOk result (λ staged. IsStagedFor limits.now.bounds catalog.now name.now payload
+        staged.0 staged.1) }
+    ensures refused { IfErr result (λ why. (why ≡ unnumbered Memory)
+        ⊎ (load_table limits.now.bounds catalog.now name.now payload ≡ Err why)) }
+{
+    if is_lost(&payload) {
+        return Err(Refused::from(Refusal::Memory));
+    }
+    let table = catalog.get(name).ok_or(Refusal::NoTable)?;
+    let bytes = bytes_of(payload)?;
+    stage(alloc, bytes.as_slice(), table, limits)
+}
+
+// The rows of a payload for a table, put one after the other into a table of their own, and how
+// many they were; or the refusal for the payload's first fault.
+fn stage<H: KeyHash<Key> + Copy>(
     alloc: Global,
     bytes: &[u8],
     table: &Table<H>,

@@ -20,7 +20,7 @@ use crate::row_source::RowSource;
 use crate::slot::{Slot, add_slots, spill};
 use gq_row::{Key, Row};
 use gq_spill::{RunStore, is_storable};
-use std::alloc::Global;
+use std::alloc::{AllocError, Global};
 use sw_probe::KeyHash;
 
 // What a reading did.
@@ -191,6 +191,30 @@ fn read_rows<H: KeyHash<Key> + Copy, S: RunStore, R: RowSource<S>>(
     })
 }
 
+// Empty slots for the runs of a level's classes, and the groups of no row.
+fn start_level<H: KeyHash<Key> + Copy>(
+    alloc: Global,
+    hasher: H,
+    spec: &GroupSpec,
+    level: u32,
+    budget: Budget,
+    expected: usize,
+    slots: &mut Vec<Slot>,
+) -> Result<ResidentTable<H>, AllocError>
+    requires none { slots.old.items ≡ [] }
+    ensures empty { AreEmpty slots.new.items }
+    ensures few { length slots.new.items ≤ 16 }
+    ensures places { OnOk result (length slots.new.items ≡ classes_at level) }
+    ensures resident { IfOk result (λ table.
+        Resident spec.now budget.entries [] table.groups.pairs) }
+    ensures each { IfOk result (λ table. table.groups.each ≡ length spec.now.aggs) }
+    ensures budget { IfOk result (λ table. table.budget ≡ budget) }
+    ensures hasher { IfOk result (λ table. table.groups.hasher ≡ hasher) }
+{
+    add_slots(level.saturating_add(1), slots_at(level), slots)?;
+    ResidentTable::start(alloc, hasher, spec, budget, expected)
+}
+
 // Sends the groups of some of a source's keys to the sink, at most the budget's number, and writes the
 // rows of its other keys to runs in new slots. At every exit the runs that were begun stand there.
 pub(crate) fn one_level<H: KeyHash<Key> + Copy, S: RunStore, R: RowSource<S>, K: GroupSink<S>>(
@@ -238,10 +262,8 @@ pub(crate) fn one_level<H: KeyHash<Key> + Copy, S: RunStore, R: RowSource<S>, K:
         (S.runs store.new).made ≡ (S.runs store.old).made + done.runs) }
     ensures cause { IfErr result (λ e. GroupCause e (S.runs store.old) (S.runs store.new)) }
 {
-    let Ok(()) = add_slots(level.saturating_add(1), slots_at(level), slots) else {
-        return Err(Refusal::Memory);
-    };
-    let Ok(mut table) = ResidentTable::start(alloc, hasher, spec, budget, source.rows_hint()) else {
+    let hint = source.rows_hint();
+    let Ok(mut table) = start_level(alloc, hasher, spec, level, budget, hint, slots) else {
         return Err(Refusal::Memory);
     };
     let taken = read_rows(alloc, spec, level, source, store, &mut table, slots)?;

@@ -1,10 +1,11 @@
 -- Rows by columns.
 use Rattle.std.proofs.Common.{◌≡◌, ◌<◌, ◌≤◌, ◌+◌, ℕ, zero, suc, List, [], ◌∷◌, ◌++◌, length, map, take, drop, slice_index_or, slice_set, replicate, All, refl, sym, ap, subst, ◌∙◌, arith, length-append, length-take}
-use Rattle.std.proofs.lemmas.List.{get_or_default, append-nil, drop_all, drop-drop, drop-set-lt, get_or-drop, get_or-map, get_or-replicate, length-map, length-replicate, replicate-append-replicate, take_all, take-append-le}
+use Rattle.std.proofs.lemmas.List.{append-nil, get_or_default, drop_all, drop-drop, drop-set-lt, get_or-drop, get_or-map, get_or-replicate, length-map, length-replicate, replicate-append-replicate, take_all, take-append-le}
 use Rattle.std.proofs.lemmas.List.Elements.{All-nil, All-cons, All-head, All-tail}
 use Rattle.gq_row.specs.Rows.{cells_in}
 use Rattle.gq_row.specs.declared.value.Value.{Value}
 use Rattle.gq_row.specs.declared.value.Value.TheVariants.{Null}
+use Rattle.gq_row.specs.Written.{IsInPlace}
 use Rattle.gq_table.specs.Columns.{AreAsLong, alone, before_rows, columns_behind, rows_across}
 
 abbrev Long : ℕ → List Value → Type 0
@@ -104,9 +105,6 @@ long_none zero = All-nil (Long 0)
 long_none (suc n) = All-cons (Long 0) [] (replicate n []) refl (long_none n)
 
 -- ---- one column after the other
-
-pub get_or_any : {X : Type 0} (xs : List X) (i : ℕ) (d e : X) → i < length xs → slice_index_or xs i d ≡ slice_index_or xs i e
-get_or_any xs i d e lt = get_or_default xs i d e lt
 
 behind_next : (columns more : List (List Value)) (i : ℕ) (c : List Value) → i < length columns → length more ≡ length columns
     → c ≡ slice_index_or columns i [] ++ slice_index_or more i []
@@ -241,3 +239,23 @@ picked n i columns rows view long (c ∷ asked) h =
     let one : slice_index_or (slice_index_or columns c []) i Null ≡ slice_index_or (slice_index_or rows i []) c Null =
     sym (get_or-map (λ (column : List Value). slice_index_or column i Null) columns c [] Null there.0) ∙ ap (λ l. slice_index_or l c Null) (sym row) in
     λ z. one z ∷ picked n i columns rows view long asked (All-tail (λ k. k < length (slice_index_or rows i [])) c asked h) z
+
+-- ---- cells that take no memory
+
+-- one of the cells that a function finds in some columns
+in_place_of : (f : ℕ → Value) (columns : List ℕ) (i : ℕ) → i < length columns → All IsInPlace (map f columns) → IsInPlace (f (slice_index_or columns i 0))
+in_place_of f columns i lt placed =
+    subst IsInPlace (get_or-map f columns i 0 Null lt) (placed i Null (subst (λ n. i < n) (sym (length-map columns f)) lt))
+
+pub in_place_there : (all : List (List Value)) (position : ℕ) (columns : List ℕ) (i : ℕ) (column : List Value) → i < length columns → slice_index_or columns i 0 < length all
+    → column ≡ slice_index_or all (slice_index_or columns i 0) column → All IsInPlace (map (λ c. slice_index_or (slice_index_or all c []) position Null) columns)
+    → IsInPlace (slice_index_or column position Null)
+in_place_there all position columns i column lt within is placed =
+    subst (λ (c : List Value). IsInPlace (slice_index_or c position Null)) (get_or_default all (slice_index_or columns i 0) [] column within ∙ sym is)
+    (in_place_of (λ c. slice_index_or (slice_index_or all c []) position Null) columns i lt placed)
+
+pub in_place_among : (row : List Value) (columns : List ℕ) (i : ℕ) (found : Value) → i < length columns → slice_index_or columns i 0 < length row
+    → found ≡ slice_index_or row (slice_index_or columns i 0) found → All IsInPlace (cells_in columns row) → IsInPlace found
+in_place_among row columns i found lt within is placed =
+    subst IsInPlace (get_or_default row (slice_index_or columns i 0) Null found within ∙ sym is)
+    (in_place_of (λ c. slice_index_or row c Null) columns i lt placed)

@@ -1,6 +1,7 @@
 //! The cells of one column.
-ghost use Rattle.std.specs.Prelude.{◌≡◌, ◌<◌, ◌++◌, ◌∷◌, [], IfOk, IfNone, IfSome, OnOk, OnErr, length, map, take, slice_index_or};
+ghost use Rattle.std.specs.Prelude.{◌≡◌, ◌<◌, ◌++◌, ◌∷◌, [], IfOk, IfNone, IfSome, IsOk, OnOk, OnErr, length, map, take, slice_index_or};
 ghost use Rattle.gq_row.specs.declared.value.Value.TheVariants.{Null};
+ghost use Rattle.gq_row.specs.Written.{IsInPlace};
 ghost use Rattle.gq_table.specs.Columns.{IsText, number_cell};
 
 use gq_row::Value;
@@ -61,7 +62,8 @@ impl ColumnCells {
         over: &mut Value,
     ) -> Result<(), AllocError>
         requires { position < length self.now }
-        ensures { OnOk result (over.new ≡ slice_index_or self.now position Null) }
+        ensures copied { OnOk result (over.new ≡ slice_index_or self.now position Null) }
+        ensures in_place { IsInPlace (slice_index_or self.now position Null) → IsOk result }
     {
         match &self.stored {
             Stored::Numbers(numbers) => {

@@ -1,7 +1,8 @@
 //! Many rows of one length, by columns.
-ghost use Rattle.std.specs.Prelude.{◌≡◌, ◌<◌, ◌==◌, ◌++◌, ◌∷◌, [], ℕ, All, IfOk, OnOk, OnErr, length, map, replicate, take, slice_index_or};
+ghost use Rattle.std.specs.Prelude.{◌≡◌, ◌<◌, ◌==◌, ◌++◌, ◌∷◌, [], ℕ, All, IfOk, IsOk, OnOk, OnErr, length, map, replicate, take, slice_index_or};
 ghost use Rattle.gq_row.specs.declared.value.Value.TheVariants.{Null};
 ghost use Rattle.gq_row.specs.Rows.{cells_in};
+ghost use Rattle.gq_row.specs.Written.{IsInPlace};
 ghost use Rattle.gq_table.specs.Columns.{AreAsLong, alone, columns_behind, rows_across};
 
 use crate::column_cells::ColumnCells;
@@ -94,8 +95,10 @@ impl Grid {
         requires within { All (λ column. column < length (slice_index_or self.now position []))
             columns.now }
         requires all { length cells.old ≡ length columns.now }
-        ensures { OnOk result (cells.new ≡
+        ensures copied { OnOk result (cells.new ≡
             cells_in columns.now (slice_index_or self.now position [])) }
+        ensures in_place { All IsInPlace (cells_in columns.now (slice_index_or self.now position []))
+            → IsOk result }
     {
         pick_cells(alloc, self.columns.as_slice(), position, columns, cells)
     }
@@ -234,8 +237,11 @@ fn pick_cells(
     requires within { All (λ column. position < length (slice_index_or all.now column []))
         columns.now }
     requires all { length cells.old ≡ length columns.now }
-    ensures { OnOk result (cells.new ≡
+    ensures copied { OnOk result (cells.new ≡
         map (λ column. slice_index_or (slice_index_or all.now column []) position Null) columns.now) }
+    ensures in_place { All IsInPlace
+        (map (λ column. slice_index_or (slice_index_or all.now column []) position Null) columns.now)
+        → IsOk result }
 {
     for i in 0..columns.len() {
         all[columns[i]].copy_to(alloc, position, &mut cells[i])?;

@@ -1,6 +1,7 @@
 //! Where the rows of a table stand, and how they are gone over.
-ghost use Rattle.std.specs.Prelude.{◌≡◌, ◌<◌, ◌∷◌, [], true, false, All, IfOk, OnOk, length};
+ghost use Rattle.std.specs.Prelude.{◌≡◌, ◌<◌, ◌∷◌, [], true, false, All, IfOk, IsOk, OnOk, length};
 ghost use Rattle.gq_row.specs.Rows.{cells_in};
+ghost use Rattle.gq_row.specs.Written.{IsInPlace};
 
 use crate::grid::Grid;
 use gq_row::{Key, Row, Value};
@@ -155,7 +156,9 @@ impl<'a, H: KeyHash<Key>> RowCursor<'a, H> {
     #[inline]
     pub fn cells(&self, columns: &[usize], spare: Row) -> Result<Row, AllocError>
         requires { All (λ column. column < length self.now.row) columns.now }
-        ensures { IfOk result (λ cells. cells ≡ cells_in columns.now self.now.row) }
+        ensures copied { IfOk result (λ cells. cells ≡ cells_in columns.now self.now.row) }
+        ensures in_place { length spare ≡ length columns.now →
+            All IsInPlace (cells_in columns.now self.now.row) → IsOk result }
     {
         let mut cells = spare.into_cells();
         if cells.len() != columns.len() {
@@ -170,7 +173,8 @@ impl<'a, H: KeyHash<Key>> RowCursor<'a, H> {
     fn write_cells(&self, columns: &[usize], cells: &mut [Value]) -> Result<(), AllocError>
         requires within { All (λ column. column < length self.now.row) columns.now }
         requires all { length cells.old ≡ length columns.now }
-        ensures { OnOk result (cells.new ≡ cells_in columns.now self.now.row) }
+        ensures copied { OnOk result (cells.new ≡ cells_in columns.now self.now.row) }
+        ensures in_place { All IsInPlace (cells_in columns.now self.now.row) → IsOk result }
     {
         match &self.rest {
             Rest::Entries(_) => {
@@ -193,7 +197,8 @@ fn write_cells(
 ) -> Result<(), AllocError>
     requires within { All (λ column. column < length row.now) columns.now }
     requires all { length cells.old ≡ length columns.now }
-    ensures { OnOk result (cells.new ≡ cells_in columns.now row.now) }
+    ensures copied { OnOk result (cells.new ≡ cells_in columns.now row.now) }
+    ensures in_place { All IsInPlace (cells_in columns.now row.now) → IsOk result }
 {
     for i in 0..columns.len() {
         cells[i].copy_from(alloc, &row[columns[i]])?;

@@ -22,22 +22,13 @@ use Rattle.gq_group.proofs.SlotLemmas.{held-stays}
 use Rattle.gq_group.proofs.level.one_level.Goals as goal
 
 pub returns-in_default-clause-ours : goal.returns-in_default-clause-ours
-returns-in_default-clause-ours g c = ours-empty c.add_slots.new.slots.items _ c.add_slots.ensures.empty
+returns-in_default-clause-ours g c = ours-empty c.start_level.new.slots.items _ c.start_level.ensures.empty
 
 pub returns-in_default-clause-apart : goal.returns-in_default-clause-apart
-returns-in_default-clause-apart g c = apart-empty c.add_slots.new.slots.items _ c.add_slots.ensures.empty
+returns-in_default-clause-apart g c = apart-empty c.start_level.new.slots.items _ c.start_level.ensures.empty
 
 pub returns-in_default-clause-others : goal.returns-in_default-clause-others
-returns-in_default-clause-others g c = leaves-empty c.add_slots.new.slots.items _ _ _ c.add_slots.ensures.empty
-
-pub returns-in_default-start-clause-ours : goal.returns-in_default-start-clause-ours
-returns-in_default-start-clause-ours g c = ours-empty c.add_slots.new.slots.items _ c.add_slots.ensures.empty
-
-pub returns-in_default-start-clause-apart : goal.returns-in_default-start-clause-apart
-returns-in_default-start-clause-apart g c = apart-empty c.add_slots.new.slots.items _ c.add_slots.ensures.empty
-
-pub returns-in_default-start-clause-others : goal.returns-in_default-start-clause-others
-returns-in_default-start-clause-others g c = leaves-empty c.add_slots.new.slots.items _ _ _ c.add_slots.ensures.empty
+returns-in_default-clause-others g c = leaves-empty c.start_level.new.slots.items _ _ _ c.start_level.ensures.empty
 
 pub push_all-requires : goal.push_all-requires
 push_all-requires g c =
@@ -54,9 +45,9 @@ returns-in_err-groups-clause-overflow g c = λ e h rows b.
     let spec = c.args.spec.now in
     let m = c.read_rows.new.table.groups.pairs in
     let n = c.in_ok-taken.taken in
-    let hash = hash_by g.H.KeyHash.hash_of bytes_of c.in-Ok-start.table.groups.hasher in
+    let hash = hash_by g.H.KeyHash.hash_of bytes_of c.in-Ok.table.groups.hasher in
     let read = subst (λ (b : Budget). Reads spec b.entries (class_by hash c.args.level) (classes_at c.args.level) r.honest (g.R.RowSource.gives c.args.source.now r) (λ left. left ≡ []) s n.rows_read n.rows_written n.runs n.columns m c.read_rows.new.slots.items)
-    c.in-Ok-start.ensures.budget c.in_ok-taken.ensures.read in
+    c.in-Ok.ensures.budget c.in_ok-taken.ensures.read in
     let grouped = subst (λ (x : MapView _). Grouped spec (taken spec m read.done) x.pairs) (sym c.into_groups.ensures) read.resident.grouped in
     let far = c.in_err-groups.ensures.overflow (err_of_was c.from_residual-in_err-groups.result _ c.in_err-groups.field-0.0 _ c.from_residual-in_err-groups.ensures.1 refl e) spec (taken spec m read.done) grouped in
     let got = read.rest h rows b in
@@ -71,9 +62,9 @@ returns-clause-parted g c = λ h rows b.
     let spec = c.args.spec.now in
     let m = c.read_rows.new.table.groups.pairs in
     let n = c.in_ok-taken.taken in
-    let hash = hash_by g.H.KeyHash.hash_of bytes_of c.in-Ok-start.table.groups.hasher in
+    let hash = hash_by g.H.KeyHash.hash_of bytes_of c.in-Ok.table.groups.hasher in
     let read = subst (λ (b : Budget). Reads spec b.entries (class_by hash c.args.level) (classes_at c.args.level) r.honest (g.R.RowSource.gives c.args.source.now r) (λ left. left ≡ []) s n.rows_read n.rows_written n.runs n.columns m c.read_rows.new.slots.items)
-    c.in-Ok-start.ensures.budget c.in_ok-taken.ensures.read in
+    c.in-Ok.ensures.budget c.in_ok-taken.ensures.read in
     let grouped = subst (λ (x : MapView _). Grouped spec (taken spec m read.done) x.pairs) (sym c.into_groups.ensures) read.resident.grouped in
     let level : Level = record { rows_read = n.rows_read; rows_written = n.rows_written; groups = c.in_ok-groups.groups; runs = n.runs; columns = n.columns } in
     let count = c.in_ok-groups.ensures.count spec (taken spec m read.done) grouped in
@@ -104,9 +95,9 @@ returns-clause-numbers g c =
     let spec = c.args.spec.now in
     let m = c.read_rows.new.table.groups.pairs in
     let n = c.in_ok-taken.taken in
-    let hash = hash_by g.H.KeyHash.hash_of bytes_of c.in-Ok-start.table.groups.hasher in
+    let hash = hash_by g.H.KeyHash.hash_of bytes_of c.in-Ok.table.groups.hasher in
     let read = subst (λ (b : Budget). Reads spec b.entries (class_by hash c.args.level) (classes_at c.args.level) r.honest (g.R.RowSource.gives c.args.source.now r) (λ left. left ≡ []) s n.rows_read n.rows_written n.runs n.columns m c.read_rows.new.slots.items)
-    c.in-Ok-start.ensures.budget c.in_ok-taken.ensures.read in
+    c.in-Ok.ensures.budget c.in_ok-taken.ensures.read in
     let grouped = subst (λ (x : MapView _). Grouped spec (taken spec m read.done) x.pairs) (sym c.into_groups.ensures) read.resident.grouped in
     let level : Level = record { rows_read = n.rows_read; rows_written = n.rows_written; groups = c.in_ok-groups.groups; runs = n.runs; columns = n.columns } in
     let count = c.in_ok-groups.ensures.count spec (taken spec m read.done) grouped in
@@ -261,11 +252,11 @@ returns-clause-others g c =
     let then : LeavesOthers k k' s t = c.in_ok-groups.ensures.others in
     leaves-both a (either b slots) k k' r s t step then
 
-pub add_slots-requires : goal.add_slots-requires
-add_slots-requires g c = record { none = c.requires.none }
+pub start_level-requires : goal.start_level-requires
+start_level-requires g c = record { none = c.requires.none }
 
 pub returns-in_default-clause-places : goal.returns-in_default-clause-places
-returns-in_default-clause-places g c = places-within c.args.level (length c.add_slots.new.slots.items) c.slots_at.result c.slots_at.ensures c.add_slots.ensures.few
+returns-in_default-clause-places g c = c.start_level.ensures.few
 
 pub returns-in_default-clause-still_apart : goal.returns-in_default-clause-still_apart
 returns-in_default-clause-still_apart g c = c.requires.apart
@@ -279,21 +270,6 @@ returns-in_default-clause-sink_grows g c = λ run h. h
 pub returns-in_default-clause-owned : goal.returns-in_default-clause-owned
 returns-in_default-clause-owned g c = λ none run h. h
 
-pub returns-in_default-start-clause-places : goal.returns-in_default-start-clause-places
-returns-in_default-start-clause-places g c = places-within c.args.level (length c.add_slots.new.slots.items) c.slots_at.result c.slots_at.ensures c.add_slots.ensures.few
-
-pub returns-in_default-start-clause-still_apart : goal.returns-in_default-start-clause-still_apart
-returns-in_default-start-clause-still_apart g c = c.requires.apart
-
-pub returns-in_default-start-clause-grows : goal.returns-in_default-start-clause-grows
-returns-in_default-start-clause-grows g c = λ run h. h
-
-pub returns-in_default-start-clause-sink_grows : goal.returns-in_default-start-clause-sink_grows
-returns-in_default-start-clause-sink_grows g c = λ run h. h
-
-pub returns-in_default-start-clause-owned : goal.returns-in_default-start-clause-owned
-returns-in_default-start-clause-owned g c = λ none run h. h
-
 pub read_rows-requires-clause-source : goal.read_rows-requires-clause-source
 read_rows-requires-clause-source g c = c.requires.source
 
@@ -304,16 +280,16 @@ pub read_rows-requires-clause-rows : goal.read_rows-requires-clause-rows
 read_rows-requires-clause-rows g c = c.requires.rows
 
 pub read_rows-requires-clause-each : goal.read_rows-requires-clause-each
-read_rows-requires-clause-each g c = c.in-Ok-start.ensures.each
+read_rows-requires-clause-each g c = c.in-Ok.ensures.each
 
 pub read_rows-requires-clause-start : goal.read_rows-requires-clause-start
-read_rows-requires-clause-start g c = subst (λ (b : Budget). Resident c.args.spec.now b.entries [] c.in-Ok-start.table.groups.pairs) (sym c.in-Ok-start.ensures.budget) c.in-Ok-start.ensures.resident
+read_rows-requires-clause-start g c = subst (λ (b : Budget). Resident c.args.spec.now b.entries [] c.in-Ok.table.groups.pairs) (sym c.in-Ok.ensures.budget) c.in-Ok.ensures.resident
 
 pub read_rows-requires-clause-places : goal.read_rows-requires-clause-places
-read_rows-requires-clause-places g c = c.in-Ok.ensures.places ∙ c.slots_at.ensures
+read_rows-requires-clause-places g c = c.in-Ok.ensures.places
 
 pub read_rows-requires-clause-empty : goal.read_rows-requires-clause-empty
-read_rows-requires-clause-empty g c = c.add_slots.ensures.empty
+read_rows-requires-clause-empty g c = c.start_level.ensures.empty
 
 pub returns-in_err-taken-clause-parted : goal.returns-in_err-taken-clause-parted
 returns-in_err-taken-clause-parted g c = λ h. IfOk-from_err c.from_residual.result _ c.from_residual.ensures.0

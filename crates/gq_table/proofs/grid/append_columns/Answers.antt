@@ -1,6 +1,6 @@
 use Rattle.std.proofs.Common.{◌≡◌, ◌<◌, ◌∙◌, ◌++◌, [], length, drop, slice_index_or, refl, sym, arith}
-use Rattle.std.proofs.lemmas.List.{length-set}
-use Rattle.gq_table.proofs.GridLemmas.{behind_all, behind_step, kept_start, kept_step, left_next, left_there, get_or_any}
+use Rattle.std.proofs.lemmas.List.{get_or_default, length-set}
+use Rattle.gq_table.proofs.GridLemmas.{behind_all, behind_step, kept_start, kept_step, left_next, left_there}
 use Rattle.gq_table.proofs.grid.append_columns.Goals as goal
 
 pub loop-i-init : goal.loop-i-init
@@ -24,7 +24,7 @@ loop-i-preserved c =
     let lt-more : i < length c.args.more.now = omega (arith, lt, long) in
     let is : cells ≡ slice_index_or columns i [] ++ slice_index_or c.args.more.now i [] =
     c.in_ok-append.ensures.appended
-    ∙ (λ z. get_or_any columns i c.index-columns-i.result [] lt z ++ (c.replace-cells.ensures.value ∙ left_there c.loop-i.more c.args.more.now i c.index-more-i.result c.loop-i.invariant.left ∙ get_or_any c.args.more.now i c.index-more-i.result [] lt-more) z) in
+    ∙ (λ z. get_or_default columns i c.index-columns-i.result [] lt z ++ (c.replace-cells.ensures.value ∙ left_there c.loop-i.more c.args.more.now i c.index-more-i.result c.loop-i.invariant.left ∙ get_or_default c.args.more.now i c.index-more-i.result [] lt-more) z) in
     record {
       size = omega (arith, inv.size, length-set c.loop-i.more i c.replace-cells.new.dest, length-set columns i cells);
       same = length-set columns i cells ∙ inv.same;

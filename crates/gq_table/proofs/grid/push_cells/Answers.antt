@@ -1,7 +1,7 @@
 use Rattle.std.proofs.Common.{◌≡◌, ◌<◌, ◌∙◌, ◌++◌, ◌∷◌, [], length, map, drop, slice_index_or, refl, sym, ap, arith}
-use Rattle.std.proofs.lemmas.List.{get_or-map, length-map, length-set}
+use Rattle.std.proofs.lemmas.List.{get_or_default, get_or-map, length-map, length-set}
 use Rattle.gq_table.specs.Columns.{alone}
-use Rattle.gq_table.proofs.GridLemmas.{behind_all, behind_step, kept_start, kept_step, left_next, left_there, get_or_any}
+use Rattle.gq_table.proofs.GridLemmas.{behind_all, behind_step, kept_start, kept_step, left_next, left_there}
 use Rattle.gq_table.proofs.grid.push_cells.Goals as goal
 
 pub loop-i-init : goal.loop-i-init
@@ -25,7 +25,7 @@ loop-i-preserved c =
     let lt-row : i < length c.args.row.now = omega (arith, lt, inv.same, c.requires.all) in
     let is : cells ≡ slice_index_or columns i [] ++ slice_index_or (map alone c.args.row.now) i [] =
     c.in_ok-push.ensures.pushed
-    ∙ (λ z. get_or_any columns i c.index-columns-i.result [] lt z ++ (left_there c.loop-i.row c.args.row.now i c.index-row-i.result c.loop-i.invariant.left z) ∷ [])
+    ∙ (λ z. get_or_default columns i c.index-columns-i.result [] lt z ++ (left_there c.loop-i.row c.args.row.now i c.index-row-i.result c.loop-i.invariant.left z) ∷ [])
     ∙ ap (λ l. slice_index_or columns i [] ++ l) (sym (get_or-map alone c.args.row.now i c.index-row-i.result [] lt-row)) in
     record {
       size = omega (arith, inv.size, length-set c.loop-i.row i c.push.new.value, length-set columns i cells);
