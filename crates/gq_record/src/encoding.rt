@@ -1,5 +1,5 @@
 //! Rows to records.
-ghost use Rattle.std.specs.Prelude.{◌≡◌, ◌↔◌, take, ◌++◌, ◌<◌, ◌^◌, All, length, OnOk, OnErr, IsTrue, IfSome, IfNone};
+ghost use Rattle.std.specs.Prelude.{◌≡◌, ◌↔◌, take, ◌++◌, ◌∷◌, ◌<◌, ◌^◌, All, length, OnOk, OnErr, IsTrue, IfSome, IfNone};
 ghost use Rattle.std.specs.Int.{to_be_bytes, w32};
 ghost use Rattle.gq_record.specs.Records.{IsStorable, IsCell, record_of, body_of, value_bytes, with_length, number_bytes};
 
@@ -19,23 +19,25 @@ fn put_length(len: usize, out: &mut Vec<u8>) -> Result<(), AllocError>
     out.extend_from_slice(&field)
 }
 
-// Puts a number at the end.
+// Puts a number behind its tag at the end, all nine bytes at once.
 fn put_number(n: i64, out: &mut Vec<u8>) -> Result<(), AllocError>
-    ensures ok { OnOk result (out.new.items ≡ out.old.items ++ number_bytes n) }
+    ensures ok { OnOk result (out.new.items ≡ out.old.items ++ INT ∷ number_bytes n) }
     ensures keeps { take (length out.old.items) out.new.items ≡ out.old.items }
 {
-    let mut field = [0; 8];
-    BigEndian::write_i64(&mut field, n);
+    let mut field = [INT; 9];
+    BigEndian::write_i64(&mut field[1..], n);
     out.extend_from_slice(&field)
 }
 
-// Puts a text behind its length at the end, as it is written.
-fn put_text(text: &Text, out: &mut Vec<u8>) -> Result<(), AllocError>
+// Puts a text behind a tag and its length at the end, as it is written.
+fn put_text(tag: u8, text: &Text, out: &mut Vec<u8>) -> Result<(), AllocError>
     requires { length text.now < 2 ^ 32 }
-    ensures ok { OnOk result (out.new.items ≡ out.old.items ++ with_length text.now) }
+    ensures ok { OnOk result (out.new.items ≡ out.old.items ++ tag ∷ with_length text.now) }
     ensures keeps { take (length out.old.items) out.new.items ≡ out.old.items }
 {
-    put_length(text.len(), out)?;
+    let mut front = [tag; 5];
+    BigEndian::write_u32(&mut front[1..], text.len() as u32);
+    out.extend_from_slice(&front)?;
     out.extend_from_slice(text.as_str().as_bytes())
 }
 
@@ -47,21 +49,14 @@ fn put_value(value: &Value, out: &mut Vec<u8>) -> Result<(), AllocError>
     ensures keeps { take (length out.old.items) out.new.items ≡ out.old.items }
 {
     match value {
-        Value::Null => out.push(NULL)?,
-        Value::Int(n) => {
-            out.push(INT)?;
-            put_number(*n, out)?;
+        Value::Null => {
+            out.push(NULL)?;
+            Ok(())
         }
-        Value::Text(text) => {
-            out.push(TEXT)?;
-            put_text(text, out)?;
-        }
-        Value::NoCase(text) => {
-            out.push(NO_CASE)?;
-            put_text(text, out)?;
-        }
+        Value::Int(n) => put_number(*n, out),
+        Value::Text(text) => put_text(TEXT, text, out),
+        Value::NoCase(text) => put_text(NO_CASE, text, out),
     }
-    Ok(())
 }
 
 // Puts the values of a row at the end, one after the other.

@@ -1,8 +1,8 @@
 //! Keys as the keys of maps: the bytes that are hashed of them, and borrowed forms.
-ghost use Rattle.std.specs.Prelude.{◌≡◌, ◌<◌, ◌%◌, ◌^◌, All, length, map, fold};
+ghost use Rattle.std.specs.Prelude.{◌≡◌, ◌++◌, ◌<◌, ◌%◌, ◌^◌, All, length, map, fold};
 ghost use Rattle.std.specs.Int.{w32, to_be_bytes};
 ghost use Rattle.gq_row.specs.Folding.{fold_case, folded};
-ghost use Rattle.gq_row.specs.Classes.{class_of, bytes_of, spelling, spelled};
+ghost use Rattle.gq_row.specs.Classes.{class_of, bytes_of, spelling, spelled, tag_of};
 ghost use Rattle.gq_row.specs.Order.{same_key};
 ghost use Rattle.gq_row.specs.Rows.{key_of};
 
@@ -170,10 +170,7 @@ fn fold_cell<F: Step>(value: &Value, start: u64, f: &F) -> u64
     ensures { result ≡ fold (F.next f.now) start (spelling (folded value.now)) }
 {
     match value {
-        Value::NoCase(text) => {
-            let acc = fold_length(text, f.step(start, 3), f);
-            fold_lowered(text.as_str().as_bytes(), acc, f)
-        }
+        Value::NoCase(text) => fold_lowered(text, f.step(start, 3), f),
         _ => fold_value(value, start, f),
     }
 }
@@ -183,17 +180,27 @@ fn fold_cell<F: Step>(value: &Value, start: u64, f: &F) -> u64
 fn fold_value<F: Step>(value: &Value, start: u64, f: &F) -> u64
     ensures { result ≡ fold (F.next f.now) start (spelling value.now) }
 {
+    let acc = f.step(start, tag_of(value));
     match value {
-        Value::Null => f.step(start, 0),
-        Value::Int(n) => fold_bytes(&n.to_be_bytes(), f.step(start, 1), f),
-        Value::Text(text) => {
-            let acc = fold_length(text, f.step(start, 2), f);
+        Value::Null => acc,
+        Value::Int(n) => fold_bytes(&n.to_be_bytes(), acc, f),
+        Value::Text(text) | Value::NoCase(text) => {
+            let acc = fold_length(text, acc, f);
             fold_bytes(text.as_str().as_bytes(), acc, f)
         }
-        Value::NoCase(text) => {
-            let acc = fold_length(text, f.step(start, 3), f);
-            fold_bytes(text.as_str().as_bytes(), acc, f)
-        }
+    }
+}
+
+// The first byte that is hashed of a value: its kind.
+#[inline]
+fn tag_of(value: &Value) -> u8
+    ensures { result ≡ tag_of value.now }
+{
+    match value {
+        Value::Null => 0,
+        Value::Int(_) => 1,
+        Value::Text(_) => 2,
+        Value::NoCase(_) => 3,
     }
 }
 
@@ -217,9 +224,20 @@ fn fold_length<F: Step>(text: &Text, start: u64, f: &F) -> u64
     fold_bytes(&length.to_be_bytes(), start, f)
 }
 
-// The bytes of a text's fold.
+// The length of a text and the bytes of its fold. Not a part of the look-ups of other values, which are shorter
+// without it.
+#[inline(never)]
+fn fold_lowered<F: Step>(text: &Text, start: u64, f: &F) -> u64
+    ensures { result ≡ fold (F.next f.now) start
+        (to_be_bytes w32 (length text.now % 2 ^ 32) ++ fold_case text.now) }
+{
+    let acc = fold_length(text, start, f);
+    fold_lowered_bytes(text.as_str().as_bytes(), acc, f)
+}
+
+// The folds of bytes.
 #[inline]
-fn fold_lowered<F: Step>(bytes: &[u8], start: u64, f: &F) -> u64
+fn fold_lowered_bytes<F: Step>(bytes: &[u8], start: u64, f: &F) -> u64
     ensures { result ≡ fold (F.next f.now) start (fold_case bytes.now) }
 {
     let mut acc = start;
