@@ -22,6 +22,7 @@ mod report;
 mod script;
 mod seeding;
 mod session;
+mod spread;
 mod stopping;
 mod telling;
 #[cfg(test)]

@@ -9,6 +9,7 @@ ghost use Rattle.gq_options.specs.Words.{asked_by};
 
 use crate::seeding::{RunSeed, draw};
 use crate::session::session;
+use crate::spread::Spread;
 use crate::stopping::{answer_error, stop_for_memory};
 use gq_dir::DirStore;
 use gq_engine::{Budget, Engine, MemStore, RunStore};
@@ -19,7 +20,6 @@ use std::fs::Files;
 use std::io::{self, Read, Write};
 use std::mem;
 use std::random::RandomSource;
-use sw_probe::Fnv1a;
 
 /// Runs a script in a new engine under the greatest limits, with the seed given or one of the source,
 /// the budget given and a run store in the folder given, or in memory where there is none; and answers
@@ -77,7 +77,7 @@ where
 
 // Leaves an engine's memory and files to the system, which takes them all at once as the program ends:
 // to give the cells back one by one takes a twentieth of a load's time.
-fn leave<S: RunStore + Drop>(engine: Engine<Fnv1a, S>) {
+fn leave<S: RunStore + Drop>(engine: Engine<Spread, S>) {
     mem::forget(engine);
 }
 
@@ -87,13 +87,13 @@ fn engine_over<T: RunStore>(
     options: Options,
     seed: RunSeed,
     store: T,
-) -> Engine<Fnv1a, T>
+) -> Engine<Spread, T>
     ensures setting { setting_of T.runs result ≡ record { limits = GREATEST; honest = (T.runs store).honest } }
     ensures state { state_of T.runs result ≡ record { database = []; failures = (T.runs store).failures } }
 {
     Engine::new(
         alloc,
-        Fnv1a {
+        Spread {
             seed: seed.number(),
         },
         store,
@@ -104,7 +104,7 @@ fn engine_over<T: RunStore>(
 
 // Opens the script, and runs it in an engine.
 fn run_in<T, R, S, F, W, E>(
-    engine: &mut Engine<Fnv1a, T>,
+    engine: &mut Engine<Spread, T>,
     options: Options,
     seed: RunSeed,
     opener: F,
@@ -142,7 +142,7 @@ where
 
 // Runs a script that is open.
 fn run_open<T, R, W, E>(
-    engine: &mut Engine<Fnv1a, T>,
+    engine: &mut Engine<Spread, T>,
     options: Options,
     seed: RunSeed,
     script: R,

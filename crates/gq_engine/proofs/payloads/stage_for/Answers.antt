@@ -1,4 +1,4 @@
-use Rattle.std.proofs.Common.{◌≡◌, ◌⊎◌, inl, inr, ◌∙◌, Some, sym, ap, rules}
+use Rattle.std.proofs.Common.{◌≡◌, inl, inr, ◌∙◌, Some, sym, ap, rules}
 use Rattle.std.specs.Prelude.{Err}
 use Rattle.std.proofs.lemmas.Result.{err_from_is_err_and, IfOk-weaker, IfErr-weaker}
 use Rattle.gq_reply.specs.declared.refusal.Refusal.TheVariants.{NoTable}

@@ -16,7 +16,7 @@ use Rattle.gq_group.specs.declared.budget.Budget.{Budget}
 use Rattle.gq_group.specs.declared.level.Level.{Level}
 use Rattle.gq_group.proofs.AccessLemmas.{keeps-apart, leaves-both, or_left, or_right}
 use Rattle.gq_group.proofs.LevelLemmas.{parted, numbers, class_less, range-taken}
-use Rattle.gq_group.proofs.ReadLemmas.{apart-step, apart-flip, apart-either, ours-empty, ours-stays, apart-empty, leaves-empty, leaves-left, group_cause-of, group_cause-later, no_sum, places-few, places-within}
+use Rattle.gq_group.proofs.ReadLemmas.{apart-step, apart-flip, apart-either, ours-empty, ours-stays, apart-empty, leaves-empty, leaves-left, group_cause-of, group_cause-later, no_sum, places-few}
 use Rattle.gq_group.proofs.Results.{err_of_was, if_err_is, on_ok_err}
 use Rattle.gq_group.proofs.SlotLemmas.{held-stays}
 use Rattle.gq_group.proofs.level.one_level.Goals as goal

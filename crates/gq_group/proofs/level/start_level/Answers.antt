@@ -1,4 +1,4 @@
-use Rattle.std.proofs.Common.{length, ◌∙◌}
+use Rattle.std.proofs.Common.{length}
 use Rattle.gq_group.proofs.ReadLemmas.{places-within}
 use Rattle.gq_group.proofs.level.start_level.Goals as goal
 

@@ -1,4 +1,3 @@
-use Rattle.std.proofs.Common.{length}
 use Rattle.std.proofs.lemmas.Bool.{false≢true}
 use Rattle.gq_table.proofs.GridLemmas.{in_place_there}
 use Rattle.gq_table.proofs.grid.pick_cells.Goals as goal
