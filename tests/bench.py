@@ -20,6 +20,8 @@ import tempfile
 
 ROUNDS = 3
 QUERY = "count(*), sum(x), min(x), max(x)"
+# What `./groupsh` tells the C library.
+LARGE_PAGES = ["env", "GLIBC_TUNABLES=glibc.malloc.hugetlb=1"]
 
 
 def text_of(number):
@@ -58,11 +60,11 @@ def script_of(folder, name, kind, query):
 
 def groupsh(program, folder, kind, budget):
     script = script_of(folder, "script.gq", kind, f"group s by city show {QUERY}\n")
-    return [program, *(["--budget", str(budget)] if budget else []), script]
+    return [*LARGE_PAGES, program, *(["--budget", str(budget)] if budget else []), script]
 
 
 def load(program, folder, kind, budget):
-    return [program, script_of(folder, "load.gq", kind, "")]
+    return [*LARGE_PAGES, program, script_of(folder, "load.gq", kind, "")]
 
 
 def sqlite3(program, folder, kind, budget):

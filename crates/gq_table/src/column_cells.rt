@@ -1,6 +1,6 @@
 //! The cells of one column.
 ghost use Rattle.std.specs.Prelude.{◌≡◌, ◌<◌, ◌++◌, ◌∷◌, [], IfOk, IfNone, IfSome, IsOk, OnOk, OnErr, length, map, take, slice_index_or};
-ghost use Rattle.gq_row.specs.declared.value.Value.TheVariants.{Null};
+ghost use Rattle.gq_row.specs.declared.value.Value.TheVariants.{Int, Null};
 ghost use Rattle.gq_row.specs.Written.{IsInPlace};
 ghost use Rattle.gq_table.specs.Columns.{IsText, number_cell};
 
@@ -9,8 +9,8 @@ use std::alloc::{AllocError, Global};
 use std::marker::Model;
 use std::mem;
 
-/// The cells of one column, in the order of the rows, seen as their list. As long as they are numbers and
-/// null a cell takes sixteen bytes, and from the first text on as much as a value.
+/// The cells of one column, in the order of the rows, seen as their list. As long as all are numbers a cell takes
+/// eight bytes, from the first null on sixteen, and from the first text on as much as a value.
 #[derive(Drop)]
 pub struct ColumnCells {
     stored: Stored,
@@ -18,7 +18,8 @@ pub struct ColumnCells {
 
 #[derive(Drop)]
 pub(crate) enum Stored {
-    Numbers(Vec<Option<i64>>),
+    Numbers(Vec<i64>),
+    Nullable(Vec<Option<i64>>),
     Values(Vec<Value>),
 }
 
@@ -48,6 +49,7 @@ impl ColumnCells {
     {
         match &mut self.stored {
             Stored::Numbers(numbers) => numbers.reserve(cells),
+            Stored::Nullable(numbers) => numbers.reserve(cells),
             Stored::Values(values) => values.reserve(cells),
         }
     }
@@ -67,6 +69,10 @@ impl ColumnCells {
     {
         match &self.stored {
             Stored::Numbers(numbers) => {
+                *over = Value::Int(numbers[position]);
+                Ok(())
+            }
+            Stored::Nullable(numbers) => {
                 *over = cell_of(numbers[position]);
                 Ok(())
             }
@@ -80,16 +86,22 @@ impl ColumnCells {
         ensures pushed { OnOk result (self.new ≡ self.old ++ value.old ∷ []) }
         ensures unchanged { OnErr result (self.new ≡ self.old) }
     {
-        if let Stored::Numbers(numbers) = &mut self.stored {
-            if let Some(number) = number_of(value) {
-                return push_number(numbers, number);
-            }
-            self.stored.widen(alloc)?;
-        }
         match &mut self.stored {
-            Stored::Values(values) => push_value(values, value),
-            Stored::Numbers(_) => unreachable!(),
+            Stored::Numbers(numbers) => {
+                if let Value::Int(n) = value {
+                    return push_number(numbers, *n);
+                }
+            }
+            Stored::Nullable(numbers) => {
+                if let Some(number) = number_of(value) {
+                    return push_nullable(numbers, number);
+                }
+            }
+            Stored::Values(values) => {
+                return push_value(values, value);
+            }
         }
+        self.stored.push_wide(alloc, value)
     }
 
     /// Puts the cells of another column behind these, out of which they move.
@@ -106,22 +118,64 @@ impl ColumnCells {
     {
         match &mut self.stored {
             Stored::Numbers(numbers) => numbers.truncate(cells),
+            Stored::Nullable(numbers) => numbers.truncate(cells),
             Stored::Values(values) => values.truncate(cells),
         }
     }
 }
 
 impl Stored {
-    ghost use Rattle.gq_table.specs.StoredCells.{HasValues, cells_of};
+    ghost use Rattle.gq_table.specs.StoredCells.{HasNullable, HasValues, cells_of};
 
-    // Stores numbers as values.
+    // Puts a cell behind the others, for which there is no place among these as they are stored.
     #[cold]
-    fn widen(&mut self, alloc: Global) -> Result<(), AllocError>
-        ensures wide { OnOk result (HasValues self.new) }
+    fn push_wide(&mut self, alloc: Global, value: &mut Value) -> Result<(), AllocError>
+        ensures pushed { OnOk result (cells_of self.new ≡ cells_of self.old ++ value.old ∷ []) }
+        ensures unchanged { OnErr result (cells_of self.new ≡ cells_of self.old) }
+    {
+        match number_of(value) {
+            Some(number) if !matches!(self, Stored::Values(_)) => {
+                self.admit_null(alloc)?;
+                match self {
+                    Stored::Nullable(numbers) => push_nullable(numbers, number),
+                    Stored::Numbers(_) | Stored::Values(_) => unreachable!(),
+                }
+            }
+            _ => {
+                self.admit_texts(alloc)?;
+                match self {
+                    Stored::Values(values) => push_value(values, value),
+                    Stored::Numbers(_) | Stored::Nullable(_) => unreachable!(),
+                }
+            }
+        }
+    }
+
+    // Stores numbers so that null may stand among them.
+    fn admit_null(&mut self, alloc: Global) -> Result<(), AllocError>
+        requires { HasValues self.old → ⊥ }
+        ensures wide { OnOk result (HasNullable self.new) }
         ensures same { cells_of self.new ≡ cells_of self.old }
     {
         if let Stored::Numbers(numbers) = self {
-            *self = Stored::Values(values_of(alloc, numbers.as_slice())?);
+            *self = Stored::Nullable(nullable_of(alloc, numbers.as_slice())?);
+        }
+        Ok(())
+    }
+
+    // Stores numbers as values.
+    fn admit_texts(&mut self, alloc: Global) -> Result<(), AllocError>
+        ensures wide { OnOk result (HasValues self.new) }
+        ensures same { cells_of self.new ≡ cells_of self.old }
+    {
+        match self {
+            Stored::Numbers(numbers) => {
+                *self = Stored::Values(values_of(alloc, numbers.as_slice())?);
+            }
+            Stored::Nullable(numbers) => {
+                *self = Stored::Values(values_of_nullable(alloc, numbers.as_slice())?);
+            }
+            Stored::Values(_) => {}
         }
         Ok(())
     }
@@ -132,6 +186,7 @@ impl Stored {
     {
         match self {
             Stored::Numbers(numbers) => values_of(alloc, numbers.as_slice()),
+            Stored::Nullable(numbers) => values_of_nullable(alloc, numbers.as_slice()),
             Stored::Values(values) => Ok(values),
         }
     }
@@ -142,14 +197,29 @@ impl Stored {
         ensures unchanged { OnErr result (cells_of self.new ≡ cells_of self.old) }
     {
         let mut more = more;
-        if let (Stored::Numbers(numbers), Stored::Numbers(behind)) = (&mut *self, &mut more) {
-            return numbers.append(behind);
+        match (&mut *self, &mut more) {
+            (Stored::Numbers(numbers), Stored::Numbers(behind)) => {
+                return numbers.append(behind);
+            }
+            (Stored::Nullable(numbers), Stored::Nullable(behind)) => {
+                return numbers.append(behind);
+            }
+            (Stored::Nullable(numbers), Stored::Numbers(behind)) => {
+                return numbers.append(&mut nullable_of(alloc, behind.as_slice())?);
+            }
+            (Stored::Numbers(numbers), Stored::Nullable(behind)) => {
+                let mut all = nullable_of(alloc, numbers.as_slice())?;
+                all.append(behind)?;
+                *self = Stored::Nullable(all);
+                return Ok(());
+            }
+            _ => {}
         }
         let mut values = more.into_values(alloc)?;
-        self.widen(alloc)?;
+        self.admit_texts(alloc)?;
         match self {
             Stored::Values(own) => own.append(&mut values),
-            Stored::Numbers(_) => unreachable!(),
+            Stored::Numbers(_) | Stored::Nullable(_) => unreachable!(),
         }
     }
 }
@@ -179,7 +249,16 @@ fn number_of(value: &Value) -> Option<Option<i64>>
 }
 
 #[inline]
-fn push_number(numbers: &mut Vec<Option<i64>>, number: Option<i64>) -> Result<(), AllocError>
+fn push_number(numbers: &mut Vec<i64>, number: i64) -> Result<(), AllocError>
+    ensures pushed { OnOk result (numbers.new.items ≡ numbers.old.items ++ number ∷ []) }
+    ensures unchanged { OnErr result (numbers.new.items ≡ numbers.old.items) }
+{
+    numbers.push(number)?;
+    Ok(())
+}
+
+#[inline]
+fn push_nullable(numbers: &mut Vec<Option<i64>>, number: Option<i64>) -> Result<(), AllocError>
     ensures pushed { OnOk result (numbers.new.items ≡ numbers.old.items ++ number ∷ []) }
     ensures unchanged { OnErr result (numbers.new.items ≡ numbers.old.items) }
 {
@@ -196,8 +275,30 @@ fn push_value(values: &mut Vec<Value>, value: &mut Value) -> Result<(), AllocErr
     Ok(())
 }
 
+// Numbers among which null may stand, with room for as many as the numbers have.
+fn nullable_of(alloc: Global, numbers: &[i64]) -> Result<Vec<Option<i64>>, AllocError>
+    ensures { IfOk result (λ cells. map number_cell cells.items ≡ map Int numbers.now) }
+{
+    let mut cells = Vec::with_capacity(alloc, numbers.len())?;
+    for number in numbers {
+        cells.push(Some(*number))?;
+    }
+    Ok(cells)
+}
+
 // Numbers as values, with room for as many as the numbers have.
-fn values_of(alloc: Global, numbers: &[Option<i64>]) -> Result<Vec<Value>, AllocError>
+fn values_of(alloc: Global, numbers: &[i64]) -> Result<Vec<Value>, AllocError>
+    ensures { IfOk result (λ values. values.items ≡ map Int numbers.now) }
+{
+    let mut values = Vec::with_capacity(alloc, numbers.len())?;
+    for number in numbers {
+        values.push(Value::Int(*number))?;
+    }
+    Ok(values)
+}
+
+// Numbers and null as values, likewise.
+fn values_of_nullable(alloc: Global, numbers: &[Option<i64>]) -> Result<Vec<Value>, AllocError>
     ensures { IfOk result (λ values. values.items ≡ map number_cell numbers.now) }
 {
     let mut values = Vec::with_capacity(alloc, numbers.len())?;
