@@ -168,11 +168,12 @@ fn read_rows<H: KeyHash<Key> + Copy, S: RunStore, R: RowSource<S>>(
     let mut rows_written: u64 = 0;
     let mut runs: u64 = 0;
     let mut columns: usize = 0;
-    let mut spare = Row::new(Vec::new(alloc));
+    let mut row = Row::new(Vec::new(alloc));
     'rows: loop {
-        let Some(row) = source.next(store, spare)? else {
+        let more = source.next(store, &mut row)?;
+        if !more {
             break;
-        };
+        }
         if !spec.fits(&row) {
             return Err(Refusal::Damaged);
         }
@@ -181,7 +182,6 @@ fn read_rows<H: KeyHash<Key> + Copy, S: RunStore, R: RowSource<S>>(
         rows_read += 1;
         rows_written += placed.written;
         runs += placed.began;
-        spare = row;
     }
     Ok(Taken {
         rows_read,

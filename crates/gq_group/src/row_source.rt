@@ -3,7 +3,7 @@ ghost use Rattle.std.specs.Prelude.{◌≡◌, ◌+◌, ◌≤◌, ℕ, Bool, fa
 ghost use Rattle.gq_spill.specs.Runs.{Runs};
 ghost use Rattle.gq_row.specs.declared.value.Value.{Value as Cell};
 ghost use Rattle.gq_group.specs.Access.{RunSet, LeavesOthers, KeepsOwn, HasCause};
-ghost use Rattle.gq_spill.specs.Handing.{Gave, taken};
+ghost use Rattle.gq_spill.specs.Handing.{Gave, came, taken};
 
 use crate::refusal::Refusal;
 use gq_row::Row;
@@ -26,15 +26,16 @@ pub trait RowSource<S: RunStore> {
     /// Whether it may make runs.
     ghost makes_runs: { Bool };
 
-    /// The next row, or None at the end. After a refusal nothing is said of it. The row may take the
-    /// memory of `spare`, whose values are dropped.
-    fn next(&mut self, store: &mut S, spare: Row) -> Result<Option<Row>, Refusal>
+    /// Writes the next row over another, whose values are dropped and whose memory it may take, and tells whether
+    /// there was one. After a refusal nothing is said of it.
+    fn next(&mut self, store: &mut S, row: &mut Row) -> Result<bool, Refusal>
         requires { is_ready self.old (S.runs store.old) }
         ensures rows { IsTrue (S.runs store.old).honest →
-            IfOk result (λ row. (rows : List (List Cell)) →
+            IfOk result (λ more. (rows : List (List Cell)) →
             gives self.old (S.runs store.old) rows →
-            Gave row rows (gives self.new (S.runs store.new))) }
-        ensures bound { IfOk result (λ row. taken row + bound self.new ≤ bound self.old) }
+            Gave (came more row.new) rows (gives self.new (S.runs store.new))) }
+        ensures bound { IfOk result (λ more.
+            taken (came more row.new) + bound self.new ≤ bound self.old) }
         ensures ready { OnOk result (is_ready self.new (S.runs store.new)) }
         ensures cause { IfErr result (λ e. HasCause e (S.runs store.old) (S.runs store.new)) }
         ensures others { LeavesOthers (owns self.old) (owns self.new) (S.runs store.old)

@@ -27,9 +27,9 @@ impl<S: RunStore> RowSource<S> for RunSource {
 
     ghost makes_runs = { false };
 
-    fn next(&mut self, store: &mut S, spare: Row) -> Result<Option<Row>, Refusal> {
-        match self.reader.next(self.alloc, store, spare) {
-            Ok(row) => Ok(row),
+    fn next(&mut self, store: &mut S, row: &mut Row) -> Result<bool, Refusal> {
+        match self.reader.next(self.alloc, store, row) {
+            Ok(more) => Ok(more),
             Err(why) => Err(Refusal::of(why)),
         }
     }

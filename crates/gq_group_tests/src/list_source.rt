@@ -34,9 +34,15 @@ impl<S: RunStore> RowSource<S> for ListSource {
 
     ghost makes_runs = { false };
 
-    fn next(&mut self, store: &mut S, _spare: Row) -> Result<Option<Row>, Refusal> {
+    fn next(&mut self, store: &mut S, row: &mut Row) -> Result<bool, Refusal> {
         let _ = store;
-        Ok(self.rows.pop_front())
+        match self.rows.pop_front() {
+            Some(next) => {
+                *row = next;
+                Ok(true)
+            }
+            None => Ok(false),
+        }
     }
 
     fn rows_hint(&self) -> usize {

@@ -35,15 +35,15 @@ impl<'a, H: KeyHash<Key>, S: RunStore> RowSource<S> for TableRows<'a, H> {
 
     ghost makes_runs = { false };
 
-    fn next(&mut self, store: &mut S, spare: Row) -> Result<Option<Row>, Refusal> {
+    fn next(&mut self, store: &mut S, row: &mut Row) -> Result<bool, Refusal> {
         let _ = store;
         match self.kept.advance(&mut self.rows) {
             Ok(true) => {}
-            Ok(false) => return Ok(None),
+            Ok(false) => return Ok(false),
             Err(_) => return Err(Refusal::Memory),
         }
-        match self.rows.cells(self.columns, spare) {
-            Ok(cells) => Ok(Some(cells)),
+        match self.rows.write_cells(self.columns, row) {
+            Ok(()) => Ok(true),
             Err(_) => Err(Refusal::Memory),
         }
     }

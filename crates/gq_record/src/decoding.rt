@@ -1,5 +1,5 @@
 //! Rows from records.
-ghost use Rattle.std.specs.Prelude.{◌≡◌, ◌≤◌, ◌<◌, ℕ, ◌^◌, All, List, ◌++◌, length, take, IfOk, IfSome, IfNone, FitsSigned};
+ghost use Rattle.std.specs.Prelude.{◌≡◌, ◌≤◌, ◌<◌, ℕ, ◌^◌, false, true, All, List, ◌++◌, length, take, IfOk, IfSome, IfNone, FitsSigned};
 ghost use Rattle.std.specs.Int.{to_be_bytes, w32, w64};
 ghost use Rattle.gq_row.specs.declared.value.Value.{Value as Cell};
 ghost use Rattle.gq_record.specs.Records.{IsStorable, IsCell, IsText, record_of, body_of, value_bytes, with_length, number_bytes};
@@ -8,6 +8,7 @@ use crate::kinds::{INT, NO_CASE, NULL, TEXT};
 use byteorder::{BigEndian, ByteOrder};
 use gq_row::{Row, Value};
 use std::alloc::{AllocError, Global};
+use std::mem;
 
 /// The length at the front, and what follows it; `None` where there are fewer than four bytes.
 pub fn take_length(bytes: &[u8]) -> Option<(u32, &[u8])>
@@ -109,19 +110,19 @@ fn take_value<'a>(
     }
 }
 
-// The row of this body, written over another row. Room for so many values is made at once.
+// Writes the values of the row of this body over others, and tells whether there is one. Room for so many values is made
+// at once.
 fn take_body(
     alloc: Global,
     bytes: &[u8],
     room: usize,
-    spare: Row,
-) -> Result<Option<Row>, AllocError>
-    ensures found { IfOk result (λ o. IfSome o (λ row. (bytes.now ≡ body_of row) ×
-        All IsCell row)) }
-    ensures none { IfOk result (λ o. IfNone o ((row : List Cell) → All IsCell row →
-        bytes.now ≡ body_of row → ⊥)) }
+    cells: &mut Vec<Value>,
+) -> Result<bool, AllocError>
+    ensures found { IfOk result (λ is_body. is_body ≡ true →
+        (bytes.now ≡ body_of cells.new.items) × All IsCell cells.new.items) }
+    ensures none { IfOk result (λ is_body. is_body ≡ false → (row : List Cell) →
+        All IsCell row → bytes.now ≡ body_of row → ⊥) }
 {
-    let mut cells = spare.into_cells();
     cells.reserve_exact(room.saturating_sub(cells.len()))?;
     let mut count = 0;
     let mut rest = bytes;
@@ -130,36 +131,41 @@ fn take_body(
             cells.push(Value::Null)?;
         }
         let Some(behind) = take_value(alloc, rest, &mut cells[count])? else {
-            return Ok(None);
+            return Ok(false);
         };
         rest = behind;
         count += 1;
     }
     cells.truncate(count);
-    Ok(Some(Row::new(cells)))
+    Ok(true)
 }
 
-/// As [`decode_row`], for rows that mostly have so many columns, and over the memory of `spare`, whose
-/// values are dropped: where that is enough the row takes none of its own.
-pub fn decode_row_with(
+/// As [`decode_row`], for rows that mostly have so many columns, and over another row, whose values are dropped: where
+/// its memory is enough no more is taken. Where the bytes begin with no row's record, or memory is wanting, nothing is
+/// said of what the row is then.
+pub fn decode_row_over(
     alloc: Global,
     bytes: &[u8],
     columns: usize,
-    spare: Row,
-) -> Result<Option<(Row, usize)>, AllocError>
-    ensures within { IfOk result (λ o. IfSome o (λ found. found.1 ≤ length bytes.now)) }
-    ensures found { IfOk result (λ o. IfSome o (λ found. (take found.1 bytes.now ≡ record_of
-        found.0) × IsStorable found.0)) }
+    row: &mut Row,
+) -> Result<Option<usize>, AllocError>
+    ensures within { IfOk result (λ o. IfSome o (λ len. len ≤ length bytes.now)) }
+    ensures found { IfOk result (λ o. IfSome o (λ len. (take len bytes.now ≡ record_of row.new) ×
+        IsStorable row.new)) }
     ensures none { IfOk result (λ o. IfNone o ((row : List Cell) (n : ℕ) → IsStorable row →
         take n bytes.now ≡ record_of row → ⊥)) }
 {
     let Some((body, _)) = take_block(bytes) else {
         return Ok(None);
     };
+    let mut cells = mem::replace(row, Row::new(Vec::new(alloc))).into_cells();
     // Each value takes a byte at least.
-    match take_body(alloc, body, columns.min(body.len()), spare)? {
-        Some(row) => Ok(Some((row, 4 + body.len()))),
-        None => Ok(None),
+    let is_body = take_body(alloc, body, columns.min(body.len()), &mut cells)?;
+    *row = Row::new(cells);
+    if is_body {
+        Ok(Some(4 + body.len()))
+    } else {
+        Ok(None)
     }
 }
 
@@ -172,5 +178,9 @@ pub fn decode_row(alloc: Global, bytes: &[u8]) -> Result<Option<(Row, usize)>, A
     ensures none { IfOk result (λ o. IfNone o ((row : List Cell) (n : ℕ) → IsStorable row →
         take n bytes.now ≡ record_of row → ⊥)) }
 {
-    decode_row_with(alloc, bytes, 0, Row::new(Vec::new(alloc)))
+    let mut row = Row::new(Vec::new(alloc));
+    match decode_row_over(alloc, bytes, 0, &mut row)? {
+        Some(len) => Ok(Some((row, len))),
+        None => Ok(None),
+    }
 }

@@ -11,7 +11,7 @@
 //!
 //! [`encode_row`] appends the record of a row, as `specs/Records.antt` spells it, or leaves the bytes as
 //! they were. [`decode_row`] answers a row only where the bytes begin with its record, and `None` only
-//! where they begin with no row's; so does [`decode_row_with`], which writes the row over another. A row
+//! where they begin with no row's; so does [`decode_row_over`], which writes the row over another. A row
 //! has a record where its values take fewer than 2^32 bytes, as [`is_storable`] tells. A text without case
 //! has its own tag and stands there as it is written, not by its fold. By a law no record begins another,
 //! and none is of two rows.
@@ -22,5 +22,5 @@ mod encoding;
 mod kinds;
 pub mod laws;
 
-pub use decoding::{decode_row, decode_row_with, take_length};
+pub use decoding::{decode_row, decode_row_over, take_length};
 pub use encoding::{encode_row, is_storable};

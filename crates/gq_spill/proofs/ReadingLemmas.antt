@@ -74,13 +74,13 @@ used t new runs rest row place e moved u =
     )
 
 -- the same of a result, for what the run had before more was read ahead
-pub used_row : {E : Type 0} (r : Result (List Value) E) (U : List ℕ → Type 0) (t s : RunTail) (runs : Runs) → s.id ≡ t.id → s.end ≡ t.end → ((rest : List ℕ) → U rest → Unread t runs rest)
-    → IfOk r (λ row. (t.ahead ≡ record_of row ++ s.ahead) × (s.at ≡ t.at + length (record_of row)) × IsStorable row)
-    → IfOk r (λ row. (rest : List ℕ) → U rest → (behind : List ℕ) × (rest ≡ record_of row ++ behind) × Unread s runs behind)
-used_row (Ok row) U t s runs same_id same_end go p = λ rest u.
+pub used_row : {T E : Type 0} (r : Result T E) (row : List Value) (U : List ℕ → Type 0) (t s : RunTail) (runs : Runs) → s.id ≡ t.id → s.end ≡ t.end → ((rest : List ℕ) → U rest → Unread t runs rest)
+    → OnOk r ((t.ahead ≡ record_of row ++ s.ahead) × (s.at ≡ t.at + length (record_of row)) × IsStorable row)
+    → OnOk r ((rest : List ℕ) → U rest → (behind : List ℕ) × (rest ≡ record_of row ++ behind) × Unread s runs behind)
+used_row (Ok x) row U t s runs same_id same_end go p = λ rest u.
     let found = used t s.ahead runs rest row s.at p.0 p.1 (go rest u) in
     (found.0, found.1, subst (λ (i : RunId). Unread (record { id = i; at = s.at; end = s.end; ahead = s.ahead }) runs found.0) (sym same_id) (subst (λ (e : ℕ). Unread (record { id = t.id; at = s.at; end = e; ahead = s.ahead }) runs found.0) (sym same_end) found.2))
-used_row (Err e) U t s runs same_id same_end go p = tt
+used_row (Err e) row U t s runs same_id same_end go p = tt
 
 -- a refusal passed on
 pub same_refusal : {T U E : Type 0} (x y : E) → IsErrOf {T = T} (Err x) y → IsErrOf {T = U} (Err x) y

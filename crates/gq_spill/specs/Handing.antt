@@ -1,11 +1,16 @@
 -- A row that is taken from the front of those that are left.
-use Rattle.std.specs.Prelude.{◌≡◌, ℕ, List, [], ◌∷◌, Option, Some, None}
+use Rattle.std.specs.Prelude.{◌≡◌, ℕ, Bool, false, true, List, [], ◌∷◌, Option, Some, None}
 use Rattle.gq_row.specs.declared.value.Value.{Value}
 
 -- the first of the rows was taken, or there was none, and gives says what is left
 abbrev pub Gave : Option (List Value) → List (List Value) → (List (List Value) → Type 0) → Type 0
 Gave None rows gives = (rows ≡ []) × gives []
 Gave (Some row) rows gives = (rest : List (List Value)) × (rows ≡ row ∷ rest) × gives rest
+
+-- the row that was written over another, where one came
+abbrev pub came : Bool → List Value → Option (List Value)
+came false row = None
+came true row = Some row
 
 -- how many rows were taken
 abbrev pub taken : Option (List Value) → ℕ

@@ -11,10 +11,9 @@
 //! let mark = writer.finish();                       // the run, and how much is in it
 //!
 //! let mut reader = RunReader::open(alloc, mark, columns);
-//! let mut spare = Row::new(Vec::new(alloc));
-//! while let Some(row) = reader.next(alloc, &mut store, spare)? {
+//! let mut row = Row::new(Vec::new(alloc));
+//! while reader.next(alloc, &mut store, &mut row)? { // each row in the memory of the one before
 //!     ..
-//!     spare = row;                                  // the next row takes its memory
 //! }
 //! store.discard(mark.id);
 //! ```

@@ -1,8 +1,8 @@
 //! Rows from a run.
-ghost use Rattle.std.specs.Prelude.{◌≡◌, ◌+◌, ◌-◌, ◌<◌, ◌≤◌, List, length, Some, None, IfOk, IfErr, IfSome, IfNone, OnOk, Err, IsErrOf, IsTrue};
+ghost use Rattle.std.specs.Prelude.{◌≡◌, ◌+◌, ◌-◌, ◌<◌, ◌≤◌, false, true, List, length, Some, None, IfOk, IfErr, IfSome, OnOk, Err, IsErrOf, IsTrue};
 ghost use Rattle.gq_row.specs.declared.value.Value.{Value as Cell};
 ghost use Rattle.gq_record.specs.Records.{IsStorable};
-ghost use Rattle.gq_spill.specs.Handing.{Gave, taken};
+ghost use Rattle.gq_spill.specs.Handing.{Gave, came, taken};
 ghost use Rattle.gq_spill.specs.Reading.{opened, Left};
 ghost use Rattle.gq_spill.specs.Refusals.{TellsFaults};
 ghost use Rattle.gq_spill.specs.Runs.{OnlyReads};
@@ -67,19 +67,19 @@ impl RunReader {
         self.records - self.given
     }
 
-    // Takes the row that comes next.
+    // Takes the row that comes next, and writes it over another.
     fn take_row<S: RunStore>(
         &mut self,
         alloc: Global,
         store: &mut S,
-        spare: Row,
-    ) -> Result<Row, SpillRefusal>
+        row: &mut Row,
+    ) -> Result<(), SpillRefusal>
         requires live { IsTrue ((S.runs store.old).live self.old.tail.id.number) }
         requires more { self.old.given < self.old.records }
         ensures row { IsTrue (S.runs store.old).honest →
-            IfOk result (λ row. (rows : List (List Cell)) → Left self.old (S.runs store.old) rows →
-            Gave (Some row) rows (Left self.new (S.runs store.new))) }
-        ensures width { IfOk result (λ row. (length row ≡ self.old.columns) × IsStorable row) }
+            OnOk result ((rows : List (List Cell)) → Left self.old (S.runs store.old) rows →
+            Gave (Some row.new) rows (Left self.new (S.runs store.new))) }
+        ensures width { OnOk result ((length row.new ≡ self.old.columns) × IsStorable row.new) }
         ensures sound { IsTrue (S.runs store.old).honest → IsErrOf result SpillRefusal.Damaged →
             (rows : List (List Cell)) → Left self.old (S.runs store.old) rows → ⊥ }
         ensures count { OnOk result (self.new.given ≡ self.old.given + 1) }
@@ -89,41 +89,42 @@ impl RunReader {
         ensures store { OnlyReads (S.runs store.old) (S.runs store.new) }
         ensures faults { TellsFaults result (S.runs store.old) (S.runs store.new) }
     {
-        match self.tail.take(alloc, store, self.columns, spare) {
-            Ok(row) => {
+        match self.tail.take(alloc, store, self.columns, row) {
+            Ok(()) => {
                 if row.len() != self.columns {
                     return Err(SpillRefusal::Damaged);
                 }
                 self.given += 1;
-                Ok(row)
+                Ok(())
             }
             Err(why) => Err(why),
         }
     }
 
-    /// The next row, or `None` behind the last. After a refusal it answers the same one from then on,
-    /// and leaves the store alone. The row is written over `spare`, whose values are dropped: where its
-    /// memory is enough no more is taken.
+    /// Writes the next row over another, whose values are dropped, and tells whether there was one: where the memory
+    /// of that is enough no more is taken. After a refusal it answers the same one from then on, and leaves the store
+    /// alone.
     pub fn next<S: RunStore>(
         &mut self,
         alloc: Global,
         store: &mut S,
-        spare: Row,
-    ) -> Result<Option<Row>, SpillRefusal>
+        row: &mut Row,
+    ) -> Result<bool, SpillRefusal>
         requires live { IsTrue ((S.runs store.old).live self.old.tail.id.number) }
         // Over an honest store the rows come in the order in which they were written,
         ensures rows { IsTrue (S.runs store.old).honest →
-            IfOk result (λ row. (rows : List (List Cell)) → Left self.old (S.runs store.old) rows →
-            Gave row rows (Left self.new (S.runs store.new))) }
+            IfOk result (λ more. (rows : List (List Cell)) → Left self.old (S.runs store.old) rows →
+            Gave (came more row.new) rows (Left self.new (S.runs store.new))) }
         // and their run is never found damaged.
         ensures sound { IsTrue (S.runs store.old).honest → IsErrOf result SpillRefusal.Damaged →
             (rows : List (List Cell)) → Left self.old (S.runs store.old) rows → ⊥ }
-        // Over any store None comes only behind as many rows as the mark tells.
-        ensures end { IfOk result (λ row. IfNone row (self.new.given ≡ self.old.records)) }
-        ensures count { IfOk result (λ row. self.new.given ≡ self.old.given + taken row) }
+        // Over any store there are no more only behind as many rows as the mark tells.
+        ensures end { IfOk result (λ more. more ≡ false → self.new.given ≡ self.old.records) }
+        ensures count { IfOk result (λ more.
+            self.new.given ≡ self.old.given + taken (came more row.new)) }
         ensures few { OnOk result (self.new.given ≤ self.old.records) }
-        ensures width { IfOk result (λ row. IfSome row (λ row. (length row ≡ self.old.columns) ×
-            IsStorable row)) }
+        ensures width { IfOk result (λ more. more ≡ true →
+            (length row.new ≡ self.old.columns) × IsStorable row.new) }
         ensures going { OnOk result ((self.old.refused ≡ None) × (self.new.refused ≡ None)) }
         ensures err { IfErr result (λ why. self.new.refused ≡ Some why) }
         ensures again { IfSome self.old.refused (λ why. (result ≡ Err why) ×
@@ -139,10 +140,10 @@ impl RunReader {
             return Err(why);
         }
         if self.given == self.records {
-            return Ok(None);
+            return Ok(false);
         }
-        match self.take_row(alloc, store, spare) {
-            Ok(row) => Ok(Some(row)),
+        match self.take_row(alloc, store, row) {
+            Ok(()) => Ok(true),
             Err(why) => {
                 self.refused = Some(why);
                 Err(why)

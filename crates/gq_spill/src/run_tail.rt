@@ -1,5 +1,5 @@
 //! What is left of a run.
-ghost use Rattle.std.specs.Prelude.{◌≡◌, ◌++◌, ◌+◌, ◌<◌, ◌≤◌, ◌^◌, List, ℕ, length, IfOk, OnOk, IsErrOf, IsTrue};
+ghost use Rattle.std.specs.Prelude.{◌≡◌, ◌++◌, ◌+◌, ◌<◌, ◌≤◌, ◌^◌, List, ℕ, length, OnOk, IsErrOf, IsTrue};
 ghost use Rattle.gq_row.specs.declared.value.Value.{Value as Cell};
 ghost use Rattle.gq_record.specs.Records.{IsStorable, record_of};
 ghost use Rattle.gq_spill.specs.Reading.{Unread};
@@ -9,7 +9,7 @@ ghost use Rattle.gq_spill.specs.Runs.{OnlyReads};
 use crate::spill_refusal::SpillRefusal;
 use crate::store::{RunId, RunStore};
 use crate::window::Window;
-use gq_record::{decode_row_with, take_length};
+use gq_record::{decode_row_over, take_length};
 use gq_row::Row;
 use std::alloc::Global;
 
@@ -61,42 +61,42 @@ impl RunTail {
         self.ahead.grow(store, self.id, place, more)
     }
 
-    // Takes the row at the front of the bytes that were read ahead.
-    fn use_row(&mut self, alloc: Global, columns: usize, spare: Row) -> Result<Row, SpillRefusal>
+    // Takes the row at the front of the bytes that were read ahead, and writes it over another.
+    fn use_row(&mut self, alloc: Global, columns: usize, row: &mut Row) -> Result<(), SpillRefusal>
         requires { self.old.at + length self.old.ahead ≤ self.old.end }
-        ensures row { IfOk result (λ row. (self.old.ahead ≡ record_of row ++ self.new.ahead) ×
-            (self.new.at ≡ self.old.at + length (record_of row)) × IsStorable row) }
+        ensures row { OnOk result ((self.old.ahead ≡ record_of row.new ++ self.new.ahead) ×
+            (self.new.at ≡ self.old.at + length (record_of row.new)) × IsStorable row.new) }
         ensures sound { IsErrOf result SpillRefusal.Damaged → (row : List Cell) (behind : List ℕ) →
             IsStorable row → self.old.ahead ≡ record_of row ++ behind → ⊥ }
         ensures own { IsErrOf result SpillRefusal.StoreFault → ⊥ }
         ensures same { (self.new.id ≡ self.old.id) × (self.new.end ≡ self.old.end) }
         ensures within { self.new.at + length self.new.ahead ≤ self.new.end }
     {
-        match decode_row_with(alloc, self.ahead.as_slice(), columns, spare) {
-            Ok(Some((row, len))) => {
+        match decode_row_over(alloc, self.ahead.as_slice(), columns, row) {
+            Ok(Some(len)) => {
                 self.ahead.skip(len);
                 self.at += len as u64;
-                Ok(row)
+                Ok(())
             }
             Ok(None) => Err(SpillRefusal::Damaged),
             Err(_) => Err(SpillRefusal::Memory),
         }
     }
 
-    /// Takes the row whose record comes next, of so many columns mostly, over the memory of `spare`.
+    /// Takes the row whose record comes next, of so many columns mostly, and writes it over another.
     pub fn take<S: RunStore>(
         &mut self,
         alloc: Global,
         store: &mut S,
         columns: usize,
-        spare: Row,
-    ) -> Result<Row, SpillRefusal>
+        row: &mut Row,
+    ) -> Result<(), SpillRefusal>
         requires live { IsTrue ((S.runs store.old).live self.old.id.number) }
         requires within { self.old.at + length self.old.ahead ≤ self.old.end }
-        ensures row { IsTrue (S.runs store.old).honest → IfOk result (λ row. (rest : List ℕ) →
-            Unread self.old (S.runs store.old) rest →
-            (behind : List ℕ) × (rest ≡ record_of row ++ behind) × Unread self.new (S.runs store.new) behind) }
-        ensures storable { IfOk result IsStorable }
+        ensures row { IsTrue (S.runs store.old).honest → OnOk result ((rest : List ℕ) →
+            Unread self.old (S.runs store.old) rest → (behind : List ℕ) ×
+            (rest ≡ record_of row.new ++ behind) × Unread self.new (S.runs store.new) behind) }
+        ensures storable { OnOk result (IsStorable row.new) }
         ensures sound { IsTrue (S.runs store.old).honest → IsErrOf result SpillRefusal.Damaged →
             (row : List Cell) (behind : List ℕ) → IsStorable row →
             Unread self.old (S.runs store.old) (record_of row ++ behind) → ⊥ }
@@ -114,6 +114,6 @@ impl RunTail {
         if let Err(why) = self.fetch(store, LENGTH + len as usize) {
             return Err(why);
         }
-        self.use_row(alloc, columns, spare)
+        self.use_row(alloc, columns, row)
     }
 }

@@ -11,15 +11,16 @@ use std::alloc::{AllocError, Global};
 use std::process::Abort;
 use std::test::Fail;
 
-/// What a reader answered: its row, that there is none, or why not.
+/// What a reader answered: the row that it wrote, that there is none, or why not.
 pub(crate) fn told(
     alloc: Global,
     out: &mut String,
-    answer: Result<Option<Row>, SpillRefusal>,
+    answer: Result<bool, SpillRefusal>,
+    row: &Row,
 ) -> Result<(), AllocError> {
     match answer {
-        Ok(Some(row)) => out.push_str(spelled_row(alloc, &row)?.as_str()),
-        Ok(None) => out.push_str("none;"),
+        Ok(true) => out.push_str(spelled_row(alloc, row)?.as_str()),
+        Ok(false) => out.push_str("none;"),
         Err(why) => out.push_str(format!(in alloc; "{why};")?.as_str()),
     }
 }
@@ -36,14 +37,15 @@ pub(crate) fn answers<S: RunStore>(
 {
     let mut reader = RunReader::open(alloc, mark, columns);
     let mut out = String::new(alloc);
-    let first = reader.next(alloc, store, no_values(alloc));
-    told(alloc, &mut out, first)?;
-    let second = reader.next(alloc, store, no_values(alloc));
-    told(alloc, &mut out, second)?;
-    let third = reader.next(alloc, store, no_values(alloc));
-    told(alloc, &mut out, third)?;
-    let fourth = reader.next(alloc, store, no_values(alloc));
-    told(alloc, &mut out, fourth)?;
+    let mut row = no_values(alloc);
+    let first = reader.next(alloc, store, &mut row);
+    told(alloc, &mut out, first, &row)?;
+    let second = reader.next(alloc, store, &mut row);
+    told(alloc, &mut out, second, &row)?;
+    let third = reader.next(alloc, store, &mut row);
+    told(alloc, &mut out, third, &row)?;
+    let fourth = reader.next(alloc, store, &mut row);
+    told(alloc, &mut out, fourth, &row)?;
     Ok(out)
 }
 

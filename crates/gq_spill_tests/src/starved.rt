@@ -144,9 +144,9 @@ fn read_twice<S: RunStore>(alloc: Global, store: &mut S, mark: RunMark) -> Resul
 {
     let mut reader = RunReader::open(alloc, mark, 3);
     let starved = Starved::new(alloc)?;
-    let first = reader.next(alloc, store, no_values(alloc)).err();
+    let first = reader.next(alloc, store, &mut no_values(alloc)).err();
     drop(starved);
-    let again = reader.next(alloc, store, no_values(alloc)).err();
+    let again = reader.next(alloc, store, &mut no_values(alloc)).err();
     store.discard(mark.id);
     Ok([first, again])
 }
@@ -182,16 +182,17 @@ fn told_over<S: RunStore>(alloc: Global, store: &mut S, mark: RunMark) -> Result
     requires { IsTrue ((S.runs store.old).live mark.id.number) }
 {
     let mut reader = RunReader::open(alloc, mark, 2);
-    let Ok(Some(first)) = reader.next(alloc, store, no_values(alloc)) else {
+    let (mut row, mut other) = (no_values(alloc), no_values(alloc));
+    let Ok(true) = reader.next(alloc, store, &mut row) else {
         return Err(Fail::from("no row"));
     };
     let starved = Starved::new(alloc)?;
-    let second = reader.next(alloc, store, first);
-    let third = reader.next(alloc, store, no_values(alloc));
+    let second = reader.next(alloc, store, &mut row);
+    let third = reader.next(alloc, store, &mut other);
     drop(starved);
     let mut out = String::new(alloc);
-    told(alloc, &mut out, second)?;
-    told(alloc, &mut out, third)?;
+    told(alloc, &mut out, second, &row)?;
+    told(alloc, &mut out, third, &other)?;
     Ok(out)
 }
 

@@ -45,9 +45,11 @@ pub fn read_rows<S: RunStore>(
     let mut reader = RunReader::open(alloc, mark, columns);
     let mut rows = Vec::new(alloc);
     for _ in 0..mark.records {
-        let Some(row) = reader.next(alloc, store, Row::new(Vec::new(alloc)))? else {
+        let mut row = Row::new(Vec::new(alloc));
+        let more = reader.next(alloc, store, &mut row)?;
+        if !more {
             return Ok(rows);
-        };
+        }
         if rows.push(row).is_err() {
             return Err(SpillRefusal::Memory);
         }

@@ -1,5 +1,5 @@
 //! Where the rows of a table stand, and how they are gone over.
-ghost use Rattle.std.specs.Prelude.{◌≡◌, ◌<◌, ◌∷◌, [], true, false, All, IfOk, IsOk, OnOk, length};
+ghost use Rattle.std.specs.Prelude.{◌≡◌, ◌<◌, ◌∷◌, [], true, false, All, IsOk, OnOk, length};
 ghost use Rattle.gq_row.specs.Rows.{cells_in};
 ghost use Rattle.gq_row.specs.Written.{IsInPlace};
 
@@ -7,6 +7,7 @@ use crate::grid::Grid;
 use gq_row::{Key, Row, Value};
 use std::alloc::{AllocError, Global};
 use std::marker::Model;
+use std::mem;
 use sw_flat::{FlatMap, Iter};
 use sw_probe::KeyHash;
 
@@ -151,26 +152,27 @@ impl<'a, H: KeyHash<Key>> RowCursor<'a, H> {
         }
     }
 
-    /// The values in some columns of the row where it stands, written over another row. Nothing else of it is
-    /// copied.
+    /// Writes the values in some columns of the row where it stands over another row. Nothing else of it is
+    /// copied. Where memory is wanting nothing is said of what that row is then.
     #[inline]
-    pub fn cells(&self, columns: &[usize], spare: Row) -> Result<Row, AllocError>
+    pub fn write_cells(&self, columns: &[usize], row: &mut Row) -> Result<(), AllocError>
         requires { All (λ column. column < length self.now.row) columns.now }
-        ensures copied { IfOk result (λ cells. cells ≡ cells_in columns.now self.now.row) }
-        ensures in_place { length spare ≡ length columns.now →
+        ensures copied { OnOk result (row.new ≡ cells_in columns.now self.now.row) }
+        ensures in_place { length row.old ≡ length columns.now →
             All IsInPlace (cells_in columns.now self.now.row) → IsOk result }
     {
-        let mut cells = spare.into_cells();
+        let mut cells = mem::replace(row, Row::new(Vec::new(self.alloc))).into_cells();
         if cells.len() != columns.len() {
             cells.resize_with(columns.len(), || Value::Null)?;
         }
-        self.write_cells(columns, cells.as_mut_slice())?;
-        Ok(Row::new(cells))
+        self.write_values(columns, cells.as_mut_slice())?;
+        *row = Row::new(cells);
+        Ok(())
     }
 
     // Writes them over as many values.
     #[inline]
-    fn write_cells(&self, columns: &[usize], cells: &mut [Value]) -> Result<(), AllocError>
+    fn write_values(&self, columns: &[usize], cells: &mut [Value]) -> Result<(), AllocError>
         requires within { All (λ column. column < length self.now.row) columns.now }
         requires all { length cells.old ≡ length columns.now }
         ensures copied { OnOk result (cells.new ≡ cells_in columns.now self.now.row) }

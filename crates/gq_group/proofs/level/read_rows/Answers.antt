@@ -38,11 +38,11 @@ pub returns-clause-read : goal.returns-clause-read
 returns-clause-read g c =
     let r = g.S.RunStore.runs c.rows.store in
     let s = g.S.RunStore.runs c.next.new.store in
-    let step : LeavesOthers (g.R.RowSource.owns c.rows.source) (g.R.RowSource.owns c.next.new.self) r s = c.in_ok-row.ensures.others in
+    let step : LeavesOthers (g.R.RowSource.owns c.rows.source) (g.R.RowSource.owns c.next.new.self) r s = c.in_ok-more.ensures.others in
     let kept : KeepsOwn (among c.rows.slots.items) r s
     = keeps-apart _ _ (among c.rows.slots.items) r s step (apart-flip _ _ c.rows.invariant.apart) c.rows.invariant.ours.live in
     reads-end _ _ _ _ _ _ _ r s c.rows.rows_read c.rows.rows_written c.rows.runs c.rows.columns c.rows.table.groups.pairs c.rows.slots.items c.rows.invariant.read
-    (λ h rows now. let over = rw c.in_default.is at (c.in_ok-row.ensures.rows (c.rows.invariant.others.same_honest ∙ h)) in (over rows now).0)
+    (λ h rows now. let over = rw c.if-not-more.true at (c.in_ok-more.ensures.rows (c.rows.invariant.others.same_honest ∙ h)) in (over rows now).0)
     (λ parts held. held-stays r s c.rows.slots.items parts kept c.rows.invariant.ours held)
 
 pub returns-in_err-placed-clause-cause : goal.returns-in_err-placed-clause-cause
@@ -50,7 +50,7 @@ returns-in_err-placed-clause-cause g c =
     let r = g.S.RunStore.runs c.rows.store in
     let s = g.S.RunStore.runs c.next.new.store in
     let t = g.S.RunStore.runs c.place_row.new.store in
-    let step : LeavesOthers (g.R.RowSource.owns c.rows.source) (g.R.RowSource.owns c.next.new.self) r s = c.in_ok-row.ensures.others in
+    let step : LeavesOthers (g.R.RowSource.owns c.rows.source) (g.R.RowSource.owns c.next.new.self) r s = c.in_ok-more.ensures.others in
     let kept : KeepsOwn (among c.rows.slots.items) r s
     = keeps-apart _ _ (among c.rows.slots.items) r s step (apart-flip _ _ c.rows.invariant.apart) c.rows.invariant.ours.live in
     let held = held-stays r s c.rows.slots.items _ kept c.rows.invariant.ours c.rows.invariant.read.held in
@@ -69,26 +69,26 @@ rows-preserved g c =
     let r = g.S.RunStore.runs c.rows.store in
     let s = g.S.RunStore.runs c.next.new.store in
     let t = g.S.RunStore.runs c.place_row.new.store in
-    let step : LeavesOthers a b r s = c.in_ok-row.ensures.others in
+    let step : LeavesOthers a b r s = c.in_ok-more.ensures.others in
     let kept : KeepsOwn k r s = keeps-apart a b k r s step (apart-flip k a inv.apart) inv.ours.live in
     let then : LeavesOthers k k' s t = placed.others in
     let ours : Ours c.rows.slots.items s = ours-stays r s a b c.rows.slots.items step inv.ours in
     let apart : Apart k b = apart-step r s a b k step inv.apart inv.ours.live in
-    let live = g.met.R.RowSource.own_live c.next.new.self s c.in_ok-row.ensures.ready in
+    let live = g.met.R.RowSource.own_live c.next.new.self s c.in_ok-more.ensures.ready in
     let source : KeepsOwn b s t = keeps-apart k k' b s t then apart live in
-    let next = rw c.in-Some.is at c.in_ok-row.ensures.rows in
-    let hashed = subst (λ h. Places c.args.spec.now c.rows.table.budget.entries (class_by (hash_by g.H.KeyHash.hash_of bytes_of h) c.args.level) (classes_at c.args.level) c.in-Some.row s t c.rows.table.groups.pairs c.place_row.new.table.groups.pairs c.rows.slots.items c.place_row.new.slots.items c.in_ok-placed.placed.written c.in_ok-placed.placed.began) inv.hasher placed.places in
-    let places = subst (λ b. Places c.args.spec.now b.entries (class_by (hash_by g.H.KeyHash.hash_of bytes_of c.args.table.now.groups.hasher) c.args.level) (classes_at c.args.level) c.in-Some.row s t c.rows.table.groups.pairs c.place_row.new.table.groups.pairs c.rows.slots.items c.place_row.new.slots.items c.in_ok-placed.placed.written c.in_ok-placed.placed.began) inv.budget hashed in
+    let next = rw c.if-not-more.false at c.in_ok-more.ensures.rows in
+    let hashed = subst (λ h. Places c.args.spec.now c.rows.table.budget.entries (class_by (hash_by g.H.KeyHash.hash_of bytes_of h) c.args.level) (classes_at c.args.level) c.next.new.row s t c.rows.table.groups.pairs c.place_row.new.table.groups.pairs c.rows.slots.items c.place_row.new.slots.items c.in_ok-placed.placed.written c.in_ok-placed.placed.began) inv.hasher placed.places in
+    let places = subst (λ b. Places c.args.spec.now b.entries (class_by (hash_by g.H.KeyHash.hash_of bytes_of c.args.table.now.groups.hasher) c.args.level) (classes_at c.args.level) c.next.new.row s t c.rows.table.groups.pairs c.place_row.new.table.groups.pairs c.rows.slots.items c.place_row.new.slots.items c.in_ok-placed.placed.written c.in_ok-placed.placed.began) inv.budget hashed in
     record {
-      ready = g.met.R.RowSource.stays_ready c.next.new.self s t source c.in_ok-row.ensures.ready;
-      read = reads-step c.args.spec.now _ _ _ _ _ _ (g.R.RowSource.gives c.next.new.self t) r s t c.rows.rows_read c.rows.rows_written c.rows.runs c.rows.columns _ _ c.rows.table.groups.pairs c.place_row.new.table.groups.pairs c.rows.slots.items c.place_row.new.slots.items c.in-Some.row inv.read
-          (λ h rows now. let before = inv.others.same_honest ∙ h in let got = next before rows now in (got.0, got.1, g.met.R.RowSource.keeps_rows c.next.new.self s t source c.in_ok-row.ensures.ready (step.same_honest ∙ before) got.0 got.2))
+      ready = g.met.R.RowSource.stays_ready c.next.new.self s t source c.in_ok-more.ensures.ready;
+      read = reads-step c.args.spec.now _ _ _ _ _ _ (g.R.RowSource.gives c.next.new.self t) r s t c.rows.rows_read c.rows.rows_written c.rows.runs c.rows.columns _ _ c.rows.table.groups.pairs c.place_row.new.table.groups.pairs c.rows.slots.items c.place_row.new.slots.items c.next.new.row inv.read
+          (λ h rows now. let before = inv.others.same_honest ∙ h in let got = next before rows now in (got.0, got.1, g.met.R.RowSource.keeps_rows c.next.new.self s t source c.in_ok-more.ensures.ready (step.same_honest ∙ before) got.0 got.2))
           (λ parts held. held-stays r s c.rows.slots.items parts kept inv.ours held)
           places c.width-columns.result c.width-columns.ensures;
       budget = placed.budget ∙ inv.budget;
       each = placed.each ∙ inv.each;
       hasher = placed.hasher ∙ inv.hasher;
-      bound = (let taken = rw c.in-Some.is at c.in_ok-row.ensures.bound in omega (arith, taken, inv.bound));
+      bound = (let taken = rw c.if-not-more.false at c.in_ok-more.ensures.bound in omega (arith, taken, inv.bound));
       less = omega (arith, inv.less, placed.places.one);
       less_runs = omega (arith, inv.less_runs, placed.places.one_began);
       same_length = placed.same_length;
@@ -96,8 +96,8 @@ rows-preserved g c =
       apart = apart-flip b k' (apart-step s t k k' b then (apart-flip k b apart) live);
       others = leaves-trans _ _ _ _ _ _ inv.others (leaves-both a b k k' r s t step then);
       grows = λ run h. step.grows run (inv.grows run h);
-      owned = λ none run h. inv.owned none run (c.in_ok-row.ensures.owned none run h);
-      made = λ none. omega (arith, c.in_ok-row.ensures.made none, inv.made none, placed.made);
+      owned = λ none run h. inv.owned none run (c.in_ok-more.ensures.owned none run h);
+      made = λ none. omega (arith, c.in_ok-more.ensures.made none, inv.made none, placed.made);
     }
 
 pub returns-then-not-fits-clause-cause : goal.returns-then-not-fits-clause-cause
@@ -114,7 +114,7 @@ returns-then-not-fits-clause-others g c =
     let k = among c.rows.slots.items in
     let r = g.S.RunStore.runs c.rows.store in
     let s = g.S.RunStore.runs c.next.new.store in
-    let step : LeavesOthers a b r s = c.in_ok-row.ensures.others in
+    let step : LeavesOthers a b r s = c.in_ok-more.ensures.others in
     leaves-trans _ _ _ _ _ _ inv.others (leaves-left a b k r s step)
 
 pub returns-in_err-placed-clause-others : goal.returns-in_err-placed-clause-others
@@ -125,7 +125,7 @@ returns-in_err-placed-clause-others g c =
     let k = among c.rows.slots.items in
     let r = g.S.RunStore.runs c.rows.store in
     let s = g.S.RunStore.runs c.next.new.store in
-    let step : LeavesOthers a b r s = c.in_ok-row.ensures.others in
+    let step : LeavesOthers a b r s = c.in_ok-more.ensures.others in
     let k' = among c.place_row.new.slots.items in
     let t = g.S.RunStore.runs c.place_row.new.store in
     let then : LeavesOthers k k' s t = c.in_err-placed.ensures.others in
@@ -139,101 +139,101 @@ returns-in_err-placed-clause-apart g c =
     let k = among c.rows.slots.items in
     let r = g.S.RunStore.runs c.rows.store in
     let s = g.S.RunStore.runs c.next.new.store in
-    let step : LeavesOthers a b r s = c.in_ok-row.ensures.others in
+    let step : LeavesOthers a b r s = c.in_ok-more.ensures.others in
     let k' = among c.place_row.new.slots.items in
     let t = g.S.RunStore.runs c.place_row.new.store in
     let then : LeavesOthers k k' s t = c.in_err-placed.ensures.others in
     let apart : Apart k b = apart-step r s a b k step inv.apart inv.ours.live in
-    let live = g.met.R.RowSource.own_live c.next.new.self s c.in_ok-row.ensures.ready in
+    let live = g.met.R.RowSource.own_live c.next.new.self s c.in_ok-more.ensures.ready in
     apart-flip b k' (apart-step s t k k' b then (apart-flip k b apart) live)
 
-pub returns-in_err-row-clause-read : goal.returns-in_err-row-clause-read
-returns-in_err-row-clause-read g c = IfOk-from_err c.from_residual.result _ c.from_residual.ensures.0
+pub returns-in_err-more-clause-read : goal.returns-in_err-more-clause-read
+returns-in_err-more-clause-read g c = IfOk-from_err c.from_residual.result _ c.from_residual.ensures.0
 
-pub returns-in_err-row-clause-bound : goal.returns-in_err-row-clause-bound
-returns-in_err-row-clause-bound g c = IfOk-from_err c.from_residual.result _ c.from_residual.ensures.0
+pub returns-in_err-more-clause-bound : goal.returns-in_err-more-clause-bound
+returns-in_err-more-clause-bound g c = IfOk-from_err c.from_residual.result _ c.from_residual.ensures.0
 
-pub returns-in_err-row-clause-less_runs : goal.returns-in_err-row-clause-less_runs
-returns-in_err-row-clause-less_runs g c = IfOk-from_err c.from_residual.result _ c.from_residual.ensures.0
+pub returns-in_err-more-clause-less_runs : goal.returns-in_err-more-clause-less_runs
+returns-in_err-more-clause-less_runs g c = IfOk-from_err c.from_residual.result _ c.from_residual.ensures.0
 
-pub returns-in_err-row-clause-made : goal.returns-in_err-row-clause-made
-returns-in_err-row-clause-made g c = λ none. IfOk-from_err c.from_residual.result _ c.from_residual.ensures.0
+pub returns-in_err-more-clause-made : goal.returns-in_err-more-clause-made
+returns-in_err-more-clause-made g c = λ none. IfOk-from_err c.from_residual.result _ c.from_residual.ensures.0
 
-pub returns-in_err-row-clause-source : goal.returns-in_err-row-clause-source
-returns-in_err-row-clause-source g c = on_ok_err _ c.from_residual.result c.from_residual.ensures.0
+pub returns-in_err-more-clause-source : goal.returns-in_err-more-clause-source
+returns-in_err-more-clause-source g c = on_ok_err _ c.from_residual.result c.from_residual.ensures.0
 
-pub returns-in_err-row-clause-places : goal.returns-in_err-row-clause-places
-returns-in_err-row-clause-places g c = c.rows.invariant.same_length
+pub returns-in_err-more-clause-places : goal.returns-in_err-more-clause-places
+returns-in_err-more-clause-places g c = c.rows.invariant.same_length
 
-pub returns-in_err-row-clause-ours : goal.returns-in_err-row-clause-ours
-returns-in_err-row-clause-ours g c =
-    ours-stays (g.S.RunStore.runs c.rows.store) (g.S.RunStore.runs c.next.new.store) (g.R.RowSource.owns c.rows.source) (g.R.RowSource.owns c.next.new.self) c.rows.slots.items c.in_err-row.ensures.others c.rows.invariant.ours
+pub returns-in_err-more-clause-ours : goal.returns-in_err-more-clause-ours
+returns-in_err-more-clause-ours g c =
+    ours-stays (g.S.RunStore.runs c.rows.store) (g.S.RunStore.runs c.next.new.store) (g.R.RowSource.owns c.rows.source) (g.R.RowSource.owns c.next.new.self) c.rows.slots.items c.in_err-more.ensures.others c.rows.invariant.ours
 
-pub returns-in_err-row-clause-apart : goal.returns-in_err-row-clause-apart
-returns-in_err-row-clause-apart g c =
-    apart-step (g.S.RunStore.runs c.rows.store) (g.S.RunStore.runs c.next.new.store) (g.R.RowSource.owns c.rows.source) (g.R.RowSource.owns c.next.new.self) (among c.rows.slots.items) c.in_err-row.ensures.others c.rows.invariant.apart c.rows.invariant.ours.live
+pub returns-in_err-more-clause-apart : goal.returns-in_err-more-clause-apart
+returns-in_err-more-clause-apart g c =
+    apart-step (g.S.RunStore.runs c.rows.store) (g.S.RunStore.runs c.next.new.store) (g.R.RowSource.owns c.rows.source) (g.R.RowSource.owns c.next.new.self) (among c.rows.slots.items) c.in_err-more.ensures.others c.rows.invariant.apart c.rows.invariant.ours.live
 
-pub returns-in_err-row-clause-others : goal.returns-in_err-row-clause-others
-returns-in_err-row-clause-others g c =
-    leaves-trans _ _ _ _ _ _ c.rows.invariant.others (leaves-left (g.R.RowSource.owns c.rows.source) (g.R.RowSource.owns c.next.new.self) (among c.rows.slots.items) (g.S.RunStore.runs c.rows.store) (g.S.RunStore.runs c.next.new.store) c.in_err-row.ensures.others)
+pub returns-in_err-more-clause-others : goal.returns-in_err-more-clause-others
+returns-in_err-more-clause-others g c =
+    leaves-trans _ _ _ _ _ _ c.rows.invariant.others (leaves-left (g.R.RowSource.owns c.rows.source) (g.R.RowSource.owns c.next.new.self) (among c.rows.slots.items) (g.S.RunStore.runs c.rows.store) (g.S.RunStore.runs c.next.new.store) c.in_err-more.ensures.others)
 
-pub returns-in_err-row-clause-grows : goal.returns-in_err-row-clause-grows
-returns-in_err-row-clause-grows g c = λ run h. c.in_err-row.ensures.others.grows run (c.rows.invariant.grows run h)
+pub returns-in_err-more-clause-grows : goal.returns-in_err-more-clause-grows
+returns-in_err-more-clause-grows g c = λ run h. c.in_err-more.ensures.others.grows run (c.rows.invariant.grows run h)
 
-pub returns-in_err-row-clause-owned : goal.returns-in_err-row-clause-owned
-returns-in_err-row-clause-owned g c = λ none run h. c.rows.invariant.owned none run (c.in_err-row.ensures.owned none run h)
+pub returns-in_err-more-clause-owned : goal.returns-in_err-more-clause-owned
+returns-in_err-more-clause-owned g c = λ none run h. c.rows.invariant.owned none run (c.in_err-more.ensures.owned none run h)
 
 pub returns-then-not-fits-clause-places : goal.returns-then-not-fits-clause-places
 returns-then-not-fits-clause-places g c = c.rows.invariant.same_length
 
 pub returns-then-not-fits-clause-ours : goal.returns-then-not-fits-clause-ours
 returns-then-not-fits-clause-ours g c =
-    ours-stays (g.S.RunStore.runs c.rows.store) (g.S.RunStore.runs c.next.new.store) (g.R.RowSource.owns c.rows.source) (g.R.RowSource.owns c.next.new.self) c.rows.slots.items c.in_ok-row.ensures.others c.rows.invariant.ours
+    ours-stays (g.S.RunStore.runs c.rows.store) (g.S.RunStore.runs c.next.new.store) (g.R.RowSource.owns c.rows.source) (g.R.RowSource.owns c.next.new.self) c.rows.slots.items c.in_ok-more.ensures.others c.rows.invariant.ours
 
 pub returns-then-not-fits-clause-apart : goal.returns-then-not-fits-clause-apart
 returns-then-not-fits-clause-apart g c =
-    apart-step (g.S.RunStore.runs c.rows.store) (g.S.RunStore.runs c.next.new.store) (g.R.RowSource.owns c.rows.source) (g.R.RowSource.owns c.next.new.self) (among c.rows.slots.items) c.in_ok-row.ensures.others c.rows.invariant.apart c.rows.invariant.ours.live
+    apart-step (g.S.RunStore.runs c.rows.store) (g.S.RunStore.runs c.next.new.store) (g.R.RowSource.owns c.rows.source) (g.R.RowSource.owns c.next.new.self) (among c.rows.slots.items) c.in_ok-more.ensures.others c.rows.invariant.apart c.rows.invariant.ours.live
 
 pub returns-then-not-fits-clause-grows : goal.returns-then-not-fits-clause-grows
-returns-then-not-fits-clause-grows g c = λ run h. c.in_ok-row.ensures.others.grows run (c.rows.invariant.grows run h)
+returns-then-not-fits-clause-grows g c = λ run h. c.in_ok-more.ensures.others.grows run (c.rows.invariant.grows run h)
 
 pub returns-then-not-fits-clause-owned : goal.returns-then-not-fits-clause-owned
-returns-then-not-fits-clause-owned g c = λ none run h. c.rows.invariant.owned none run (c.in_ok-row.ensures.owned none run h)
+returns-then-not-fits-clause-owned g c = λ none run h. c.rows.invariant.owned none run (c.in_ok-more.ensures.owned none run h)
 
 pub returns-clause-places : goal.returns-clause-places
 returns-clause-places g c = c.rows.invariant.same_length
 
 pub returns-clause-ours : goal.returns-clause-ours
 returns-clause-ours g c =
-    ours-stays (g.S.RunStore.runs c.rows.store) (g.S.RunStore.runs c.next.new.store) (g.R.RowSource.owns c.rows.source) (g.R.RowSource.owns c.next.new.self) c.rows.slots.items c.in_ok-row.ensures.others c.rows.invariant.ours
+    ours-stays (g.S.RunStore.runs c.rows.store) (g.S.RunStore.runs c.next.new.store) (g.R.RowSource.owns c.rows.source) (g.R.RowSource.owns c.next.new.self) c.rows.slots.items c.in_ok-more.ensures.others c.rows.invariant.ours
 
 pub returns-clause-apart : goal.returns-clause-apart
 returns-clause-apart g c =
-    apart-step (g.S.RunStore.runs c.rows.store) (g.S.RunStore.runs c.next.new.store) (g.R.RowSource.owns c.rows.source) (g.R.RowSource.owns c.next.new.self) (among c.rows.slots.items) c.in_ok-row.ensures.others c.rows.invariant.apart c.rows.invariant.ours.live
+    apart-step (g.S.RunStore.runs c.rows.store) (g.S.RunStore.runs c.next.new.store) (g.R.RowSource.owns c.rows.source) (g.R.RowSource.owns c.next.new.self) (among c.rows.slots.items) c.in_ok-more.ensures.others c.rows.invariant.apart c.rows.invariant.ours.live
 
 pub returns-clause-others : goal.returns-clause-others
 returns-clause-others g c =
-    leaves-trans _ _ _ _ _ _ c.rows.invariant.others (leaves-left (g.R.RowSource.owns c.rows.source) (g.R.RowSource.owns c.next.new.self) (among c.rows.slots.items) (g.S.RunStore.runs c.rows.store) (g.S.RunStore.runs c.next.new.store) c.in_ok-row.ensures.others)
+    leaves-trans _ _ _ _ _ _ c.rows.invariant.others (leaves-left (g.R.RowSource.owns c.rows.source) (g.R.RowSource.owns c.next.new.self) (among c.rows.slots.items) (g.S.RunStore.runs c.rows.store) (g.S.RunStore.runs c.next.new.store) c.in_ok-more.ensures.others)
 
 pub returns-clause-grows : goal.returns-clause-grows
-returns-clause-grows g c = λ run h. c.in_ok-row.ensures.others.grows run (c.rows.invariant.grows run h)
+returns-clause-grows g c = λ run h. c.in_ok-more.ensures.others.grows run (c.rows.invariant.grows run h)
 
 pub returns-clause-owned : goal.returns-clause-owned
-returns-clause-owned g c = λ none run h. c.rows.invariant.owned none run (c.in_ok-row.ensures.owned none run h)
+returns-clause-owned g c = λ none run h. c.rows.invariant.owned none run (c.in_ok-more.ensures.owned none run h)
 
-pub returns-in_err-row-clause-cause : goal.returns-in_err-row-clause-cause
-returns-in_err-row-clause-cause g c =
-    let e = c.in_err-row.field-0.0 in
-    if_err_is _ c.from_residual.result e c.from_residual.ensures.1 (cause-later e _ _ (g.S.RunStore.runs c.args.store.now) (g.S.RunStore.runs c.rows.store) (g.S.RunStore.runs c.next.new.store) c.rows.invariant.others c.in_err-row.ensures.cause)
+pub returns-in_err-more-clause-cause : goal.returns-in_err-more-clause-cause
+returns-in_err-more-clause-cause g c =
+    let e = c.in_err-more.field-0.0 in
+    if_err_is _ c.from_residual.result e c.from_residual.ensures.1 (cause-later e _ _ (g.S.RunStore.runs c.args.store.now) (g.S.RunStore.runs c.rows.store) (g.S.RunStore.runs c.next.new.store) c.rows.invariant.others c.in_err-more.ensures.cause)
 
 pub returns-clause-less_runs : goal.returns-clause-less_runs
 returns-clause-less_runs g c = c.rows.invariant.less_runs
 
 pub returns-clause-source : goal.returns-clause-source
-returns-clause-source g c = c.in_ok-row.ensures.ready
+returns-clause-source g c = c.in_ok-more.ensures.ready
 
 pub returns-clause-made : goal.returns-clause-made
-returns-clause-made g c = λ none. c.in_ok-row.ensures.made none ∙ c.rows.invariant.made none
+returns-clause-made g c = λ none. c.in_ok-more.ensures.made none ∙ c.rows.invariant.made none
 
 pub place_row-requires-clause-each : goal.place_row-requires-clause-each
 place_row-requires-clause-each g c = c.rows.invariant.each
@@ -243,7 +243,7 @@ place_row-requires-clause-places g c = c.rows.invariant.same_length
 
 pub place_row-requires-clause-ours : goal.place_row-requires-clause-ours
 place_row-requires-clause-ours g c =
-    ours-stays (g.S.RunStore.runs c.rows.store) (g.S.RunStore.runs c.next.new.store) (g.R.RowSource.owns c.rows.source) (g.R.RowSource.owns c.next.new.self) c.rows.slots.items c.in_ok-row.ensures.others c.rows.invariant.ours
+    ours-stays (g.S.RunStore.runs c.rows.store) (g.S.RunStore.runs c.next.new.store) (g.R.RowSource.owns c.rows.source) (g.R.RowSource.owns c.next.new.self) c.rows.slots.items c.in_ok-more.ensures.others c.rows.invariant.ours
 
 pub returns-in_err-placed-clause-read : goal.returns-in_err-placed-clause-read
 returns-in_err-placed-clause-read g c = IfOk-from_err c.from_residual-in_err-placed.result _ c.from_residual-in_err-placed.ensures.0
@@ -267,7 +267,7 @@ pub returns-in_err-placed-clause-ours : goal.returns-in_err-placed-clause-ours
 returns-in_err-placed-clause-ours g c = c.in_err-placed.ensures.ours
 
 pub returns-in_err-placed-clause-grows : goal.returns-in_err-placed-clause-grows
-returns-in_err-placed-clause-grows g c = λ run h. c.in_ok-row.ensures.others.grows run (c.rows.invariant.grows run h)
+returns-in_err-placed-clause-grows g c = λ run h. c.in_ok-more.ensures.others.grows run (c.rows.invariant.grows run h)
 
 pub returns-in_err-placed-clause-owned : goal.returns-in_err-placed-clause-owned
-returns-in_err-placed-clause-owned g c = λ none run h. c.rows.invariant.owned none run (c.in_ok-row.ensures.owned none run h)
+returns-in_err-placed-clause-owned g c = λ none run h. c.rows.invariant.owned none run (c.in_ok-more.ensures.owned none run h)

@@ -7,7 +7,7 @@ use Rattle.gq_record.proofs.decoding.take_body.Goals as goal
 use Rattle.gq_record.proofs.decoding.take_body.Goals.{then-count-len+in_ok-push, else-count-len}
 
 pub returns-in_default-clause-none : goal.returns-in_default-clause-none
-returns-in_default-clause-none c =
+returns-in_default-clause-none c = λ _.
     let some : 0 < length c.loop-rest.rest.now = grind arith in
     let none = rw c.in_default.is at c.in_ok-behind.ensures.none in
     no_row c.args.bytes.now c.loop-rest.rest.now (take c.loop-rest.count c.loop-rest.cells.items) c.loop-rest.invariant.begins c.loop-rest.invariant.fit some none

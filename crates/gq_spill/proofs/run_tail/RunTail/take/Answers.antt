@@ -22,7 +22,7 @@ returns-in-Err-fetch-clause-sound g c = λ honest damaged row behind fits u.
 pub returns-clause-row : goal.returns-clause-row
 returns-clause-row g c = λ honest.
     let still = subst IsTrue (sym c.fetch.ensures.store.kept.honest) honest in
-    used_row c.use_row.result (Unread c.args.self.now _) c.fetch-2.new.self c.use_row.new.self _ c.use_row.ensures.same.0 c.use_row.ensures.same.1
+    used_row c.use_row.result c.use_row.new.row (Unread c.args.self.now _) c.fetch-2.new.self c.use_row.new.self _ c.use_row.ensures.same.0 c.use_row.ensures.same.1
     (λ rest u. c.fetch-2.ensures.rest still rest (c.fetch.ensures.rest honest rest u)) c.use_row.ensures.row
 
 pub returns-clause-sound : goal.returns-clause-sound
