@@ -1,10 +1,10 @@
--- Fields of numbers call for no quotes.
-use Rattle.std.proofs.Common.{◌≡◌, ◌<◌, ◌^◌, ◌==◌, ◌∷◌, ◌++◌, ◌∙◌, [], ℕ, ℤ, suc, pos, negsuc, false, List, refl, ap, sym, length, map, arith, append_assoc, append-nil}
+-- Fields of numbers call for no quotes; the digits of small numbers.
+use Rattle.std.proofs.Common.{◌≡◌, ◌≤◌, ◌<◌, ◌+◌, ◌/◌, ◌%◌, ◌^◌, ◌==◌, ◌∷◌, ◌++◌, ◌∙◌, [], ℕ, ℤ, suc, pos, negsuc, false, List, refl, ap, sym, length, map, arith, append_assoc, append-nil}
 use Rattle.std.specs.Fmt.{decimal, signed_decimal}
 use Rattle.std.specs.Int.Signed.{mag}
 use Rattle.std.specs.Str.Parse.{AllDigits}
 use Rattle.std.proofs.lemmas.Str.Parse.{digit_from_value}
-use Rattle.std.proofs.lemmas.Fmt.{decimal_is_IsNumeral, decimal_nonempty}
+use Rattle.std.proofs.lemmas.Fmt.{decimal_digit, decimal_is_IsNumeral, decimal_nonempty, decimal_step}
 use Rattle.csv.specs.Writing.{default_writer, field_text, fields_text, is_blank, needs_byte, needs_quotes, row_body}
 use Rattle.gq_row.specs.declared.value.Value.{Value}
 use Rattle.gq_reply.specs.Bare.{row_record}
@@ -30,6 +30,17 @@ number_field z h = rw (plain_number z h) refl
 pub number_shown : (z : ℤ) → mag z < 2 ^ 63 → (length (signed_decimal z) == 0) ≡ false
 number_shown (pos n) h = let some = decimal_nonempty n (omega arith) in grind arith
 number_shown (negsuc n) h = grind arith
+
+-- the digits of a number that has one of them, two and three
+pub one_digit : (n ones : ℕ) → n < 10 → ones ≡ 48 + n % 10 → decimal n ≡ ones ∷ []
+one_digit n ones high o = let is : 48 + n ≡ ones = omega (arith, o) in rw (decimal_digit n high, is)
+
+pub two_digits : (n tens ones : ℕ) → 10 ≤ n → n < 100 → tens ≡ 48 + n / 10 % 10 → ones ≡ 48 + n % 10 → decimal n ≡ tens ∷ ones ∷ []
+two_digits n tens ones low high t o = rw (decimal_step n low (omega arith), one_digit (n / 10) tens (omega arith) t, o)
+
+pub three_digits : (n hundreds tens ones : ℕ) → 100 ≤ n → n < 1000 → hundreds ≡ 48 + n / 100 % 10 → tens ≡ 48 + n / 10 % 10 → ones ≡ 48 + n % 10 → decimal n ≡ hundreds ∷ tens ∷ ones ∷ []
+three_digits n hundreds tens ones low high h t o =
+    rw (decimal_step n (omega arith) (omega arith), two_digits (n / 10) hundreds tens (omega arith) (omega arith) (omega (arith, h)) t, o)
 
 -- the record of a row whose first field shows a byte
 pub record_shown : (v : Value) (rest : List Value) → (length (field_text default_writer (cell_text v)) == 0) ≡ false

@@ -2,7 +2,8 @@
 //!
 //! The rows of an answer in order stand anywhere among its cells, so that a processor waits for each. Here it looks at
 //! many rows before it writes the first of them: looks don't wait for one another.
-ghost use Rattle.std.specs.Prelude.{◌≡◌, ◌≤◌, ◌<◌, ◌++◌, ◌==◌, List, ℕ, IfOk, OnOk, false, true, length, take};
+ghost use Rattle.std.specs.Prelude.{◌≡◌, ◌≤◌, ◌<◌, ◌+◌, ◌%◌, ◌++◌, ◌==◌, List, ℕ, IfOk, OnOk, false, true, length, take};
+ghost use Rattle.std.specs.Fmt.{decimal, signed_decimal};
 ghost use Rattle.csv.specs.Writing.{default_writer, field_text};
 ghost use Rattle.gq_reply.specs.Bare.{AreBare, IsBare, is_bare, records, row_record};
 ghost use Rattle.gq_reply.specs.Replies.{cell_text};
@@ -111,17 +112,58 @@ fn write_row(text: &mut Vec<u8>, row: &[Value]) -> Result<(), AllocError>
 }
 
 // Writes the field of a cell.
-#[inline]
+#[inline(always)]
 fn write_cell(text: &mut Vec<u8>, cell: &Value) -> Result<(), AllocError>
     requires { is_bare cell.now ≡ true }
     ensures field { OnOk result (text.new.items ≡ text.old.items ++ field_text default_writer (cell_text cell.now)) }
     ensures shown { OnOk result ((length (field_text default_writer (cell_text cell.now)) == 0) ≡ false) }
 {
     match cell {
-        Value::Int(n) => {
-            let mut digits = Buffer::new();
-            text.extend_from_slice(digits.format(*n).as_bytes())
-        }
+        Value::Int(n) => write_number(text, *n),
         _ => text.extend_from_slice(b"\\N"),
     }
+}
+
+// Writes a number. Counts and sums mostly have few digits, which take less time than a buffer for the longest number.
+#[inline(always)]
+fn write_number(text: &mut Vec<u8>, n: i64) -> Result<(), AllocError>
+    ensures { OnOk result (text.new.items ≡ text.old.items ++ signed_decimal n) }
+{
+    match n {
+        0..=999 => write_small(text, n as u16),
+        _ => write_long(text, n),
+    }
+}
+
+// Writes up to three digits. The length of each array is known before the program runs, so that no call copies it.
+#[inline(always)]
+fn write_small(text: &mut Vec<u8>, n: u16) -> Result<(), AllocError>
+    requires { n < 1000 }
+    ensures { OnOk result (text.new.items ≡ text.old.items ++ decimal n) }
+{
+    let ones = last_digit(n);
+    if n < 10 {
+        return text.extend_from_slice(&[ones]);
+    }
+    let tens = last_digit(n / 10);
+    if n < 100 {
+        return text.extend_from_slice(&[tens, ones]);
+    }
+    text.extend_from_slice(&[last_digit(n / 100), tens, ones])
+}
+
+#[inline]
+fn last_digit(n: u16) -> u8
+    ensures { result ≡ 48 + n % 10 }
+{
+    b'0' + (n % 10) as u8
+}
+
+// Stands by itself, so that the loop over the cells makes no room for the buffer.
+#[inline(never)]
+fn write_long(text: &mut Vec<u8>, n: i64) -> Result<(), AllocError>
+    ensures { OnOk result (text.new.items ≡ text.old.items ++ signed_decimal n) }
+{
+    let mut digits = Buffer::new();
+    text.extend_from_slice(digits.format(n).as_bytes())
 }
