@@ -37,39 +37,63 @@ pub(crate) fn add_slots(level: u32, count: usize, slots: &mut Vec<Slot>) -> Resu
     Ok(())
 }
 
-// Writes a row to the run that is held, or to one that is begun for it. Answers how many were begun.
-fn write_to<S: RunStore>(
+// Begins a run where none is held, and writes its first row. Answers how many were begun.
+#[cold]
+fn begin_with<S: RunStore>(
     alloc: Global,
-    held: Option<RunWriter>,
+    held: &mut Option<RunWriter>,
     row: &Row,
     store: &mut S,
-) -> (Option<RunWriter>, Result<u64, Refusal>)
-    requires live { (run : ℕ) → IsTrue (is_run held run) → IsTrue ((S.runs store.old).live run) }
+) -> Result<u64, Refusal>
+    requires none { held.old ≡ None }
     requires storable { IsStorable row.now }
-    ensures holds { OnOk result.1 ((rows : List (List Cell)) →
-        SlotHolds (S.runs store.old) held rows →
-        SlotHolds (S.runs store.new) result.0 (rows ++ row.now ∷ [])) }
-    ensures began { IfOk result.1 (λ began. (rows : List (List Cell)) →
-        SlotHolds (S.runs store.old) held rows → one_if_some rows + began ≡ 1) }
-    ensures one { IfOk result.1 (λ began. began ≤ 1) }
-    ensures live { (run : ℕ) → IsTrue (is_run result.0 run) → IsTrue ((S.runs store.new).live run) }
-    ensures others { LeavesOthers (is_run held) (is_run result.0) (S.runs store.old) (S.runs
+    ensures holds { OnOk result (SlotHolds (S.runs store.new) held.new (row.now ∷ [])) }
+    ensures began { IfOk result (λ began. began ≡ 1) }
+    ensures live { (run : ℕ) → IsTrue (is_run held.new run) → IsTrue ((S.runs store.new).live run) }
+    ensures others { LeavesOthers (is_run None) (is_run held.new) (S.runs store.old) (S.runs
         store.new) }
-    ensures made { IfOk result.1 (λ began.
-        (S.runs store.new).made ≡ (S.runs store.old).made + began) }
-    ensures cause { (rows : List (List Cell)) → SlotHolds (S.runs store.old) held rows →
-        IfErr result.1 (λ e. HasCause e (S.runs store.old) (S.runs store.new)) }
+    ensures made { OnOk result ((S.runs store.new).made ≡ (S.runs store.old).made + 1) }
+    ensures cause { IfErr result (λ e. HasCause e (S.runs store.old) (S.runs store.new)) }
 {
-    let (mut writer, began) = match held {
-        Some(writer) => (writer, 0),
-        None => match RunWriter::begin(alloc, store) {
-            Ok(writer) => (writer, 1),
-            Err(why) => return (None, Err(Refusal::of(why))),
+    match RunWriter::begin(alloc, store) {
+        Ok(writer) => match held.insert(writer).write(store, row) {
+            Ok(()) => Ok(1),
+            Err(why) => Err(Refusal::of(why)),
         },
-    };
-    match writer.write(store, row) {
-        Ok(()) => (Some(writer), Ok(began)),
-        Err(why) => (Some(writer), Err(Refusal::of(why))),
+        Err(why) => Err(Refusal::of(why)),
+    }
+}
+
+// Writes a row to the run that is held, or to one that is begun for it. Answers how many were begun.
+// The writer isn't moved: it writes where it stands.
+fn write_to<S: RunStore>(
+    alloc: Global,
+    held: &mut Option<RunWriter>,
+    row: &Row,
+    store: &mut S,
+) -> Result<u64, Refusal>
+    requires live { (run : ℕ) → IsTrue (is_run held.old run) → IsTrue ((S.runs store.old).live run) }
+    requires storable { IsStorable row.now }
+    ensures holds { OnOk result ((rows : List (List Cell)) →
+        SlotHolds (S.runs store.old) held.old rows →
+        SlotHolds (S.runs store.new) held.new (rows ++ row.now ∷ [])) }
+    ensures began { IfOk result (λ began. (rows : List (List Cell)) →
+        SlotHolds (S.runs store.old) held.old rows → one_if_some rows + began ≡ 1) }
+    ensures one { IfOk result (λ began. began ≤ 1) }
+    ensures live { (run : ℕ) → IsTrue (is_run held.new run) → IsTrue ((S.runs store.new).live run) }
+    ensures others { LeavesOthers (is_run held.old) (is_run held.new) (S.runs store.old) (S.runs
+        store.new) }
+    ensures made { IfOk result (λ began.
+        (S.runs store.new).made ≡ (S.runs store.old).made + began) }
+    ensures cause { (rows : List (List Cell)) → SlotHolds (S.runs store.old) held.old rows →
+        IfErr result (λ e. HasCause e (S.runs store.old) (S.runs store.new)) }
+{
+    match held {
+        Some(writer) => match writer.write(store, row) {
+            Ok(()) => Ok(0),
+            Err(why) => Err(Refusal::of(why)),
+        },
+        None => begin_with(alloc, held, row, store),
     }
 }
 
@@ -101,10 +125,7 @@ pub(crate) fn spill<S: RunStore>(
         AllHeld (S.runs store.old) slots.old.items parts →
         IfErr result (λ e. HasCause e (S.runs store.old) (S.runs store.new)) }
 {
-    let held = slots[place].writer.take();
-    let (writer, outcome) = write_to(alloc, held, row, store);
-    slots[place].writer = writer;
-    outcome
+    write_to(alloc, &mut slots[place].writer, row, store)
 }
 
 // Discards the runs of all slots.
