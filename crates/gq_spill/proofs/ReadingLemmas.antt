@@ -1,6 +1,6 @@
 -- What is left of a run, and the rows that a reader still gives.
 use Rattle.std.proofs.Common.{◌≡◌, ℕ, ◌+◌, ◌-◌, ◌<◌, ◌≤◌, List, [], ◌∷◌, ◌++◌, length, take, drop, All, Some, Result, Ok, Err, refl, sym, ap, subst, ◌∙◌, arith, IsTrue}
-use Rattle.std.specs.Prelude.{◌^◌, OnOk, OnErr, IfOk, IsErrOf}
+use Rattle.std.specs.Prelude.{◌^◌, OnOk, OnErr, IsErrOf}
 use Rattle.std.specs.Int.{w32, to_be_bytes}
 use Rattle.std.proofs.lemmas.List.{drop_at, take-append-drop, append_assoc, length-append, length-take-le}
 use Rattle.std.proofs.lemmas.List.Elements.{All-head, All-tail}
