@@ -24,7 +24,7 @@ returns-in_err-bytes-clause-refused g c =
     let found : table_at db c.args.name.now ≡ Some c.in_ok-table.table.now = search rules in
     let p = err_from_is_err_and c.from_residual-in_err-bytes.result c.from_residual-in_err-bytes.ensures.1 in
     rw p.1 (inr (load_untold c.args.limits.now.bounds db c.args.name.now c.in_ok-table.table.now found c.args.payload p.0 (sym c.is_lost.ensures ∙ c.if-is_lost.false)
-        (sym c.in_err-bytes.ensures ∙ ap (λ (w : Refused). Err w) (sym p.2))))
+    (sym c.in_err-bytes.ensures ∙ ap (λ (w : Refused). Err w) (sym p.2))))
 
 pub returns-clause-staged : goal.returns-clause-staged
 returns-clause-staged g c =
