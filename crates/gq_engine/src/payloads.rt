@@ -14,7 +14,7 @@ use crate::catalog::Catalog;
 use gq_command::Payload;
 use gq_load::{LoadRefusal, RowReader, line_ends};
 use gq_reply::{Refusal, Refused};
-use gq_row::{Key, Limits, Row, Sequence};
+use gq_row::{Key, Limits, Row, Schema, Sequence};
 use gq_table::{Table, TableRefusal};
 use std::alloc::Global;
 use sw_probe::KeyHash;
@@ -73,15 +73,33 @@ fn stage<H: KeyHash<Key> + Copy>(
     ensures refused { IfErr result (λ why. (why ≡ unnumbered Memory)
         ⊎ (rows_told limits.now.bounds table.now.heading bytes.now ≡ Err why)) }
 {
-    let mut reader = match RowReader::new(alloc, bytes, table.schema(), limits) {
+    // It grows as keys come, as records may share theirs: rows that lie close are found faster.
+    let mut staged = table.new_like()?;
+    let count = stage_all(alloc, bytes, table.schema(), &mut staged, limits)?;
+    Ok((staged, count))
+}
+
+// Puts the rows of a payload into a table of this schema that has none, and answers how many they were.
+fn stage_all<H: KeyHash<Key> + Copy>(
+    alloc: Global,
+    bytes: &[u8],
+    schema: &Schema,
+    staged: &mut Table<H>,
+    limits: &Limits,
+) -> Result<u64, Refused>
+    requires heading { staged.old.heading ≡ schema.now }
+    requires empty { staged.old.rows ≡ [] }
+    ensures staged { IfOk result (λ count. HasStaged (rows_told limits.now.bounds schema.now bytes.now)
+        schema.now staged.new count) }
+    ensures refused { IfErr result (λ why. (why ≡ unnumbered Memory)
+        ⊎ (rows_told limits.now.bounds schema.now bytes.now ≡ Err why)) }
+{
+    let mut reader = match RowReader::new(alloc, bytes, schema, limits) {
         Ok(reader) => reader,
         Err(fault) => return Err(refused_by(fault)),
     };
-    // It grows as keys come, as records may share theirs: rows that lie close are found faster.
-    let mut staged = table.new_like()?;
     let lines = line_ends(bytes).min(limits.bounds.rows);
-    let count = stage_rows(alloc, &mut reader, &mut staged, lines, limits)?;
-    Ok((staged, count))
+    stage_rows(alloc, &mut reader, staged, lines, limits)
 }
 
 // Makes room for all lines of a payload where an eighth of them are read and hardly one of their rows

@@ -58,27 +58,51 @@ where
     };
     match options.spill {
         None => {
-            let mut engine = engine_over(alloc, options, seed, MemStore::new(alloc));
-            let status = run_in(&mut engine, options, seed, opener, input, replies, errors);
-            leave(engine);
-            status
+            let store = MemStore::new(alloc);
+            run_over(alloc, options, seed, store, opener, input, replies, errors)
         }
         Some(folder) => match DirStore::new(alloc, files, folder) {
-            Ok(store) => {
-                let mut engine = engine_over(alloc, options, seed, store);
-                let status = run_in(&mut engine, options, seed, opener, input, replies, errors);
-                leave(engine);
-                status
-            }
+            Ok(store) => run_over(alloc, options, seed, store, opener, input, replies, errors),
             Err(AllocError) => stop_for_memory(errors),
         },
     }
 }
 
-// Leaves an engine's memory and files to the system, which takes them all at once as the program ends:
-// to give the cells back one by one takes a twentieth of a load's time.
-fn leave<S: RunStore + Drop>(engine: Engine<Spread, S>) {
+// Runs the script in a new engine over a run store. It leaves the engine's memory and files to the system, which takes
+// them all at once as the program ends: to give the cells back one by one takes a twentieth of a load's time.
+fn run_over<T, R, S, F, W, E>(
+    alloc: Global,
+    options: Options,
+    seed: RunSeed,
+    store: T,
+    opener: F,
+    input: R,
+    replies: &mut W,
+    errors: &mut E,
+) -> u8
+where
+    T: RunStore + Drop,
+    R: Read + Drop,
+    S: Read + Drop,
+    F: FnOnce(&str) -> io::Result<S>,
+    W: Write,
+    E: Write,
+    requires callable { F.IsAlwaysCallable opener }
+    requires honest { (T.runs store).honest ≡ (setting_by (asked_by options).spill).honest }
+    requires failures { (T.runs store).failures ≡ 0 }
+    ensures { RanNamed
+        (record {
+          input = R.remaining input;
+          remaining = S.remaining;
+          opens = λ name opened. FnOnceReturnsAt F.FnOnce opener name opened;
+        })
+        (asked_by options.entry) seed (asked_by options.entry).script (stream W.contents replies.old replies.new)
+        (stream E.contents errors.old errors.new) result }
+{
+    let mut engine = engine_over(alloc, options, seed, store);
+    let status = run_in(&mut engine, options, seed, opener, input, replies, errors);
     mem::forget(engine);
+    status
 }
 
 // An engine without tables over a run store.
