@@ -1,8 +1,9 @@
 -- A group's running aggregates, one after the other.
-use Rattle.std.proofs.Common.{◌≡◌, ◌<◌, ℕ, zero, suc, Bool, true, false, ◌||◌, List, [], ◌∷◌, ◌++◌, length, take, drop, slice_index_or, slice_set, refl, sym, ap, ◌∙◌, arith}
+use Rattle.std.proofs.Common.{◌≡◌, ◌<◌, ℕ, zero, suc, ◌+◌, Bool, true, false, ◌||◌, List, [], ◌∷◌, ◌++◌, length, take, drop, get_or, slice_index_or, slice_set, refl, sym, ap, ◌∙◌, arith}
+use Rattle.std.specs.Prelude.{IsTrue, nat_lt}
 use Rattle.std.specs.List.{list_all, list_any}
-use Rattle.std.proofs.lemmas.Bool.{and_parts}
-use Rattle.std.proofs.lemmas.List.{length-map, map-append}
+use Rattle.std.proofs.lemmas.Bool.{and_parts, ltb-true}
+use Rattle.std.proofs.lemmas.List.{append_assoc, length-map, map-append, take_at, take_more}
 use Rattle.gq_row.specs.declared.value.Value.{Value}
 use Rattle.gq_row.specs.Rows.{cell}
 use Rattle.gq_agg.specs.declared.kind.AggKind.{AggKind}
@@ -10,7 +11,7 @@ use Rattle.gq_agg.specs.declared.kind.AggKind.TheVariants as kind
 use Rattle.gq_agg.specs.Aggregates.{aggregate}
 use Rattle.gq_agg.specs.Running.{Running, tally, kept, kind_of}
 use Rattle.gq_group.specs.Entries.{tallies}
-use Rattle.gq_group.specs.Groups.{answers, column_of, fits_cell, is_none}
+use Rattle.gq_group.specs.Groups.{Spec, answers, column_of, fits_cell, fits_spec, has_columns, is_none}
 
 pub kind_kept : (k : AggKind) (values : List Value) → kind_of (kept k values) ≡ k
 kind_kept kind.CountAll values = refl
@@ -113,3 +114,32 @@ next_of (a ∷ asked) rows (suc i) x rest h =
 pub all_taken : (asked : List (AggKind × ℕ)) (rows : List (List Value)) → take (length (tallies asked rows)) (answers asked rows) ≡ answers asked rows
 all_taken [] rows = refl
 all_taken (a ∷ asked) rows = ap (λ l. aggregate a.0 (column_of a.1 rows) ∷ l) (all_taken asked rows)
+
+-- ---- aggregates of no row, behind others
+
+pub tallies_more : (asked : List (AggKind × ℕ)) (i : ℕ) (d : AggKind × ℕ) (x : Running) (others now new : List Running) → i < length asked
+    → now ≡ others ++ tallies (take i asked) [] → x ≡ tally (get_or asked i d).0 [] → new ≡ now ++ x ∷ []
+    → new ≡ others ++ tallies (take (i + 1) asked) []
+tallies_more asked i d x others now new less so_far is push =
+    push
+    ∙ (λ k. so_far k ++ is k ∷ [])
+    ∙ append_assoc others (tallies (take i asked) []) (tally (get_or asked i d).0 [] ∷ [])
+    ∙ ap (λ l. others ++ l) (sym (map-append (λ (a : AggKind × ℕ). tally a.0 []) (take i asked) (get_or asked i d ∷ [])))
+    ∙ ap (λ l. others ++ tallies l []) (sym (take_more asked i d less))
+
+pub others_stay : (others more now : List Running) → now ≡ others ++ more → take (length others) now ≡ others
+others_stay others more now is = ap (take (length others)) is ∙ take_at others more (length others) refl
+
+-- ---- what a row that fits has
+
+pub columns_fit : (spec : Spec) (row cells : List Value) (by : List ℕ) → by ≡ spec.by → cells ≡ row → fits_spec spec row ≡ true → (k d : ℕ) → k < length by → get_or by k d < length cells
+columns_fit spec row cells by by_is cells_is fits k d less =
+    let all = (and_parts (has_columns spec.by row) (list_all (fits_cell row) spec.aggs) fits).0 in
+    let same = ap (λ ks. get_or ks k d) by_is in
+    let long = ap length by_is in
+    let wide = ap length cells_is in
+    let fit = ltb-true (get_or spec.by k d) (length row) (passes_at (λ column. nat_lt column (length row)) spec.by k d (omega (arith, less, long)) all) in
+    omega (arith, same, wide, fit)
+
+pub cells_fit : (spec : Spec) (row : List Value) (asked : List (AggKind × ℕ)) → asked ≡ spec.aggs → fits_spec spec row ≡ true → IsTrue (list_all (fits_cell row) asked)
+cells_fit spec row asked is fits = ap (list_all (fits_cell row)) is ∙ (and_parts (has_columns spec.by row) (list_all (fits_cell row) spec.aggs) fits).1

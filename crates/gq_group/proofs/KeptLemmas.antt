@@ -349,6 +349,16 @@ pub listed_more : (each : ℕ) (keys : List (List Value)) (xs ys more : List Run
 listed_more each keys xs ys more k long is kept none =
     ap listed (pairs_push each keys xs ys more k long is kept.whole) ∙ listed_push (pairs_from each 0 xs keys) (k, more) none
 
+-- a key alone, and its aggregates
+pub kept_alone : (each : ℕ) (running : List Running) (keys : List (List Value)) (k : List Value) → keys ≡ k ∷ [] → length running ≡ each → AreKept each running keys
+kept_alone each running keys k alone long =
+    subst (AreKept each running) (sym alone) (kept_more each [] [] running running k long refl (kept-none each [] [] refl refl) (get-empty _ _))
+
+pub listed_alone : (each : ℕ) (running : List Running) (keys : List (List Value)) (k : List Value) → keys ≡ k ∷ [] → length running ≡ each
+    → listed (pairs_from each 0 running keys) ≡ insert empty (class_of k) (k, running)
+listed_alone each running keys k alone long =
+    ap (λ ks. listed (pairs_from each 0 running ks)) alone ∙ listed_more each [] [] running running k long refl (kept-none each [] [] refl refl) (get-empty _ _)
+
 -- ---- groups that leave
 
 module _ (each start : ℕ) (items : List Running) (old rest : List (List Value)) (key : List Value) where

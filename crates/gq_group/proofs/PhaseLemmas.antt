@@ -1,6 +1,6 @@
 -- Two phases with a run between them: whose runs are left alone.
 use Rattle.std.proofs.Common.{◌≡◌, ◌+◌, ◌||◌, ℕ, Bool, true, false, Result, Ok, Err, refl, sym, ap, subst, ◌∙◌, inl, inr, arith}
-use Rattle.std.specs.Prelude.{IsTrue, OnOk, IfOk}
+use Rattle.std.specs.Prelude.{IsTrue, OnOk, IfOk, IfErr}
 use Rattle.gq_spill.specs.Runs.{Runs}
 use Rattle.gq_group.specs.Access.{RunSet, either, Apart, LeavesOthers, KeepsOwn, HasCause, GroupCause}
 use Rattle.gq_group.specs.Phases.{blamed_as}
@@ -10,9 +10,9 @@ use Rattle.gq_group.specs.Work.{Spills, SpillsTwice}
 use Rattle.gq_group.specs.declared.grouping.Spent.{Spent}
 use Rattle.gq_group.specs.declared.refusal.Refusal.{Refusal}
 use Rattle.gq_group.specs.declared.refusal.Refusal.TheVariants.{SumRange, Memory, StoreFault, Damaged}
-use Rattle.gq_group.proofs.AccessLemmas.{or_in, or_left, or_right, leaves-trans, leaves-both}
+use Rattle.gq_group.proofs.AccessLemmas.{or_in, or_from, or_left, or_right, leaves-trans, leaves-both}
 use Rattle.gq_group.proofs.GoneLemmas.{leaves-gone}
-use Rattle.gq_group.proofs.ReadLemmas.{leaves-left}
+use Rattle.gq_group.proofs.ReadLemmas.{apart-flip, leaves-left}
 
 nowhere : (b : Bool) → (IsTrue b → ⊥) → b ≡ false
 nowhere true h = absurd (h refl)
@@ -89,6 +89,13 @@ apart-other a b c apart run h = or_right (b run) (c run) (apart run h)
 pub none_apart : (k : RunSet) → Apart (λ run. false) k
 none_apart k run h = let bad : false ≡ true = h in let none : ⊥ = cc in absurd none
 
+-- what has become more is apart from others that are so
+pub apart-grown : (mine more a k : RunSet) → Apart a more → ((run : ℕ) → IsTrue (mine run) → IsTrue (more run)) → Apart mine k → Apart mine (either a k)
+apart-grown mine more a k apart grows rest = apart-either mine a k (λ run h. apart-flip a more apart run (grows run h)) rest
+
+pub either-grows : (a a' k k' : RunSet) → ((run : ℕ) → IsTrue (a run) → IsTrue (a' run)) → ((run : ℕ) → IsTrue (k run) → IsTrue (k' run)) → (run : ℕ) → IsTrue (either a k run) → IsTrue (either a' k' run)
+either-grows a a' k k' first then run h = or_from (a' run) (k' run) (elim (or_in (a run) (k run) h) [ inl x ↦ inl (first run x) | inr x ↦ inr (then run x) ])
+
 -- a run that is made is apart from those that are there
 pub apart-new : (n : ℕ) (k : RunSet) (r : Runs) → r.live n ≡ false → ((run : ℕ) → IsTrue (k run) → IsTrue (r.live run)) → Apart (only n) k
 apart-new n k r new live run h =
@@ -112,7 +119,22 @@ cause-blamed Memory old new cause none = tt
 cause-blamed StoreFault old new cause none = cause
 cause-blamed Damaged old new cause none = cause
 
+pub cause-later : (e : Refusal) (a b : RunSet) (r s t : Runs) → LeavesOthers a b r s → HasCause e s t → HasCause e r t
+cause-later SumRange a b r s t step h = h
+cause-later Memory a b r s t step h = tt
+cause-later StoreFault a b r s t step h = omega (arith, step.no_fewer_failures, h)
+cause-later Damaged a b r s t step h = λ honest. h (step.same_honest ∙ honest)
+
+pub cause-memory : {T : Type 0} (result : Result T Refusal) (r s : Runs) → IfErr result (λ e. e ≡ Memory) → IfErr result (λ e. HasCause e r s)
+cause-memory (Ok x) r s h = tt
+cause-memory (Err e) r s is = subst (λ (e : Refusal). HasCause e r s) (sym is) tt
+
 -- ---- results
+
+pub made_twice : {E : Type 0} (r s t first second : ℕ) (result : Result Spent E) → s ≡ r + first → t ≡ s + second → IfOk result (λ spent. spent.runs ≡ 1 + first + second)
+    → IfOk result (λ spent. t + 1 ≡ r + spent.runs)
+made_twice r s t first second (Ok spent) one two runs = omega (arith, one, two, runs)
+made_twice r s t first second (Err e) one two runs = tt
 
 pub ok_anyway : {T E : Type 0} (P : Type 0) (result : Result T E) → P → OnOk result P
 ok_anyway P (Ok x) h = h

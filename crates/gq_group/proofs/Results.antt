@@ -49,3 +49,7 @@ err_of_was {T = T} {E = E} (Err y) q e x is was of = was ∙ ap (λ (z : E). Err
   where
     inside : IsErrOf {T = T} (Err y) x → y ≡ x
     inside h = cc
+
+pub on_err_so : {T E : Type 0} (P : Type 0) (r : Result T E) → P → OnErr r P
+on_err_so P (Ok x) h = tt
+on_err_so P (Err e) h = h

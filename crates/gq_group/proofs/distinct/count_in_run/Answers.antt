@@ -1,15 +1,18 @@
 use Rattle.std.proofs.Common.{◌≡◌, ◌++◌, [], List, length, Err, true, true≢false, arith, sym, ap, subst, ◌∙◌, refl}
+use Rattle.std.specs.Prelude.{IsTrue}
 use Rattle.std.proofs.lemmas.Grind.{common_steps}
+use Rattle.std.proofs.lemmas.Result.{IfOk-from_err}
 use Rattle.gq_spill.specs.declared.run_mark.RunMark.{RunMark}
 use Rattle.gq_group.specs.Access.{either, Apart, HasCause}
-use Rattle.gq_group.specs.Groups.{Spec, Group, keys_of, out_of_range}
+use Rattle.gq_group.specs.Groups.{Spec, Group, all_fit, keys_of, out_of_range}
 use Rattle.gq_group.specs.RunSources.{only}
 use Rattle.gq_group.specs.declared.refusal.Refusal.{Refusal}
 use Rattle.gq_group.proofs.AccessLemmas.{apart-later, keeps-apart, leaves-refl}
 use Rattle.gq_group.proofs.FirstLemmas.{Pairing}
-use Rattle.gq_group.proofs.PairLemmas.{pairs_range, between, left_between, few_between, as_many_keys, both_pushed, both_counted}
-use Rattle.gq_group.proofs.PhaseLemmas.{cause-blamed, leaves-phases, apart-both, apart-one, ok_anyway, if_ok_both, taken_twice}
+use Rattle.gq_group.proofs.PairLemmas.{pairs_fit, pairs_range, between, left_between, few_between, as_many_keys, both_pushed, both_counted}
+use Rattle.gq_group.proofs.PhaseLemmas.{cause-blamed, cause-later, cause-memory, leaves-phases, apart-both, apart-either, apart-grown, apart-one, either-grows, made_twice, ok_anyway, if_ok_both, same_run, taken_twice}
 use Rattle.gq_group.proofs.ReadLemmas.{apart-flip}
+use Rattle.gq_group.proofs.Results.{on_ok_err, if_err_is}
 use Rattle.gq_group.proofs.distinct.count_in_run.Goals as goal
 
 pub returns-in-Err-clause-cause : goal.returns-in-Err-clause-cause
@@ -135,10 +138,16 @@ returns-clause-spills g c = λ h.
     (read ∙ as_many_keys p known.0 it.out it.are ∙ sym told) c.in_all.ensures.read c.in_all.ensures.written c.in_all.ensures.groups c.in_all.ensures.runs
 
 pub count_pairs-requires-clause-apart : goal.count_pairs-requires-clause-apart
-count_pairs-requires-clause-apart g c = grind (arith, common_steps)
+count_pairs-requires-clause-apart g c =
+    let one = same_run c.group.new.sink.writer.mark.id.number c.args.keys.writer.mark.id.number c.in-Ok-group.ensures.grows_sink in
+    subst (λ m. Apart (only m) (g.K.GroupSink.owns c.args.sink.now)) (sym (ap (λ (m : RunMark). m.id.number) c.finish-mark.ensures ∙ one)) c.requires.apart_sink
 
 pub returns-then-mark-first-clause-others : goal.returns-then-mark-first-clause-others
-returns-then-mark-first-clause-others g c = grind (arith, common_steps)
+returns-then-mark-first-clause-others g c =
+    let s = g.S.RunStore.runs c.group.new.store in
+    let m = c.group.new.sink.writer.mark.id.number in
+    let k = g.K.GroupSink.owns c.args.sink.now in
+    leaves-phases c.args.keys.writer.mark.id.number m m _ _ k k _ s s c.in-Ok-group.ensures.grows_sink refl c.in-Ok-group.ensures.others (leaves-refl (either (only m) k) s)
 
 pub returns-in-Err-clause-others : goal.returns-in-Err-clause-others
 returns-in-Err-clause-others g c =
@@ -146,3 +155,113 @@ returns-in-Err-clause-others g c =
     let m = c.group.new.sink.writer.mark.id.number in
     let k = g.K.GroupSink.owns c.args.sink.now in
     leaves-phases c.args.keys.writer.mark.id.number m m _ _ k k _ s s c.in-Err.ensures.grows_sink refl c.in-Err.ensures.others (leaves-refl (either (only m) k) s)
+
+pub returns-in_default-clause-others : goal.returns-in_default-clause-others
+returns-in_default-clause-others g c = leaves-refl _ _
+
+pub returns-in_default-clause-apart : goal.returns-in_default-clause-apart
+returns-in_default-clause-apart g c =
+    apart-either _ _ _ (apart-flip (g.R.RowSource.owns c.args.source.now) (only c.args.keys.writer.mark.id.number) c.requires.apart_source) c.requires.apart_sink
+
+pub returns-in_default-clause-grows : goal.returns-in_default-clause-grows
+returns-in_default-clause-grows g c = λ run h. h
+
+pub group-requires-clause-source : goal.group-requires-clause-source
+group-requires-clause-source g c = c.requires.source
+
+pub group-requires-clause-sink : goal.group-requires-clause-sink
+group-requires-clause-sink g c = c.requires.keys
+
+pub group-requires-clause-apart : goal.group-requires-clause-apart
+group-requires-clause-apart g c = c.requires.apart_source
+
+pub group-requires-clause-few : goal.group-requires-clause-few
+group-requires-clause-few g c = c.requires.few
+
+pub group-requires-clause-widths : goal.group-requires-clause-widths
+group-requires-clause-widths g c = c.requires.widths
+
+pub group-requires-clause-rows : goal.group-requires-clause-rows
+group-requires-clause-rows g c = λ h rows given.
+    subst (λ (it : Spec). IsTrue (all_fit it rows)) (sym c.in-Ok.ensures) (pairs_fit (record { by = c.args.by.now; column = c.args.column }) rows (c.requires.rows h rows given))
+
+pub returns-in-Err-clause-apart : goal.returns-in-Err-clause-apart
+returns-in-Err-clause-apart g c =
+    apart-grown (only c.args.keys.writer.mark.id.number) (only c.group.new.sink.writer.mark.id.number) (g.R.RowSource.owns c.group.new.source) (g.K.GroupSink.owns c.args.sink.now) c.in-Err.ensures.apart c.in-Err.ensures.grows_sink c.requires.apart_sink
+
+pub returns-in-Err-clause-grows : goal.returns-in-Err-clause-grows
+returns-in-Err-clause-grows g c = either-grows (g.R.RowSource.owns c.args.source.now) (g.R.RowSource.owns c.group.new.source) (g.K.GroupSink.owns c.args.sink.now) (g.K.GroupSink.owns c.args.sink.now) c.in-Err.ensures.grows_source (λ run h. h)
+
+pub returns-then-mark-first-clause-apart : goal.returns-then-mark-first-clause-apart
+returns-then-mark-first-clause-apart g c =
+    apart-grown (only c.args.keys.writer.mark.id.number) (only c.group.new.sink.writer.mark.id.number) (g.R.RowSource.owns c.group.new.source) (g.K.GroupSink.owns c.args.sink.now) c.in-Ok-group.ensures.apart c.in-Ok-group.ensures.grows_sink c.requires.apart_sink
+
+pub returns-then-mark-first-clause-grows : goal.returns-then-mark-first-clause-grows
+returns-then-mark-first-clause-grows g c = either-grows (g.R.RowSource.owns c.args.source.now) (g.R.RowSource.owns c.group.new.source) (g.K.GroupSink.owns c.args.sink.now) (g.K.GroupSink.owns c.args.sink.now) c.in-Ok-group.ensures.grows_source (λ run h. h)
+
+pub count_pairs-requires-clause-live : goal.count_pairs-requires-clause-live
+count_pairs-requires-clause-live g c =
+    let s = g.S.RunStore.runs c.group.new.store in
+    subst (λ (m : RunMark). IsTrue (s.live m.id.number)) (sym c.finish-mark.ensures) c.in-Ok-group.ensures.sink.live
+
+pub count_pairs-requires-clause-few : goal.count_pairs-requires-clause-few
+count_pairs-requires-clause-few g c = omega (arith, c.if-mark-first.false, c.in-Ok-group.ensures.read, c.requires.few)
+
+pub returns-in_err-second-clause-groups : goal.returns-in_err-second-clause-groups
+returns-in_err-second-clause-groups g c = λ h. on_ok_err _ c.from_residual.result c.from_residual.ensures.0
+
+pub returns-in_err-second-clause-counts : goal.returns-in_err-second-clause-counts
+returns-in_err-second-clause-counts g c = λ h. IfOk-from_err c.from_residual.result _ c.from_residual.ensures.0
+
+pub returns-in_err-second-clause-spills : goal.returns-in_err-second-clause-spills
+returns-in_err-second-clause-spills g c = λ h. IfOk-from_err c.from_residual.result _ c.from_residual.ensures.0
+
+pub returns-in_err-second-clause-made : goal.returns-in_err-second-clause-made
+returns-in_err-second-clause-made g c = λ h i. IfOk-from_err c.from_residual.result _ c.from_residual.ensures.0
+
+pub returns-in_err-second-clause-source : goal.returns-in_err-second-clause-source
+returns-in_err-second-clause-source g c = on_ok_err _ c.from_residual.result c.from_residual.ensures.0
+
+pub returns-in_err-second-clause-sink : goal.returns-in_err-second-clause-sink
+returns-in_err-second-clause-sink g c = on_ok_err _ c.from_residual.result c.from_residual.ensures.0
+
+pub returns-in_err-second-clause-apart : goal.returns-in_err-second-clause-apart
+returns-in_err-second-clause-apart g c =
+    let grows = c.in-Ok-group.ensures.grows_sink in
+    let later = subst (λ (m : RunMark). Apart (only m.id.number) (g.K.GroupSink.owns c.count_pairs.new.sink)) c.finish-mark.ensures c.count_pairs.ensures.apart in
+    apart-grown (only c.args.keys.writer.mark.id.number) (only c.group.new.sink.writer.mark.id.number) (g.R.RowSource.owns c.group.new.source) (g.K.GroupSink.owns c.count_pairs.new.sink) c.in-Ok-group.ensures.apart grows (λ run h. later run (grows run h))
+
+pub returns-in_err-second-clause-grows : goal.returns-in_err-second-clause-grows
+returns-in_err-second-clause-grows g c = either-grows (g.R.RowSource.owns c.args.source.now) (g.R.RowSource.owns c.group.new.source) (g.K.GroupSink.owns c.args.sink.now) (g.K.GroupSink.owns c.count_pairs.new.sink) c.in-Ok-group.ensures.grows_source c.count_pairs.ensures.grows
+
+pub returns-clause-apart : goal.returns-clause-apart
+returns-clause-apart g c =
+    let grows = c.in-Ok-group.ensures.grows_sink in
+    let later = subst (λ (m : RunMark). Apart (only m.id.number) (g.K.GroupSink.owns c.count_pairs.new.sink)) c.finish-mark.ensures c.count_pairs.ensures.apart in
+    apart-grown (only c.args.keys.writer.mark.id.number) (only c.group.new.sink.writer.mark.id.number) (g.R.RowSource.owns c.group.new.source) (g.K.GroupSink.owns c.count_pairs.new.sink) c.in-Ok-group.ensures.apart grows (λ run h. later run (grows run h))
+
+pub returns-clause-grows : goal.returns-clause-grows
+returns-clause-grows g c = either-grows (g.R.RowSource.owns c.args.source.now) (g.R.RowSource.owns c.group.new.source) (g.K.GroupSink.owns c.args.sink.now) (g.K.GroupSink.owns c.count_pairs.new.sink) c.in-Ok-group.ensures.grows_source c.count_pairs.ensures.grows
+
+pub returns-in_err-second-clause-cause : goal.returns-in_err-second-clause-cause
+returns-in_err-second-clause-cause g c =
+    let r = g.S.RunStore.runs c.args.store.now in
+    let s = g.S.RunStore.runs c.group.new.store in
+    let t = g.S.RunStore.runs c.count_pairs.new.store in
+    if_err_is (λ (e : Refusal). HasCause e r t) c.from_residual.result c.in_err-second.field-0.0 c.from_residual.ensures.1 (cause-later c.in_err-second.field-0.0 _ _ r s t c.in-Ok-group.ensures.others c.in_err-second.ensures.cause)
+
+pub returns-clause-made : goal.returns-clause-made
+returns-clause-made g c = λ h i.
+    let r = g.S.RunStore.runs c.args.store.now in
+    let s = g.S.RunStore.runs c.group.new.store in
+    let t = g.S.RunStore.runs c.count_pairs.new.store in
+    made_twice r.made s.made t.made c.in-Ok-group.first.runs c.in_ok-second.second.runs c.in_all.result (c.in-Ok-group.ensures.made h refl) (c.in_ok-second.ensures.made i) c.in_all.ensures.runs
+
+pub returns-clause-sink : goal.returns-clause-sink
+returns-clause-sink g c = ok_anyway _ c.in_all.result c.in_ok-second.ensures.sink
+
+pub returns-clause-cause : goal.returns-clause-cause
+returns-clause-cause g c = cause-memory c.in_all.result (g.S.RunStore.runs c.args.store.now) (g.S.RunStore.runs c.count_pairs.new.store) c.in_all.ensures.cause
+
+pub count_pairs-requires-clause-short : goal.count_pairs-requires-clause-short
+count_pairs-requires-clause-short g c = grind (arith, common_steps)
