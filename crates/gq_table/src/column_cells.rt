@@ -109,7 +109,8 @@ impl ColumnCells {
         ensures appended { OnOk result (self.new ≡ self.old ++ more) }
         ensures unchanged { OnErr result (self.new ≡ self.old) }
     {
-        self.stored.append(alloc, more.stored)
+        let mut more = more;
+        self.stored.append(alloc, &mut more.stored)
     }
 
     /// Leaves out all cells but the first, so many.
@@ -180,24 +181,12 @@ impl Stored {
         Ok(())
     }
 
-    // The cells as values.
-    fn into_values(self, alloc: Global) -> Result<Vec<Value>, AllocError>
-        ensures { IfOk result (λ values. values.items ≡ cells_of self) }
-    {
-        match self {
-            Stored::Numbers(numbers) => values_of(alloc, numbers.as_slice()),
-            Stored::Nullable(numbers) => values_of_nullable(alloc, numbers.as_slice()),
-            Stored::Values(values) => Ok(values),
-        }
-    }
-
     // Puts other cells behind these: numbers behind numbers, and else values behind values.
-    fn append(&mut self, alloc: Global, more: Stored) -> Result<(), AllocError>
-        ensures appended { OnOk result (cells_of self.new ≡ cells_of self.old ++ cells_of more) }
+    fn append(&mut self, alloc: Global, more: &mut Stored) -> Result<(), AllocError>
+        ensures appended { OnOk result (cells_of self.new ≡ cells_of self.old ++ cells_of more.old) }
         ensures unchanged { OnErr result (cells_of self.new ≡ cells_of self.old) }
     {
-        let mut more = more;
-        match (&mut *self, &mut more) {
+        match (&mut *self, &mut *more) {
             (Stored::Numbers(numbers), Stored::Numbers(behind)) => {
                 return numbers.append(behind);
             }
@@ -215,11 +204,11 @@ impl Stored {
             }
             _ => {}
         }
-        let mut values = more.into_values(alloc)?;
+        more.admit_texts(alloc)?;
         self.admit_texts(alloc)?;
-        match self {
-            Stored::Values(own) => own.append(&mut values),
-            Stored::Numbers(_) | Stored::Nullable(_) => unreachable!(),
+        match (self, more) {
+            (Stored::Values(own), Stored::Values(values)) => own.append(values),
+            _ => unreachable!(),
         }
     }
 }
