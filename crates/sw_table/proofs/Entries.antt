@@ -1,10 +1,11 @@
 -- The entries of a table as a map from classes.
-use Rattle.std.proofs.Common.{◌≡◌, ℕ, zero, suc, ◌+◌, ◌<◌, Bool, true, false, cond, List, [], ◌∷◌, length, set, get_or, count_by, Option, Some, None, is_some, refl, sym, ap, ◌∙◌, arith}
+use Rattle.std.proofs.Common.{◌≡◌, ℕ, zero, suc, ◌+◌, ◌<◌, Bool, true, false, cond, List, [], ◌∷◌, length, set, get_or, count_by, Option, Some, None, is_some, refl, sym, ap, ◌∙◌, arith, length-set}
 use mathlib.Core.Bool.{true≢false}
 use Rattle.std.specs.Ordering.{nat_cmp, eq_by_cmp}
 use Rattle.std.specs.Cmp.Lexicographic.{slice_cmp, nat_list_cmp_total, texts_ties, bytes_decides}
 use Rattle.std.specs.FinMap.{insert, get, remove, len, get-empty, get-insert, get-remove, len-insert, len-empty, same_map, slice_cmp-IsAntisymmetric, nat_cmp-IsAntisymmetric, IsAntisymmetric}
 use Rattle.std.proofs.Math.Nat.{add_comm}
+use Rattle.std.proofs.lemmas.Grind.{get_or-set_at}
 use Rattle.std.proofs.lemmas.List.Sums.{sum_by-cons}
 use Rattle.sw_table.specs.Entries.{entries_in}
 
@@ -170,6 +171,18 @@ module _ {K V : Type 0} (class : K → List ℕ) where
   entries_take ps i p h e = same_map nat_list_cmp_total exact_classes _ _ (λ q.
       get_entries (set ps i None) q ∙ lookup_take q ps i p h e
       ∙ sym (get-remove nat_list_cmp_total (entries_in class ps) (class p.0) q ∙ ap (cond (same q (class p.0)) None) (get_entries ps q)))
+
+  set_twice : (ps : List (Option (K × V))) (i : ℕ) (o u : Option (K × V)) → set (set ps i o) i u ≡ set ps i u
+  set_twice [] i o u = refl
+  set_twice (p ∷ ps) zero o u = refl
+  set_twice (p ∷ ps) (suc i) o u = (λ z. p ∷ set_twice ps i o u z)
+
+  pub entries_rekey : (ps : List (Option (K × V))) (i : ℕ) (p q : K × V) → Apart ps → get_or ps i None ≡ Some p → i < length ps → Absent (class q.0) (set ps i None)
+      → entries_in class (set ps i (Some q)) ≡ insert (remove (entries_in class ps) (class p.0)) (class q.0) q
+  entries_rekey ps i p q h e lt none =
+      ap (entries_in class) (sym (set_twice ps i None (Some q)))
+      ∙ entries_put (set ps i None) i q (omega (arith, lt, length-set ps i None)) (get_or-set_at ps i i None None refl lt) none
+      ∙ ap (λ m. insert m (class q.0) q) (entries_take ps i p h e)
 
   pub entries_revalue : (ps : List (Option (K × V))) (i : ℕ) (p : K × V) (w : V) → Apart ps → get_or ps i None ≡ Some p
       → entries_in class (set ps i (Some (p.0, w))) ≡ insert (entries_in class ps) (class p.0) (p.0, w)

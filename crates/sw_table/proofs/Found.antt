@@ -1,14 +1,15 @@
 -- From places to the map of the entries.
-use Rattle.std.proofs.Common.{◌≡◌, ◌≢◌, ℕ, ◌<◌, Bool, true, false, List, length, get_or, slice_index, nat_lt, Option, Some, None, is_some, IsSome, refl, sym, ap, ◌∙◌, arith}
+use Rattle.std.proofs.Common.{◌≡◌, ◌≢◌, ℕ, ◌<◌, Bool, true, false, List, length, set, get_or, slice_index, nat_lt, Option, Some, None, is_some, IsSome, refl, sym, ap, ◌∙◌, arith, get_or-set_other}
+use mathlib.Core.Bool.{true≢false}
 use native.Mathlib.Decide.{dec_lt}
-use Rattle.std.specs.FinMap.{get}
+use Rattle.std.specs.FinMap.{get, remove}
 use Rattle.std.specs.FinMap as fin
 use Rattle.std.proofs.lemmas.Bool.{ltb-true, ltb-false}
 use Rattle.std.proofs.lemmas.Grind.{get_or_default_zero}
 use Rattle.std.proofs.lemmas.List.{get_or_past}
 use Rattle.sw_table.specs.Entries.{entries_in}
 use Rattle.sw_table.specs.LaidOut.{IsLaidOut, full_count}
-use Rattle.sw_table.proofs.Entries.{get_entries, lookup_at, lookup_absent, none_absent, len_entries, same, same_is, Absent}
+use Rattle.sw_table.proofs.Entries.{get_entries, lookup_at, lookup_absent, none_absent, len_entries, entries_take, same, same_is, same_itself, Absent, Apart}
 use Rattle.sw_table.proofs.GroupLanes.{same_counts}
 
 module _ {K V : Type 0} (class : K → List ℕ) (hash : List ℕ → ℕ) (ps : List (Option (K × V))) (bs : List ℕ) (t : IsLaidOut class hash ps bs) where
@@ -42,6 +43,13 @@ module _ {K V : Type 0} (class : K → List ℕ) (ps : List (Option (K × V))) w
 
   pub absent_of : (q : List ℕ) → get (entries_in class ps) q ≡ None → Absent class q ps
   absent_of q e = none_absent class q ps (sym (get_entries class ps q) ∙ e)
+
+  -- where no entry is of the class once one is gone, no other is
+  pub absent_else : (q : List ℕ) (i : ℕ) (p : K × V) → Apart class ps → get_or ps i None ≡ Some p → get (remove (entries_in class ps) (class p.0)) q ≡ None → Absent class q (set ps i None)
+  absent_else q i p apart at e = none_absent class q (set ps i None) (sym (get_entries class (set ps i None) q) ∙ ap (λ m. get m q) (entries_take class ps i p apart at) ∙ e)
+
+  pub alone_else : (q : List ℕ) (i : ℕ) → Absent class q (set ps i None) → (j : ℕ) (r : K × V) → j ≢ i → get_or ps j None ≡ Some r → q ≡ class r.0 → ⊥
+  alone_else q i absent j r other at same = true≢false (sym (same_itself _ _ same) ∙ absent j r (get_or-set_other ps i j None None other ∙ at))
 
 pub pair_of : {X : Type 0} (o : Option X) → IsSome o → (x : X) × (o ≡ Some x)
 pair_of None e = absurd (cc)

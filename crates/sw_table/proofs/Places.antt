@@ -34,35 +34,58 @@ some_not_none x e = cc
 pub which : (j i : ℕ) → (j ≡ i) ⊎ (j ≢ i)
 which = cases_eq
 
-module _ {K V : Type 0} (ps : List (Option (K × V))) (i : ℕ) (p : K × V) (there : get_or ps i None ≡ Some p) (w : V) where
-  -- another value changes no key
-  key_kept : (j : ℕ) (q : K × V) → get_or (set ps i (Some (p.0, w))) j None ≡ Some q → (r : K × V) × (get_or ps j None ≡ Some r) × (r.0 ≡ q.0)
-  key_kept j q e = elim (which j i) [
-    | inl same ↦ (p, ap (λ k. get_or ps k None) same ∙ there, ap (λ (x : K × V). x.0) (some_is (sym (get_or-set_at ps i j (Some (p.0, w)) None same (some_within ps i p there)) ∙ e)))
-    | inr other ↦ (q, sym (get_or-set_other ps i j (Some (p.0, w)) None other) ∙ e, refl)
+module _ {K V : Type 0} (ps : List (Option (K × V))) (i : ℕ) (p : K × V) (there : get_or ps i None ≡ Some p) (q : K × V) where
+  -- what stands at a place once another entry stands at i
+  stands : (j : ℕ) (r : K × V) → get_or (set ps i (Some q)) j None ≡ Some r → ((j ≡ i) × (q ≡ r)) ⊎ ((j ≢ i) × (get_or ps j None ≡ Some r))
+  stands j r e = elim (which j i) [
+    | inl here ↦ inl (here, some_is (sym (get_or-set_at ps i j (Some q) None here (some_within ps i p there)) ∙ e))
+    | inr other ↦ inr (other, sym (get_or-set_other ps i j (Some q) None other) ∙ e)
   ]
 
-  still_filled : (j : ℕ) → IsSome (get_or ps j None) → IsSome (get_or (set ps i (Some (p.0, w))) j None)
+  still_filled : (j : ℕ) → IsSome (get_or ps j None) → IsSome (get_or (set ps i (Some q)) j None)
   still_filled j f = elim (which j i) [
-    | inl same ↦ ap is_some (get_or-set_at ps i j (Some (p.0, w)) None same (some_within ps i p there))
-    | inr other ↦ ap is_some (get_or-set_other ps i j (Some (p.0, w)) None other) ∙ f
+    | inl here ↦ ap is_some (get_or-set_at ps i j (Some q) None here (some_within ps i p there))
+    | inr other ↦ ap is_some (get_or-set_other ps i j (Some q) None other) ∙ f
   ]
 
-  pub IsTable-revalued : (class : K → List ℕ) (hash : List ℕ → ℕ) (bs : List ℕ) (len used : ℕ) → IsTable class hash ps bs len used → IsTable class hash (set ps i (Some (p.0, w))) bs len used
-  IsTable-revalued class hash bs len used it = let t = it.laid in record {
-    laid = record {
-      size = (length-set ps i (Some (p.0, w)) ∙ t.size.0, t.size.1);
-      control = t.control;
-      full = λ j lt b. still_filled j (t.full j lt b);
-      vacant = λ j high. elim (which j i) [
-        | inl same ↦ absurd (some_not_none p (sym there ∙ ap (λ k. get_or ps k None) (sym same) ∙ t.vacant j high))
-        | inr other ↦ get_or-set_other ps i j (Some (p.0, w)) None other ∙ t.vacant j high
-      ];
-      h2 = λ j q e. let r = key_kept j q e in subst (λ k. slice_index bs j ≡ hash (class k) % 128) r.2 (t.h2 j r.0 r.1);
-      chain = λ j q e. let r = key_kept j q e in subst (λ k. Reached bs (hash (class k)) j) r.2 (t.chain j r.0 r.1);
-      apart = λ j k q r e f same. let a = key_kept j q e in let b = key_kept k r f in t.apart j k a.0 b.0 a.1 b.1 (ap class a.2 ∙ same ∙ sym (ap class b.2));
-      load = t.load;
-    };
-    full_is = it.full_is;
-    used_is = it.used_is;
-  }
+  module _ (class : K → List ℕ) (hash : List ℕ → ℕ) (bs : List ℕ) (len used : ℕ) (it : IsTable class hash ps bs len used) where
+    -- its key has the hash of the one that stood there, and no other entry is of its class
+    pub IsTable-changed : hash (class q.0) ≡ hash (class p.0) → ((j : ℕ) (r : K × V) → j ≢ i → get_or ps j None ≡ Some r → class q.0 ≡ class r.0 → ⊥) → IsTable class hash (set ps i (Some q)) bs len used
+    IsTable-changed alike alone = let t = it.laid in record {
+      laid = record {
+        size = (length-set ps i (Some q) ∙ t.size.0, t.size.1);
+        control = t.control;
+        full = λ j lt b. still_filled j (t.full j lt b);
+        vacant = λ j high. elim (which j i) [
+          | inl here ↦ absurd (some_not_none p (sym there ∙ ap (λ k. get_or ps k None) (sym here) ∙ t.vacant j high))
+          | inr other ↦ get_or-set_other ps i j (Some q) None other ∙ t.vacant j high
+        ];
+        h2 = λ j r e. elim (stands j r e) [
+          | inl here ↦ ap (slice_index bs) here.0 ∙ t.h2 i p there ∙ ap (λ h. h % 128) (sym alike ∙ ap (λ (x : K × V). hash (class x.0)) here.1)
+          | inr other ↦ t.h2 j r other.1
+        ];
+        chain = λ j r e. elim (stands j r e) [
+          | inl here ↦ subst (λ k. Reached bs (hash (class r.0)) k) (sym here.0) (subst (λ h. Reached bs h i) (sym alike ∙ ap (λ (x : K × V). hash (class x.0)) here.1) (t.chain i p there))
+          | inr other ↦ t.chain j r other.1
+        ];
+        apart = λ j k r s e f one. elim (stands j r e) [
+          | inl a ↦ elim (stands k s f) [
+            | inl b ↦ a.0 ∙ sym b.0
+            | inr b ↦ absurd (alone k s b.0 b.1 (ap (λ (x : K × V). class x.0) a.1 ∙ one))
+          ]
+          | inr a ↦ elim (stands k s f) [
+            | inl b ↦ absurd (alone j r a.0 a.1 (ap (λ (x : K × V). class x.0) b.1 ∙ sym one))
+            | inr b ↦ t.apart j k r s a.1 b.1 one
+          ]
+        ];
+        load = t.load;
+      };
+      full_is = it.full_is;
+      used_is = it.used_is;
+    }
+
+-- another value changes no key
+pub IsTable-revalued : {K V : Type 0} (ps : List (Option (K × V))) (i : ℕ) (p : K × V) (there : get_or ps i None ≡ Some p) (w : V) (class : K → List ℕ) (hash : List ℕ → ℕ) (bs : List ℕ) (len used : ℕ)
+    → IsTable class hash ps bs len used → IsTable class hash (set ps i (Some (p.0, w))) bs len used
+IsTable-revalued ps i p there w class hash bs len used it =
+    IsTable-changed ps i p there (p.0, w) class hash bs len used it refl (λ j r other at alike. other (it.laid.apart j i r p at there (sym alike)))

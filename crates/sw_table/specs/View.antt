@@ -43,3 +43,7 @@ module _ {K V H : Type 0} where
   -- the table with the value w in the slot i, and all else as it is
   abbrev pub with_value : View K V H → ℕ → V → View K V H
   with_value t i w = record t { places = slice_set t.places i (option_map (λ p. (p.0, w)) (entry_at t i)) }
+
+  -- the table with the key k in the slot i, and all else as it is
+  abbrev pub with_key : View K V H → ℕ → K → View K V H
+  with_key t i k = record t { places = slice_set t.places i (option_map (λ p. (k, p.1)) (entry_at t i)) }

@@ -57,6 +57,7 @@
 //! [`Table::find`] gives the number of a slot, and [`Table::at`] and [`Table::at_mut`] what stands
 //! there. [`Table::place`] takes a key that is not there: ask `find` first. To hash a key once for
 //! both, take [`Table::hash`], [`Table::find_hashed`] and [`Table::place_hashed`].
+//! [`Table::rekey`] gives the entry of a slot another key of the same hash, where it stands.
 //! [`Table::next_full`] goes from entry to entry, in the order of the slots, and so does a [`Walk`],
 //! by [`Table::advance`] or [`Table::iter`], which reads the bytes of a group once. Entries may be
 //! taken out behind a walk, and [`Table::drain_next`] takes all of them out.
@@ -77,6 +78,7 @@ mod lookup;
 mod moves;
 mod refused;
 mod rehash;
+mod rekey;
 mod removal;
 mod sizes;
 mod table;
