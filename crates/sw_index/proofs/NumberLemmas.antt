@@ -12,19 +12,19 @@ use Rattle.sw_index.specs.Index.{AreDifferent, HasNone, IsIndexed, class_of_numb
 
 -- ---- classes
 
-abbrev same : List ℕ → List ℕ → Bool
+abbrev pub same : List ℕ → List ℕ → Bool
 same c d = eq_by_cmp (slice_cmp nat_cmp) c d
 
-same_is : (c d : List ℕ) → same c d ≡ true → c ≡ d
+pub same_is : (c d : List ℕ) → same c d ≡ true → c ≡ d
 same_is c d e = (bytes_decides c d).0 (texts_ties c d ∙ e)
 
-same_itself : (c d : List ℕ) → c ≡ d → same c d ≡ true
+pub same_itself : (c d : List ℕ) → c ≡ d → same c d ≡ true
 same_itself c d e = sym (texts_ties c d) ∙ (bytes_decides c d).1 e
 
-none_some : {X : Type 0} (x : X) → None ≡ Some x → ⊥
+pub none_some : {X : Type 0} (x : X) → None ≡ Some x → ⊥
 none_some x e = cc
 
-some_is : {X : Type 0} (x y : X) → Some x ≡ Some y → x ≡ y
+pub some_is : {X : Type 0} (x y : X) → Some x ≡ Some y → x ≡ y
 some_is x y e = cc
 
 -- ---- the number of a key
@@ -133,7 +133,7 @@ get_front [] k i l at = absurd (none_some l at)
 get_front (x ∷ keys) k zero l at = at
 get_front (x ∷ keys) k (suc i) l at = get_front keys k i l at
 
-get_last : {K : Type 0} (keys : List K) (k : K) → slice_get (keys ++ k ∷ []) (length keys) ≡ Some k
+pub get_last : {K : Type 0} (keys : List K) (k : K) → slice_get (keys ++ k ∷ []) (length keys) ≡ Some k
 get_last [] k = refl
 get_last (x ∷ keys) k = get_last keys k
 

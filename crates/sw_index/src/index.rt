@@ -17,9 +17,9 @@ use sw_table::Table;
 /// Contracts see the list of keys, and the hasher.
 #[derive(Drop)]
 pub struct Index<K: Keyed, H: KeyHash<K>> {
-    keys: Vec<K>,
-    numbers: Table<Numbered, (), Known>,
-    hasher: H,
+    pub(crate) keys: Vec<K>,
+    pub(crate) numbers: Table<Numbered, (), Known>,
+    pub(crate) hasher: H,
 }
 
 impl<K: Keyed, H: KeyHash<K>> Model for Index<K, H> {

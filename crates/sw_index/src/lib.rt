@@ -24,6 +24,7 @@
 mod found;
 mod index;
 mod numbered;
+mod removal;
 mod sought;
 
 pub use found::{Absence, Found};

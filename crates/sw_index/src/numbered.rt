@@ -1,9 +1,13 @@
 //! The numbers of keys, as the keys of a table.
-ghost use Rattle.std.specs.Prelude.{◌∷◌, []};
+ghost use Rattle.std.specs.Prelude.{◌≡◌, ◌∷◌, [], Some, None};
+ghost use Rattle.std.specs.FinMap.{get, insert, remove};
 ghost use Rattle.sw_probe.specs.Hashes.{number_of, read_step};
-ghost use Rattle.sw_index.specs.Index.{hash_bytes};
+ghost use Rattle.sw_table.specs.Entries.{entries};
+ghost use Rattle.sw_table.specs.View.{entry_at, IsFull};
+ghost use Rattle.sw_index.specs.Index.{class_of_number, hash_bytes};
 
 use sw_probe::{KeyHash, Keyed, Names, Step};
+use sw_table::{SlotNo, Table};
 
 /// The number of a key, and its hash.
 #[derive(Clone, Copy)]
@@ -52,5 +56,47 @@ impl Step for ReadStep {
     #[inline]
     fn step(&self, acc: u64, byte: u8) -> u64 {
         acc.wrapping_mul(256).wrapping_add(u64::from(byte))
+    }
+}
+
+/// Takes a number out that the table has.
+#[inline]
+pub(crate) fn forget(numbers: &mut Table<Numbered, (), Known>, numbered: Numbered)
+    requires { get (entries class_of_number numbers.old) (class_of_number numbered) ≡
+        Some (numbered, tt) }
+    ensures { entries class_of_number numbers.new ≡
+        remove (entries class_of_number numbers.old) (class_of_number numbered) }
+{
+    let slot = slot_of(numbers, &numbered);
+    numbers.remove(slot);
+}
+
+/// Puts a number in the place of another that the table has, under the same hash.
+#[inline]
+pub(crate) fn renumber(numbers: &mut Table<Numbered, (), Known>, from: Numbered, to: Numbered)
+    requires there { get (entries class_of_number numbers.old) (class_of_number from) ≡
+        Some (from, tt) }
+    requires free { get (remove (entries class_of_number numbers.old) (class_of_number from))
+        (class_of_number to) ≡ None }
+    requires hash { to.hash ≡ from.hash }
+    ensures { entries class_of_number numbers.new ≡
+        insert (remove (entries class_of_number numbers.old) (class_of_number from))
+        (class_of_number to) (to, tt) }
+{
+    let slot = slot_of(numbers, &from);
+    numbers.rekey(slot, to);
+}
+
+// The slot of a number that the table has.
+#[inline]
+fn slot_of(numbers: &Table<Numbered, (), Known>, numbered: &Numbered) -> SlotNo
+    requires { get (entries class_of_number numbers.now) (class_of_number numbered.now) ≡
+        Some (numbered.now, tt) }
+    ensures full { IsFull numbers.now result.index }
+    ensures entry { entry_at numbers.now result.index ≡ Some (numbered.now, tt) }
+{
+    match numbers.find(numbered) {
+        Some(slot) => slot,
+        None => unreachable!(),
     }
 }
