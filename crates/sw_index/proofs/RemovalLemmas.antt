@@ -10,7 +10,7 @@ use Rattle.std.proofs.lemmas.List.{take-set-le, length-append}
 use Rattle.std.proofs.lemmas.Option.{slice_get_within, slice_get_past, slice_get-get_or}
 use Rattle.sw_table.specs.Entries.{Entries}
 use Rattle.sw_index.specs.declared.numbered.Numbered.{Numbered}
-use Rattle.sw_index.specs.Index.{AreDifferent, IsIndexed, class_of_number}
+use Rattle.sw_index.specs.Index.{IsIndexed, class_of_number}
 use Rattle.sw_index.proofs.NumberLemmas.{get_last, same, same_is, same_itself, none_some, some_is}
 
 abbrev pub Numbers : Type 0
@@ -230,28 +230,28 @@ module _ {K : Type 0} where
 
 -- ---- an index without one of its keys
 
-module _ {K : Type 0} (class : K → List ℕ) (hash : List ℕ → ℕ) (keys : List K) (numbers : Numbers) (is : IsIndexed class hash keys numbers) where
+module _ {K : Type 0} {class : K → List ℕ} {hash : List ℕ → ℕ} {keys : List K} {numbers : Numbers} (is : IsIndexed class hash keys numbers) where
   one_less : (n : ℕ) (k : K) (h : ℕ) (new : Numbers) → slice_get keys n ≡ Some k → h ≡ hash (class k) → new ≡ remove numbers (h ∷ n ∷ []) → AreNumbered class hash (without (slice_get keys) n) new
   one_less n k h new there hashed gone =
       subst (AreNumbered class hash (without (slice_get keys) n)) (ap (λ x. remove numbers (x ∷ n ∷ [])) (sym hashed) ∙ sym gone)
       (numbered_less class hash (slice_get keys) numbers n k (numbered_of class hash keys numbers is) there)
 
   -- without the last
-  pub indexed-pop : (rest : List K) (new : Numbers) (k : K) (h n : ℕ) → slice_get keys (length keys - 1) ≡ Some k → rest ≡ take (length keys - 1) keys → h ≡ hash (class k) → n ≡ length keys - 1
+  pub indexed-pop : {rest : List K} {new : Numbers} {k : K} {h n : ℕ} → slice_get keys (length keys - 1) ≡ Some k → rest ≡ take (length keys - 1) keys → h ≡ hash (class k) → n ≡ length keys - 1
       → new ≡ remove numbers (h ∷ n ∷ []) → IsIndexed class hash rest new
-  indexed-pop rest new k h n there shorter hashed last gone =
+  indexed-pop {rest} {new} {k} {h} {n} there shorter hashed last gone =
       let within = slice_get_within keys (length keys - 1) k there in
       indexed_of class hash (without (slice_get keys) n) rest new
       (λ j. ap (λ ks. slice_get ks j) shorter ∙ ap (λ m. slice_get (take m keys) j) (sym last) ∙ all_but_last keys n j (omega (arith, last, within)))
       (one_less n k h new (ap (slice_get keys) last ∙ there) hashed gone)
 
-  module _ (i : ℕ) (k : K) (rest : List K) (h : ℕ) (one : Numbers) (there : slice_get keys i ≡ Some k) (shorter : rest ≡ swap_remove keys i k) (hashed : h ≡ hash (class k)) (gone : one ≡ remove numbers (h ∷ i ∷ [])) where
+  module _ (i : ℕ) {k : K} {rest : List K} {h : ℕ} {one : Numbers} (there : slice_get keys i ≡ Some k) (shorter : rest ≡ swap_remove keys i k) (hashed : h ≡ hash (class k)) (gone : one ≡ remove numbers (h ∷ i ∷ [])) where
     -- the key that went was the last
     pub indexed-last : i + 1 ≡ length keys → IsIndexed class hash rest one
     indexed-last last = indexed_of class hash (without (slice_get keys) i) rest one (λ j. ap (λ ks. slice_get ks j) shorter ∙ last_over keys i j k last) (one_less i k h one there hashed gone)
 
     -- it was another, and the last comes to its number
-    module _ (l : K) (h' n : ℕ) (comes : slice_get rest i ≡ Some l) (hashed' : h' ≡ hash (class l)) (behind : n ≡ length keys - 1) where
+    module _ {l : K} {h' n : ℕ} (comes : slice_get rest i ≡ Some l) (hashed' : h' ≡ hash (class l)) (behind : n ≡ length keys - 1) where
       last : (i + 1 < length keys) × (slice_get keys (length keys - 1) ≡ Some l)
       last = comes_last keys i k l (slice_get_within keys i k there) (ap (λ ks. slice_get ks i) (sym shorter) ∙ comes)
 
@@ -288,7 +288,7 @@ module _ {K : Type 0} (class : K → List ℕ) (hash : List ℕ → ℕ) (keys :
           ap (λ ks. slice_get ks j) shorter ∙ ap (λ m. slice_get (take m (set keys i (get_or keys (length keys - 1) k))) j) (sym behind)
           ∙ swapped_other keys i n j (get_or keys (length keys - 1) k) behind before other
 
-      pub indexed-swapped : (new : Numbers) → new ≡ insert (remove one (h' ∷ n ∷ [])) (h' ∷ i ∷ []) (numbered h' i, tt) → IsIndexed class hash rest new
-      indexed-swapped new put = indexed_of class hash (slice_get rest) rest new (λ j. refl)
+      pub indexed-swapped : {new : Numbers} → new ≡ insert (remove one (h' ∷ n ∷ [])) (h' ∷ i ∷ []) (numbered h' i, tt) → IsIndexed class hash rest new
+      indexed-swapped {new} put = indexed_of class hash (slice_get rest) rest new (λ j. refl)
           (subst (AreNumbered class hash (slice_get rest)) ((λ z. insert (remove one (h' ∷ n ∷ [])) ((sym hashed') z ∷ i ∷ []) (numbered ((sym hashed') z) i, tt)) ∙ sym put)
           (numbered_more class hash (without (without (slice_get keys) i) n) (remove one (h' ∷ n ∷ [])) i l without_both (slice_get rest) vacant none_alike comes stands))

@@ -18,7 +18,8 @@
 //!
 //! The contract above the crate: an index is the list of its keys, of which no two are of one class. A
 //! look-up tells the number of the key of a class, or that there is none; a key that is added is behind
-//! all others, and a refusal leaves the list as it was.
+//! all others, and a refusal leaves the list as it was. The last key can be taken out, and any other, to
+//! whose number the last one comes then: so [`Index::swap_remove`] moves one key, as that of a list does.
 #![tactic(auto)]
 
 mod found;

@@ -1,20 +1,16 @@
 use Rattle.std.proofs.Common.{◌≡◌, ◌-◌, length, take, Some, sym, ap, subst, ◌∙◌, arith}
 use Rattle.std.specs.List.{slice_get}
-use Rattle.sw_table.specs.Entries.{entries}
-use Rattle.sw_table.specs.LaidOut.{hash_by}
-use Rattle.sw_index.specs.Index.{IndexView, class_of_number}
+use Rattle.sw_index.specs.Index.{IndexView}
 use Rattle.sw_index.proofs.RemovalLemmas.{last_there, indexed-pop}
 use Rattle.sw_index.proofs.index.Index.pop.Goals as goal
 
 pub invariant_of-self-2 : goal.invariant_of-self-2
 invariant_of-self-2 g c =
-    let own = c.self.inside in
-    let keys = own.keys.items in
-    let there = last_there keys c.pop.new.self.items c.in_ok-key.key c.in_ok-key.ensures.items in
-    let number : c.len-number.result ≡ length keys - 1 = omega (arith, c.len-number.ensures, c.in_ok-key.ensures.len, own.keys.ok.0) in
-    indexed-pop g.K.Keyed.class (hash_by g.H.KeyHash.hash_of g.K.Keyed.bytes own.hasher) keys (entries class_of_number own.numbers) c.self.invariant
-    c.pop.new.self.items (entries class_of_number c.forget.new.numbers) c.in_ok-key.key c.hash-hash.result c.len-number.result there
-    (c.in_ok-key.ensures.rest ∙ ap (λ n. take (n - 1) keys) own.keys.ok.0) c.hash-hash.ensures number c.forget.ensures
+    let keys = c.self.inside.keys.items in
+    let whole = c.self.inside.keys.ok.0 in
+    let number : c.len-number.result ≡ length keys - 1 = omega (arith, c.len-number.ensures, c.in_ok-key.ensures.len, whole) in
+    indexed-pop c.self.invariant (last_there keys c.pop.new.self.items c.in_ok-key.key c.in_ok-key.ensures.items) (c.in_ok-key.ensures.rest ∙ ap (λ n. take (n - 1) keys) whole)
+    c.hash-hash.ensures number c.forget.ensures
 
 pub returns-clause-key : goal.returns-clause-key
 returns-clause-key g c =
