@@ -18,6 +18,8 @@ mod expected;
 #[cfg(test)]
 mod index;
 #[cfg(test)]
+mod index_removal;
+#[cfg(test)]
 mod loaded;
 #[cfg(test)]
 mod map;
