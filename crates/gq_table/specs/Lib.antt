@@ -1,7 +1,9 @@
 pub mod Changes
 pub mod Columns
 pub mod Keyed
+pub mod Lending
 pub mod Refusing
+pub mod Sheets
 pub mod Staged
 pub mod Standing
 pub mod Stored

@@ -18,9 +18,11 @@ mod keyed;
 mod load;
 mod refusal;
 mod rows;
+mod sheet;
 mod table;
 
 pub use grid::Grid;
 pub use refusal::TableRefusal;
 pub use rows::{RowCursor, Storage};
+pub use sheet::Sheet;
 pub use table::Table;
