@@ -18,7 +18,7 @@ unfolding rows_along
 none_along w cells = refl
 
 -- the row at a position
-pub row_there : (w n i : ℕ) (cells : List Value) → i < n → slice_index_or (rows_along w n cells) i [] ≡ take w (drop (i * w) cells)
+row_there : (w n i : ℕ) (cells : List Value) → i < n → slice_index_or (rows_along w n cells) i [] ≡ take w (drop (i * w) cells)
 unfolding rows_along
 row_there w zero i cells lt = absurd (omega (arith, lt))
 row_there w (suc n) zero cells lt = let none : 0 ≡ 0 * w = omega arith in ap (λ k. take w (drop k cells)) none
@@ -27,15 +27,15 @@ row_there w (suc n) (suc i) cells lt =
     row_there w n i (drop w cells) (omega (arith, lt)) ∙ ap (take w) (drop-drop (i * w) w cells ∙ ap (λ k. drop k cells) next)
 
 -- a row ends where the next begins, and the last where the cells do
-pub ends_within : (w n i : ℕ) → i < n → i * w + w ≤ n * w
+ends_within : (w n i : ℕ) → i < n → i * w + w ≤ n * w
 ends_within w n i lt = let rest : n ≡ i + 1 + (n - i - 1) = omega (arith, lt) in subst (λ k. i * w + w ≤ k * w) (sym rest) (omega arith)
 
-pub begins_before : (w n i : ℕ) → i ≤ n → i * w ≤ n * w
+begins_before : (w n i : ℕ) → i ≤ n → i * w ≤ n * w
 begins_before w n i le = let rest : n ≡ i + (n - i) = omega (arith, le) in subst (λ k. i * w ≤ k * w) (sym rest) (omega arith)
 
 -- ---- rows behind others
 
-pub along_behind : (w n m : ℕ) (cells more : List Value) → length cells ≡ n * w → rows_along w (n + m) (cells ++ more) ≡ rows_along w n cells ++ rows_along w m more
+along_behind : (w n m : ℕ) (cells more : List Value) → length cells ≡ n * w → rows_along w (n + m) (cells ++ more) ≡ rows_along w n cells ++ rows_along w m more
 unfolding rows_along
 along_behind w zero m cells more long =
     let none : 0 + m ≡ m = omega arith in
@@ -50,7 +50,7 @@ along_behind w (suc n) m cells more long =
     ∙ ap (λ rows. take w cells ∷ rows) (along_behind w n m (drop w cells) more (omega (arith, long, left)))
 
 -- a row alone
-pub along_alone : (row : List Value) → rows_along (length row) 1 row ≡ row ∷ []
+along_alone : (row : List Value) → rows_along (length row) 1 row ≡ row ∷ []
 unfolding rows_along
 along_alone row = ap (λ r. r ∷ []) (take_all (length row) row (omega arith))
 
@@ -58,22 +58,12 @@ alone : (w : ℕ) (row : List Value) → length row ≡ w → rows_along w 1 row
 alone w row long = subst (λ k. rows_along k 1 row ≡ row ∷ []) long (along_alone row)
 
 -- a row between others
-pub along_parts : (w n m all : ℕ) (front row back : List Value) → length front ≡ n * w → length row ≡ w → all ≡ n + (1 + m)
+along_parts : (w n m all : ℕ) (front row back : List Value) → length front ≡ n * w → length row ≡ w → all ≡ n + (1 + m)
     → rows_along w all (front ++ (row ++ back)) ≡ rows_along w n front ++ row ∷ rows_along w m back
 along_parts w n m all front row back before here is =
     ap (λ k. rows_along w k (front ++ (row ++ back))) is
     ∙ along_behind w n (1 + m) front (row ++ back) before
     ∙ ap (λ rows. rows_along w n front ++ rows) (along_behind w 1 m row back (omega (arith, here)) ∙ ap (λ r. r ++ rows_along w m back) (alone w row here))
-
--- the first rows
-pub first_rows : (w n m : ℕ) (cells : List Value) → length cells ≡ n * w → m ≤ n → rows_along w m (take (m * w) cells) ≡ take m (rows_along w n cells)
-first_rows w n m cells long le =
-    let front = take (m * w) cells in
-    let back = drop (m * w) cells in
-    let size : length front ≡ m * w = length-take-le (m * w) cells (omega (arith, long, begins_before w n m le)) in
-    let rest : m + (n - m) ≡ n = omega (arith, le) in
-    sym (ap (take m) ((λ z. rows_along w (sym rest z) (sym (take-append-drop (m * w) cells) z)) ∙ along_behind w m (n - m) front back size)
-    ∙ take_at (rows_along w m front) (rows_along w (n - m) back) m (length-along w m front))
 
 -- ---- a row written where it stands
 
@@ -85,7 +75,7 @@ cells_along w (suc n) cells long =
     ap (λ l. take w cells ++ l) (cells_along w n (drop w cells) (omega (arith, long, left))) ∙ take-append-drop w cells
 
 -- what the cells come to that were lent
-pub with_row_is : (w n i : ℕ) (cells row : List Value) → length cells ≡ n * w → i < n
+with_row_is : (w n i : ℕ) (cells row : List Value) → length cells ≡ n * w → i < n
     → with_row (rows_along w n cells) i row ≡ rows_along w n (written_over cells (i * w) row)
 unfolding with_row
 with_row_is w n i cells row long lt =
@@ -119,10 +109,12 @@ over_row w n i cells row long lt wide =
     ∙ along_parts w i (n - i - 1) n front row back first wide all
     ∙ sym (ap (λ rows. slice_set rows i row) before ∙ set_at (rows_along w i front) old (rows_along w (n - i - 1) back) row i (length-along w i front))
 
--- a list that was lent from a place on, and is back
-over_is : {X : Type 0} (len at : ℕ) (xs ys : List X) → len ≡ length xs → at ≤ len
-    → take len ((take at xs ++ (ys ++ drop (length ys) (drop at xs))) ++ drop (length (take at xs ++ (ys ++ drop (length ys) (drop at xs)))) xs) ≡ written_over xs at ys
-over_is {X} len at xs ys is le =
+-- a list of so many elements that was lent from a place on, once it is back
+abbrev back : {X : Type 0} → ℕ → ℕ → List X → List X → List X
+back len at xs ys = let new = take at xs ++ (ys ++ drop (length ys) (drop at xs)) in take len (new ++ drop (length new) xs)
+
+back_is : {X : Type 0} (len at : ℕ) (xs ys : List X) → len ≡ length xs → at ≤ len → back len at xs ys ≡ written_over xs at ys
+back_is {X} len at xs ys is le =
     let new : List X = take at xs ++ (ys ++ drop (length ys) (drop at xs)) in
     let front = length-take-le at xs (omega (arith, is, le)) in
     let left = length-drop at xs in
@@ -153,12 +145,12 @@ stands w n i cells rows view long lt =
       long = ap length (sym row) ∙ length-take-le w (drop (i * w) cells) (omega (arith, end, left));
     }
 
--- a row that was lent
+-- a row that was lent, and is back
 pub row_lent : (w n i len : ℕ) (cells row : List Value) (rows : List (List Value)) → rows_along w n cells ≡ rows → length cells ≡ n * w → len ≡ length cells → i < length rows
-    → rows_along w n (take len ((take (i * w) cells ++ (row ++ drop (length row) (drop (i * w) cells))) ++ drop (length (take (i * w) cells ++ (row ++ drop (length row) (drop (i * w) cells)))) cells)) ≡ with_row rows i row
+    → rows_along w n (back len (i * w) cells row) ≡ with_row rows i row
 row_lent w n i len cells row rows view long is lt =
     let it = stands w n i cells rows view long lt in
-    ap (rows_along w n) (over_is len (i * w) cells row is (omega (arith, it.end, is)))
+    ap (rows_along w n) (back_is len (i * w) cells row is (omega (arith, it.end, is)))
     ∙ sym (with_row_is w n i cells row long it.within)
     ∙ ap (λ l. with_row l i row) view
 
@@ -207,14 +199,17 @@ row_behind w (suc n) next wide cells row new rows view long even is same whole =
 
 -- ---- rows left out
 
-pub cut : (w n m : ℕ) (cells : List Value) (rows : List (List Value)) → rows_along w n cells ≡ rows → length cells ≡ n * w → m ≤ n
-    → (length (take (m * w) cells) ≡ m * w) × (rows_along w m (take (m * w) cells) ≡ take m rows)
-cut w n m cells rows view long le = (
-  length-take-le (m * w) cells (omega (arith, long, begins_before w n m le)),
-  first_rows w n m cells long le ∙ ap (take m) view,
-)
+pub first_rows : (w n m : ℕ) (cells : List Value) (rows : List (List Value)) → rows_along w n cells ≡ rows → length cells ≡ n * w → m ≤ n
+    → rows_along w m (take (m * w) cells) ≡ take m rows
+first_rows w n m cells rows view long le =
+    let front = take (m * w) cells in
+    let back = drop (m * w) cells in
+    let size : length front ≡ m * w = length-take-le (m * w) cells (omega (arith, long, begins_before w n m le)) in
+    let rest : n ≡ m + (n - m) = omega (arith, le) in
+    sym (ap (take m) (sym view ∙ (λ z. rows_along w (rest z) (sym (take-append-drop (m * w) cells) z)) ∙ along_behind w m (n - m) front back size)
+    ∙ take_at (rows_along w m front) (rows_along w (n - m) back) m (length-along w m front))
 
--- a row in whose place the last comes
+-- where the last comes in the place of another
 swapped : {X : Type 0} (xs : List X) (y d : X) (i : ℕ) → i < length xs → swap_remove (xs ++ y ∷ []) i d ≡ slice_set xs i y
 swapped xs y d i lt =
     let size : length (xs ++ y ∷ []) - 1 ≡ length xs = omega (arith, length-append xs (y ∷ [])) in
@@ -223,7 +218,7 @@ swapped xs y d i lt =
     ∙ ap (take (length xs)) (set-append_left xs (y ∷ []) i y lt)
     ∙ take_at (slice_set xs i y) (y ∷ []) (length xs) (length-set xs i y)
 
--- the last row
+-- where it is the last itself
 last_out : {X : Type 0} (xs : List X) (y d : X) (i : ℕ) → length xs ≤ i → swap_remove (xs ++ y ∷ []) i d ≡ xs
 last_out xs y d i le =
     let size : length (xs ++ y ∷ []) - 1 ≡ length xs = omega (arith, length-append xs (y ∷ [])) in
@@ -238,13 +233,13 @@ module _ (w n last i : ℕ) (cells : List Value) (rows : List (List Value)) (vie
   all : n ≡ last + 1
   all = let some = size in omega (arith, some, is)
 
-  pub last_begins : last * w + w ≡ length cells
+  last_begins : last * w + w ≡ length cells
   last_begins = let count = all in omega (arith, long, ap (λ k. k * w) count)
 
   front : length (take (last * w) cells) ≡ last * w
   front = length-take-le (last * w) cells (omega (arith, last_begins))
 
-  pub last_long : length (drop (last * w) cells) ≡ w
+  last_long : length (drop (last * w) cells) ≡ w
   last_long = let rest = length-drop (last * w) cells in omega (arith, rest, last_begins)
 
   ends : rows ≡ rows_along w last (take (last * w) cells) ++ drop (last * w) cells ∷ []
@@ -254,19 +249,17 @@ module _ (w n last i : ℕ) (cells : List Value) (rows : List (List Value)) (vie
       ∙ along_behind w last 1 (take (last * w) cells) (drop (last * w) cells) front
       ∙ ap (λ l. rows_along w last (take (last * w) cells) ++ l) (alone w (drop (last * w) cells) last_long)
 
-  pub last_removed : last ≤ i → (length (take (last * w) cells) ≡ last * w) × (rows_along w last (take (last * w) cells) ≡ swap_remove rows i (slice_index_or rows i []))
-  last_removed le = (
-    front,
-    sym (ap (λ l. swap_remove l i (slice_index_or rows i [])) ends
-        ∙ last_out (rows_along w last (take (last * w) cells)) (drop (last * w) cells) (slice_index_or rows i []) i (omega (arith, le, length-along w last (take (last * w) cells)))),
-  )
+  pub last_removed : last ≤ i → rows_along w last (take (last * w) cells) ≡ swap_remove rows i (slice_index_or rows i [])
+  last_removed le =
+      let count = length-along w last (take (last * w) cells) in
+      sym (ap (λ l. swap_remove l i (slice_index_or rows i [])) ends
+      ∙ last_out (rows_along w last (take (last * w) cells)) (drop (last * w) cells) (slice_index_or rows i []) i (omega (arith, le, count)))
 
-  pub other_removed : (now : List Value) → i < last → length now ≡ length cells → take (last * w) now ≡ written_over (take (last * w) cells) (i * w) (drop (last * w) cells)
-      → (length (take (last * w) now) ≡ last * w) × (rows_along w last (take (last * w) now) ≡ swap_remove rows i (slice_index_or rows i []))
-  other_removed now before same is = (
-    length-take-le (last * w) now (omega (arith, same, last_begins)),
-    ap (rows_along w last) is
-        ∙ over_row w last i (take (last * w) cells) (drop (last * w) cells) front before last_long
-        ∙ sym (ap (λ l. swap_remove l i (slice_index_or rows i [])) ends
-        ∙ swapped (rows_along w last (take (last * w) cells)) (drop (last * w) cells) (slice_index_or rows i []) i (omega (arith, before, length-along w last (take (last * w) cells)))),
-  )
+  pub other_removed : (now : List Value) → i < last → take (last * w) now ≡ written_over (take (last * w) cells) (i * w) (drop (last * w) cells)
+      → rows_along w last (take (last * w) now) ≡ swap_remove rows i (slice_index_or rows i [])
+  other_removed now before is =
+      let count = length-along w last (take (last * w) cells) in
+      ap (rows_along w last) is
+      ∙ over_row w last i (take (last * w) cells) (drop (last * w) cells) front before last_long
+      ∙ sym (ap (λ l. swap_remove l i (slice_index_or rows i [])) ends
+      ∙ swapped (rows_along w last (take (last * w) cells)) (drop (last * w) cells) (slice_index_or rows i []) i (omega (arith, before, count)))

@@ -25,9 +25,9 @@ returns c =
           let is = w.exchange_last.ensures ∙ ap (λ (l : List Value). written_over (take end l) (i * s.width) (drop end l)) w.as_mut_slice.ensures.value in
           (λ z. rows_along (w.self-inside-is z).width last (c.truncate.ensures.items z))
           ∙ ap (λ l. rows_along s.width last (take end l)) (ap (λ (o : _). o.cells.items) w.self-inside-is ∙ take_at now (drop (length now) s.cells.items) s.cells.len same)
-          ∙ (other_removed s.width s.rows last i s.cells.items c.args.self.now c.self.view_is c.self.invariant refl c.requires now w.if-position-last.true (same ∙ s.cells.ok.0) is).1)
+          ∙ other_removed s.width s.rows last i s.cells.items c.args.self.now c.self.view_is c.self.invariant refl c.requires now w.if-position-last.true is)
       | else-position-last w ↦
           (λ z. rows_along (w.self-inside-is z).width last (c.truncate.ensures.items z))
           ∙ ap (λ l. rows_along s.width last (take end l)) (ap (λ (o : _). o.cells.items) w.self-inside-is)
-          ∙ (last_removed s.width s.rows last i s.cells.items c.args.self.now c.self.view_is c.self.invariant refl c.requires w.if-position-last.false).1
+          ∙ last_removed s.width s.rows last i s.cells.items c.args.self.now c.self.view_is c.self.invariant refl c.requires w.if-position-last.false
     ]

@@ -1,14 +1,14 @@
 use Rattle.std.proofs.Common.{◌∙◌, ap, arith, length, sym}
 use Rattle.std.proofs.lemmas.List.{take_all}
-use Rattle.gq_table.proofs.SheetLemmas.{cut, length-along}
+use Rattle.gq_table.proofs.SheetLemmas.{first_rows, length-along}
 use Rattle.gq_table.specs.Sheets.{rows_along}
 use Rattle.gq_table.proofs.sheet.Sheet.truncate.Goals as goal
 
 pub returns-then-rows-self : goal.returns-then-rows-self
 returns-then-rows-self c =
     let s = c.self.inside in
-    let it = cut s.width s.rows c.args.rows s.cells.items c.args.self.now c.self.view_is c.self.invariant (omega (arith, c.if-rows-self.true)) in
-    ap (rows_along s.width c.args.rows) c.truncate.ensures.items ∙ it.1
+    ap (rows_along s.width c.args.rows) c.truncate.ensures.items
+    ∙ first_rows s.width s.rows c.args.rows s.cells.items c.args.self.now c.self.view_is c.self.invariant (omega (arith, c.if-rows-self.true))
 
 pub returns-else-rows-self : goal.returns-else-rows-self
 returns-else-rows-self c =
