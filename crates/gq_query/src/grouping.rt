@@ -63,7 +63,8 @@ impl<'a, H: KeyHash<Key> + Copy> Query<'a, H> {
         let Ok(aggs) = aggs_of(self.alloc, shown) else {
             return Err(Refusal::Memory);
         };
-        let (mut groups, spent) = self.groups_of(aggs.as_slice(), store)?;
+        let mut groups = GroupList::new(self.alloc);
+        let spent = self.groups_into(aggs.as_slice(), &mut groups, store)?;
         groups.sort();
         Ok((groups, spent))
     }

@@ -1,5 +1,5 @@
 //! The rows that a query is about, grouped over a run store.
-ghost use Rattle.std.specs.Prelude.{◌≡◌, ◌<◌, true, IsTrue, IfOk, IfErr, IsErrOf, IsPermutation, length};
+ghost use Rattle.std.specs.Prelude.{◌≡◌, ◌<◌, true, IsTrue, IfOk, IfErr, IsErrOf, IsPermutation, OnOk, [], length};
 ghost use Rattle.std.specs.List.{list_all};
 ghost use Rattle.gq_group.specs.Access.{LeavesOthers, HasCause, GroupCause};
 ghost use Rattle.gq_group.specs.Distinct.{distinct_groups};
@@ -37,21 +37,23 @@ pub struct Query<'a, H: KeyHash<Key>> {
 }
 
 impl<'a, H: KeyHash<Key> + Copy> Query<'a, H> {
-    /// The groups of the rows that are kept, in some order, with these aggregates, and what grouping
-    /// them took.
-    pub fn groups_of<S: RunStore>(
+    /// Puts the groups of the rows that are kept into a list that has none, in some order, with these
+    /// aggregates, and tells what grouping them took.
+    pub fn groups_into<S: RunStore>(
         &self,
         aggs: &[(AggKind, usize)],
+        groups: &mut GroupList,
         store: &mut S,
-    ) -> Result<(GroupList, Spent), Refusal>
+    ) -> Result<Spent, Refusal>
         requires columns { HasColumns self.now }
         requires aggs { IsTrue (list_all (can_take self.now.table.now.heading.columns) aggs.now) }
+        requires none { groups.old ≡ [] }
         ensures groups { IsTrue (S.runs store.old).honest →
-            IfOk result (λ found. AreGroups (record { by = self.now.by.now; aggs = aggs.now })
-            (kept_rows self.now) found.0) }
+            OnOk result (AreGroups (record { by = self.now.by.now; aggs = aggs.now })
+            (kept_rows self.now) groups.new) }
         ensures spent { IsTrue (S.runs store.old).honest →
-            IfOk result (λ found. IsSpentOn self.now.budget.entries self.now.by.now
-            (kept_rows self.now) found.1) }
+            IfOk result (IsSpentOn self.now.budget.entries self.now.by.now
+            (kept_rows self.now)) }
         ensures overflow { IsTrue (S.runs store.old).honest → IsErrOf result Refusal.SumRange →
             out_of_range (record { by = self.now.by.now; aggs = aggs.now })
             (kept_rows self.now) ≡ true }
@@ -69,17 +71,15 @@ impl<'a, H: KeyHash<Key> + Copy> Query<'a, H> {
             kept: self.kept,
             columns: columns.as_slice(),
         };
-        let mut sink = GroupList::new(self.alloc);
-        let spent = group(
+        group(
             self.alloc,
             self.hasher,
             &spec,
             &mut source,
-            &mut sink,
+            groups,
             store,
             self.budget,
-        )?;
-        Ok((sink, spent))
+        )
     }
 
     /// How many different values the rows of each key have in a column, in some order.

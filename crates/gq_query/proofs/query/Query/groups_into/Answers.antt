@@ -1,16 +1,22 @@
-use Rattle.std.proofs.Common.{◌≡◌, ◌∙◌, [], filter, length, map, sym, ap, subst, rules, refl, IsPermutation}
+use Rattle.std.proofs.Common.{◌≡◌, ◌∙◌, ℕ, List, Result, Ok, Err, IfOk, [], filter, length, map, sym, ap, subst, refl, IsPermutation}
 use Rattle.std.specs.Prelude.{option_copied}
 use Rattle.std.specs.List.{list_any}
 use Rattle.std.proofs.lemmas.List.{length-map}
+use Rattle.std.proofs.lemmas.Result.{IfOk-weaker, on_ok_weaker}
+use Rattle.gq_row.specs.declared.value.Value.{Value}
 use Rattle.gq_row.specs.Fitting.{fits_columns}
 use Rattle.gq_row.specs.Rows.{cells_in}
 use Rattle.gq_group.specs.Groups.{Spec, OneWidth, groups, answered, is_none, all_fit, keys_of}
 use Rattle.gq_group.proofs.Widths.{one_width-cells}
+use Rattle.gq_group.specs.declared.grouping.Spent.{Spent}
+use Rattle.gq_group.specs.declared.refusal.Refusal.{Refusal}
+use Rattle.gq_group.specs.Work.{Spills}
 use Rattle.gq_query.specs.Cells.{columns_used, placed}
 use Rattle.gq_query.specs.Keeping.{is_kept, kept_rows, ours_of}
+use Rattle.gq_query.specs.Work.{IsSpentOn}
 use Rattle.gq_query.proofs.KeepingLemmas.{all_kept, source_ready}
 use Rattle.gq_query.proofs.Placing.{used_within, all_fit_placed, groups_placed, same_keys}
-use Rattle.gq_query.proofs.query.Query.groups_of.Goals as goal
+use Rattle.gq_query.proofs.query.Query.groups_into.Goals as goal
 
 pub group-requires-clause-source : goal.group-requires-clause-source
 group-requires-clause-source g c =
@@ -36,8 +42,8 @@ group-requires-clause-widths g c = λ h rows e.
     let keep = is_kept c.args.self.now.kept.now in
     subst OneWidth (sym e) (one_width-cells c.as_slice-2.result.now (filter keep c.rows.result.rest))
 
-pub returns-in_err-spent-clause-overflow : goal.returns-in_err-spent-clause-overflow
-returns-in_err-spent-clause-overflow g c = λ h e.
+pub returns-clause-overflow : goal.returns-clause-overflow
+returns-clause-overflow g c = λ h e.
     let spec : Spec = record { by = c.args.self.now.by.now; aggs = c.args.aggs.now } in
     let rows = kept_rows c.args.self.now in
     let keep = is_kept c.args.self.now.kept.now in
@@ -46,7 +52,7 @@ returns-in_err-spent-clause-overflow g c = λ h e.
     let asked : c.in-Ok-place_spec.spec ≡ placed (columns_used spec) spec = c.in-Ok-place_spec.ensures ∙ ap (λ u. placed u spec) (c.as_slice.ensures.value ∙ c.in-Ok.ensures) in
     let same : groups c.in-Ok-place_spec.spec given ≡ groups spec rows
     = (λ i. groups (asked i) (map (cells_in (used i)) (filter keep (c.rows.ensures.rows i)))) ∙ groups_placed spec rows in
-    sym (ap (list_any (λ g. list_any is_none g.1)) same) ∙ c.in_err-spent.ensures.overflow h (search rules) given refl
+    sym (ap (list_any (λ g. list_any is_none g.1)) same) ∙ c.group.ensures.overflow h e given refl
 
 pub returns-clause-groups : goal.returns-clause-groups
 returns-clause-groups g c = λ h.
@@ -58,9 +64,16 @@ returns-clause-groups g c = λ h.
     let asked : c.in-Ok-place_spec.spec ≡ placed (columns_used spec) spec = c.in-Ok-place_spec.ensures ∙ ap (λ u. placed u spec) (c.as_slice.ensures.value ∙ c.in-Ok.ensures) in
     let same : groups c.in-Ok-place_spec.spec given ≡ groups spec rows
     = (λ i. groups (asked i) (map (cells_in (used i)) (filter keep (c.rows.ensures.rows i)))) ∙ groups_placed spec rows in
-    let pushed = c.in_ok-spent.ensures.groups h given refl [] (sym c.new-sink.ensures) in
-    let all = sym pushed.2 in
-    subst (λ l. IsPermutation (groups spec rows) (map answered l)) (sym all) (subst (λ gs. IsPermutation gs (map answered pushed.0)) same pushed.1)
+    on_ok_weaker c.group.result
+    (λ put.
+    let pushed = put given refl [] (sym c.requires.none) in
+    subst (λ l. IsPermutation (groups spec rows) (map answered l)) pushed.2 (subst (λ gs. IsPermutation gs (map answered pushed.0)) same pushed.1))
+    (c.group.ensures.groups h)
+
+spent_on : (budget : ℕ) (by : List ℕ) (rows : List (List Value)) (r : Result Spent Refusal) → IfOk r (λ spent. (spent.rows_read ≡ length rows) × (spent.groups ≡ length (keys_of by rows)))
+    → IfOk r (Spills budget) → IfOk r (IsSpentOn budget by rows)
+spent_on budget by rows (Ok spent) counts spills = record { read = counts.0; groups = counts.1; written = spills }
+spent_on budget by rows (Err e) counts spills = tt
 
 pub returns-clause-spent : goal.returns-clause-spent
 returns-clause-spent g c = λ h.
@@ -72,9 +85,10 @@ returns-clause-spent g c = λ h.
     let asked : c.in-Ok-place_spec.spec ≡ placed (columns_used spec) spec = c.in-Ok-place_spec.ensures ∙ ap (λ u. placed u spec) (c.as_slice.ensures.value ∙ c.in-Ok.ensures) in
     let same : keys_of c.in-Ok-place_spec.spec.by given ≡ keys_of spec.by rows
     = (λ i. keys_of (asked i).by (map (cells_in (used i)) (filter keep (c.rows.ensures.rows i)))) ∙ same_keys spec rows in
-    let told = c.in_ok-spent.ensures.counts h given refl in
-    record {
-      read = told.0 ∙ length-map (filter keep c.rows.result.rest) (cells_in c.as_slice-2.result.now) ∙ ap (λ l. length (filter keep l)) c.rows.ensures.rows;
-      groups = told.1 ∙ ap (λ l. length l) same;
-      written = c.in_ok-spent.ensures.spills h;
-    }
+    spent_on c.args.self.now.budget.entries spec.by rows c.group.result
+    (IfOk-weaker c.group.result _ _
+    (λ spent told.
+    let it = told given refl in
+    (it.0 ∙ length-map (filter keep c.rows.result.rest) (cells_in c.as_slice-2.result.now) ∙ ap (λ l. length (filter keep l)) c.rows.ensures.rows, it.1 ∙ ap (λ l. length l) same))
+    (c.group.ensures.counts h))
+    (c.group.ensures.spills h)
