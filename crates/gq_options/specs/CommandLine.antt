@@ -13,45 +13,43 @@ use Rattle.clap.specs.declared.error.kind.ErrorKind.TheVariants.{ArgumentConflic
 use Rattle.gq_options.specs.declared.options.Seed.{Seed}
 use Rattle.gq_options.specs.declared.options.Seed.TheVariants.{Number, Random}
 
+-- an option with one value, by its name
+abbrev pub option_named : Text → Rule
+option_named name = record (new_rule name) {
+  long = Some name;
+  value_names = 1;
+}
+
 -- an option with one value, any text, and `0` where it is not given
 abbrev pub SEED : Rule
-SEED = record (new_rule (codes "seed")) {
-  long = Some (codes "seed");
-  value_names = 1;
-  defaults = codes "0" ∷ [];
-}
+SEED = record (option_named (codes "seed")) { defaults = codes "0" ∷ [] }
 
 -- an option with one value, a number of 1 to 1,048,576, and 65,536 where it is not given
 abbrev pub BUDGET : Rule
-BUDGET = record (new_rule (codes "budget")) {
-  long = Some (codes "budget");
-  value_names = 1;
+BUDGET = record (option_named (codes "budget")) {
   defaults = codes "65536" ∷ [];
   parser = Some (vp.Unsigned 1 1048576);
 }
 
 -- an option with one value, any text
 abbrev pub SPILL : Rule
-SPILL = record (new_rule (codes "spill")) {
-  long = Some (codes "spill");
-  value_names = 1;
+SPILL = option_named (codes "spill")
+
+-- a flag by its name
+abbrev pub flag_named : Text → Rule
+flag_named name = record (new_rule name) {
+  long = Some name;
+  action = Some SetTrue;
+  parser = Some vp.Bool;
 }
 
 -- a flag
 abbrev pub STATS : Rule
-STATS = record (new_rule (codes "stats")) {
-  long = Some (codes "stats");
-  action = Some SetTrue;
-  parser = Some vp.Bool;
-}
+STATS = flag_named (codes "stats")
 
 -- a flag too
 abbrev pub CHECK : Rule
-CHECK = record (new_rule (codes "check")) {
-  long = Some (codes "check");
-  action = Some SetTrue;
-  parser = Some vp.Bool;
-}
+CHECK = flag_named (codes "check")
 
 -- a word by its place
 abbrev pub SCRIPT : Rule

@@ -1,7 +1,7 @@
 //! The program's command line.
 ghost use Rattle.std.specs.Prelude.{◌≡◌, false, IfOk, codes, map, string_bytes};
 ghost use Rattle.clap.specs.Words.{app_of, first_value, found_of, kind_of, one_text, rule_of};
-ghost use Rattle.gq_options.specs.CommandLine.{BUDGET, CHECK, LINE, SCRIPT, SEED, SPILL, STATS, is_budget};
+ghost use Rattle.gq_options.specs.CommandLine.{BUDGET, LINE, SCRIPT, SEED, SPILL, flag_named, is_budget, option_named};
 ghost use Rattle.gq_options.specs.Words.{IsReadAs, IsReadAsFlag, IsToldAs, IsToldAsMistake, Reads, ReadsSeed};
 
 use clap::error::ErrorKind;
@@ -89,13 +89,17 @@ Exit status:
   3  the script can't be read, a reply can't be written, or there was no memory, or no random seed, to
      begin with";
 
+const STATS_HELP: &str =
+    "Tell on standard error, at the end, what grouping took: rows, groups, runs; and a random seed";
+
+const CHECK_HELP: &str =
+    "Run nothing: tell each line that is no command, as FILE:LINE:COLUMN: MESSAGE";
+
 fn budget_option<'a>(alloc: Global) -> Arg<'a>
     ensures rule { rule_of result ≡ BUDGET }
     ensures local { result.global ≡ false }
 {
-    Arg::new(alloc, "budget")
-        .long("budget")
-        .value_name("N")
+    valued(alloc, "budget", "N")
         .value_parser(value_parser!(u64).range(1..=1_048_576))
         .default_value("65536")
         .help(
@@ -107,45 +111,38 @@ fn seed_option<'a>(alloc: Global) -> Arg<'a>
     ensures rule { rule_of result ≡ SEED }
     ensures local { result.global ≡ false }
 {
-    Arg::new(alloc, "seed")
-        .long("seed")
-        .value_name("N")
-        .default_value("0")
-        .help("Seed of the hash that tables use, or `random`; no reply depends on it")
+    valued(alloc, "seed", "N").default_value("0").help(
+        "Seed of the hash that tables use, or `random`; no reply depends on it",
+    )
 }
 
 fn spill_option<'a>(alloc: Global) -> Arg<'a>
     ensures rule { rule_of result ≡ SPILL }
     ensures local { result.global ≡ false }
 {
-    Arg::new(alloc, "spill")
-        .long("spill")
-        .value_name("DIR")
-        .help("Folder for the rows that are put aside; without it, they stay in memory")
+    valued(alloc, "spill", "DIR").help(
+        "Folder for the rows that are put aside; without it, they stay in memory",
+    )
 }
 
-fn stats_option<'a>(alloc: Global) -> Arg<'a>
-    ensures rule { rule_of result ≡ STATS }
+// An option with one value, by its long name.
+fn valued<'a>(alloc: Global, name: &'a str, value: &'a str) -> Arg<'a>
+    ensures rule { rule_of result ≡ option_named name.entry.now }
     ensures local { result.global ≡ false }
 {
-    Arg::new(alloc, "stats")
-        .long("stats")
-        .action(ArgAction::SetTrue)
-        .value_parser(value_parser!(bool))
-        .help(
-            "Tell on standard error, at the end, what grouping took: rows, groups, runs; and a random seed",
-        )
+    Arg::new(alloc, name).long(name).value_name(value)
 }
 
-fn check_option<'a>(alloc: Global) -> Arg<'a>
-    ensures rule { rule_of result ≡ CHECK }
+// A flag by its long name.
+fn flag<'a>(alloc: Global, name: &'a str, help: &'a str) -> Arg<'a>
+    ensures rule { rule_of result ≡ flag_named name.entry.now }
     ensures local { result.global ≡ false }
 {
-    Arg::new(alloc, "check")
-        .long("check")
+    Arg::new(alloc, name)
+        .long(name)
         .action(ArgAction::SetTrue)
         .value_parser(value_parser!(bool))
-        .help("Run nothing: tell each line that is no command, as FILE:LINE:COLUMN: MESSAGE")
+        .help(help)
 }
 
 fn script_word<'a>(alloc: Global) -> Arg<'a>
@@ -159,16 +156,20 @@ fn script_word<'a>(alloc: Global) -> Arg<'a>
 fn command_line<'a>(alloc: Global) -> Result<Command<'a>, AllocError>
     ensures { IfOk result (λ c. app_of c ≡ LINE) }
 {
-    let args = vec![in alloc;
+    let Ok(args) = vec![in alloc;
         budget_option(alloc),
         seed_option(alloc),
         spill_option(alloc),
-        stats_option(alloc),
-        check_option(alloc),
+        flag(alloc, "stats", STATS_HELP),
+        flag(alloc, "check", CHECK_HELP),
         script_word(alloc),
-    ]?;
-    Command::new(alloc, "groupsh")
-        .bin_name("groupsh")?
+    ] else {
+        return Err(AllocError);
+    };
+    let Ok(command) = Command::new(alloc, "groupsh").bin_name("groupsh") else {
+        return Err(AllocError);
+    };
+    command
         .version(VERSION)
         .about(ABOUT)
         .after_help(MORE)

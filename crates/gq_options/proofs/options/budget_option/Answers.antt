@@ -6,5 +6,5 @@ use Rattle.gq_options.proofs.options.budget_option.Goals as goal
 pub returns-clause-rule : goal.returns-clause-rule
 returns-clause-rule c =
     let narrowed : c.range.result ≡ Unsigned 1 1048576 =
-    narrowed-to c.value_parser.result c.range.result c.new-2.result.start c.new-2.result.end c.value_parser.ensures c.new-2.ensures.start c.new-2.ensures.end c.range.ensures in
+    narrowed-to c.value_parser.result c.range.result c.new.result.start c.new.result.end c.value_parser.ensures c.new.ensures.start c.new.ensures.end c.range.ensures in
     search rules

@@ -21,12 +21,12 @@ added old (arg ∷ args) new adds local = added adds.0 args new adds.2 local.1 �
 
 pub returns : goal.returns
 returns c =
-    let named = ap app_of_fields c.in_ok-bin_name.ensures.0 ∙ c.new.ensures.app in
+    let named = ap app_of_fields c.in-Ok-bin_name.ensures.0 ∙ c.new.ensures.app in
     let versioned = ap app_of_fields c.version.ensures ∙ ap with_version named in
     let shown = ap app_of_fields c.after_help.ensures ∙ ap app_of_fields c.about.ensures ∙ versioned in
-    let args = c.budget_option.result ∷ c.seed_option.result ∷ c.spill_option.result ∷ c.stats_option.result ∷ c.check_option.result ∷ c.script_word.result ∷ [] in
-    let local : are_local args = (c.budget_option.ensures.local, (c.seed_option.ensures.local, (c.spill_option.ensures.local, (c.stats_option.ensures.local, (c.check_option.ensures.local, (c.script_word.ensures.local, tt)))))) in
+    let args = c.budget_option.result ∷ c.seed_option.result ∷ c.spill_option.result ∷ c.flag.result ∷ c.flag-2.result ∷ c.script_word.result ∷ [] in
+    let local : are_local args = (c.budget_option.ensures.local, (c.seed_option.ensures.local, (c.spill_option.ensures.local, (c.flag.ensures.local, (c.flag-2.ensures.local, (c.script_word.ensures.local, tt)))))) in
     let rules : with_rules (with_version (new_app (codes "groupsh"))) (map rule_of args) ≡ LINE =
-    rw (c.budget_option.ensures.rule, c.seed_option.ensures.rule, c.spill_option.ensures.rule, c.stats_option.ensures.rule, c.check_option.ensures.rule, c.script_word.ensures.rule) refl in
+    rw (c.budget_option.ensures.rule, c.seed_option.ensures.rule, c.spill_option.ensures.rule, c.flag.ensures.rule, c.flag-2.ensures.rule, c.script_word.ensures.rule) refl in
     let line : with_rules (app_of c.after_help.result) (map rule_of args) ≡ LINE = ap (λ app. with_rules app (map rule_of args)) shown ∙ rules in
-    IfOk-weaker c.args-2.result _ _ (λ r h. added c.after_help.result args r (rw c.in_ok-args.ensures.items at h) local ∙ line) c.args-2.ensures
+    IfOk-weaker c.args-2.result _ _ (λ r h. added c.after_help.result args r (rw c.in-Ok.ensures.items at h) local ∙ line) c.args-2.ensures
