@@ -1,4 +1,5 @@
 pub mod Bytes
+pub mod CarryingLemmas
 pub mod CaseLemmas
 pub mod FormLemmas
 pub mod GroupLemmas

@@ -16,3 +16,4 @@ pub mod Engines
 -- contracts of single functions
 pub mod Sending
 pub mod Serving
+pub mod Carrying

@@ -32,11 +32,12 @@ impl<H: KeyHash<Key> + Copy, S: RunStore> Engine<H, S> {
     ghost use Rattle.std.specs.Prelude.{◌≡◌, ◌∷◌, [], true};
     ghost use Rattle.gq_command.specs.Commands.{is_command, as_said};
     ghost use Rattle.gq_engine.specs.Engines.{database, setting_of, failures_of, budget_of, spent_of, NOTHING_SPENT};
+    ghost use Rattle.gq_engine.specs.Carrying.{Carried};
     ghost use Rattle.gq_engine.specs.Databases.{IsKeyed};
-    ghost use Rattle.gq_engine.specs.Runs.{AnsweredAlike, AnsweredAsLists, KeptUnlessDone, FaultsHappened, is_grouping, takes_no_memory};
+    ghost use Rattle.gq_engine.specs.Runs.{AnsweredAlike, AnsweredAsLists, KeptUnlessDone, FaultsHappened, takes_no_memory};
     ghost use Rattle.gq_engine.specs.Serving.{Comes, ComesOver, ComesSurely, reply_of};
     ghost use Rattle.gq_engine.specs.Spending.{GroupSpends, Spends};
-    ghost use Rattle.gq_engine.specs.Steps.{outcome, create as created, drop_table as dropped, load_table as loaded, upsert as upserted, delete_row as removed, show_table as shown, group as grouped, distinct as told_apart};
+    ghost use Rattle.gq_engine.specs.Steps.{create as created, drop_table as dropped, load_table as loaded, upsert as upserted, delete_row as removed, show_table as shown, group as grouped, distinct as told_apart};
 
     /// An engine without tables, whose keys will be hashed by `hasher`.
     pub fn new(alloc: Global, hasher: H, store: S, budget: Budget, limits: Limits) -> Engine<H, S>
@@ -118,18 +119,7 @@ impl<H: KeyHash<Key> + Copy, S: RunStore> Engine<H, S> {
     // One command, step by step.
     fn carry_out(&mut self, command: Command) -> Result<Reply, Refused>
         requires { is_command (as_said command) ≡ true }
-        ensures comes { ComesOver (is_grouping command) (setting_of S.runs self.old).honest
-            (outcome (setting_of S.runs self.old).limits (database self.old) command)
-            result (database self.old) (database self.new) }
-        ensures faults { FaultsHappened (reply_of result ∷ []) (failures_of S.runs self.old)
-            (failures_of S.runs self.new) }
-        ensures sure { takes_no_memory command ≡ true → ComesSurely
-            (outcome (setting_of S.runs self.old).limits (database self.old) command)
-            result (database self.old) (database self.new) }
-        ensures setting { setting_of S.runs self.new ≡ setting_of S.runs self.old }
-        ensures spent { Spends (setting_of S.runs self.old).honest (budget_of self.old)
-            (database self.old) command (reply_of result) (spent_of self.old) (spent_of self.new) }
-        ensures budget { budget_of self.new ≡ budget_of self.old }
+        ensures { Carried S.runs command result self.old self.new }
     {
         match command {
             Command::Create {
