@@ -1,7 +1,9 @@
 //! Runs: the items of a script answered one after the other, and the replies written.
-ghost use Rattle.std.specs.Prelude.{◌≡◌, ◌+◌, ◌<◌, ◌≤◌, ◌∷◌, ◌^◌, [], if◌then◌else◌, IfSome, IfNone};
+ghost use Rattle.std.specs.Prelude.{◌≡◌, ◌+◌, ◌<◌, ◌≤◌, ◌∷◌, ◌^◌, [], if◌then◌else◌, IfSome, IfNone, IfErr, OnOk};
+ghost use Rattle.std.specs.Io.KnownBytes.{Appends};
 ghost use Rattle.gq_command.specs.Items.{IsReady};
 ghost use Rattle.gq_reply.specs.Replies.{text, IsLine, is_refusal};
+ghost use Rattle.gq_engine.specs.Sending.{AppendsFront};
 ghost use Rattle.gq_engine.specs.Steps.{line_refusal};
 
 use crate::engine::Engine;
@@ -102,10 +104,7 @@ impl<H: KeyHash<Key> + Copy, S: RunStore> Engine<H, S> {
         ensures budget { budget_of self.new ≡ budget_of self.old }
     {
         let (reply, text) = self.answer(item);
-        match text {
-            Some(text) => send(writer, text.as_slice())?,
-            None => send(writer, line_of(&reply).as_slice())?,
-        }
+        send_reply(writer, &reply, text)?;
         Ok(reply)
     }
 
@@ -146,6 +145,24 @@ impl<H: KeyHash<Key> + Copy, S: RunStore> Engine<H, S> {
             },
             _ => (reply, None),
         }
+    }
+}
+
+// Writes a reply, whose text is made where that needs memory.
+fn send_reply<W: Write>(
+    writer: &mut W,
+    reply: &Reply,
+    made: Option<Vec<u8>>,
+) -> Result<(), WriteFault>
+    requires made { IfSome made (λ bytes. bytes.items ≡ text reply.now) }
+    requires line { IfNone made (IsLine reply.now) }
+    ensures ok { OnOk result (Appends (W.contents writer.old) (W.contents writer.new) (text reply.now)) }
+    ensures err { IfErr result (λ _. AppendsFront (W.contents writer.old) (W.contents writer.new)
+        (text reply.now)) }
+{
+    match made {
+        Some(text) => send(writer, text.as_slice()),
+        None => send(writer, line_of(reply).as_slice()),
     }
 }
 
