@@ -1,6 +1,6 @@
 -- Groups and different values: what a plan comes to, and what its grouping.
-use Rattle.std.proofs.Common.{◌≡◌, ◌⊎◌, inl, inr, ◌<◌, Bool, true, List, [], ◌∷◌, length, refl, sym, ap, subst, ◌∙◌, Option, Some, None, arith}
-use Rattle.std.specs.Prelude.{Result, Ok, Err}
+use Rattle.std.proofs.Common.{◌≡◌, ◌⊎◌, inl, inr, ◌<◌, ℕ, Bool, true, List, [], ◌∷◌, length, refl, sym, ap, subst, ◌∙◌, Option, Some, None, arith}
+use Rattle.std.specs.Prelude.{Result, Ok, Err, IfOk}
 use Rattle.gq_row.specs.declared.value.Value.{Value}
 use Rattle.gq_row.specs.Tables.{PlainTable}
 use Rattle.gq_command.specs.Commands.{Bytes, is_command}
@@ -21,9 +21,11 @@ use Rattle.gq_plan.specs.Headers.{group_header}
 use Rattle.gq_plan.specs.Plans.{distinct_plan, group_plan}
 use Rattle.gq_engine.specs.Databases.{Database, table_at}
 use Rattle.gq_engine.specs.Runs.{IsGrouped}
-use Rattle.gq_engine.specs.Serving.{Comes, ComesOver, Plainly, StoreFails, StoreLies, GroupsOver}
+use Rattle.gq_engine.specs.Serving.{Comes, ComesOver, Plainly, StoreFails, StoreLies, GroupsOver, under}
+use Rattle.gq_group.specs.declared.grouping.Spent.{Spent}
 use Rattle.gq_query.specs.Rollups.{grouping_sets}
-use Rattle.gq_engine.specs.Spending.{rows_asked}
+use Rattle.gq_query.specs.Work.{RisesBy}
+use Rattle.gq_engine.specs.Spending.{Rises, rows_asked}
 use Rattle.gq_engine.specs.Steps.{Outcome, distinct, group, keys_planned, other_in, rows_about, rows_planned, settle}
 use Rattle.gq_engine.proofs.OrderLemmas.{same_tables}
 use Rattle.gq_engine.proofs.StepLemmas.{carries}
@@ -63,7 +65,17 @@ module _ (db : Database) (honest : Bool) (steps : Outcome) (due : List Bytes) (a
       told_as (Err w) = Err w
   refused_over why (inr (inr (inr lied))) = StoreLies refl reached (same_tables db) lied
 
+  pub comes_over : (result : Result Rows Refused) → GroupsOver honest (some_or SumRange answer) result → ComesOver true honest steps (under due result) db db
+  comes_over (Ok rows) h = shown_over due rows refl h
+  comes_over (Err why) h = refused_over why h
+
 module _ (db : Database) (name : Bytes) (clauses : GroupClauses) where
+  -- what was spent rose, where rows came of it
+  pub rises_over : (honest : Bool) (budget : ℕ) (sets : List (List ℕ)) (rows : Rows) (spent : Spent) (result : Result (Rows × Spent) Refused) → rows_asked db name clauses ≡ Ok (sets, rows)
+      → IfOk result (λ found. RisesBy honest budget rows sets spent found.1) → IfOk result (λ found. Rises honest budget db name clauses spent found.1)
+  rises_over honest budget sets rows spent (Ok found) asked work = record { sets = sets; rows = rows; asked = asked; work = work }
+  rises_over honest budget sets rows spent (Err why) asked work = tt
+
   pub group_none : table_at db name ≡ None → group db name clauses ≡ Err (unnumbered NoTable)
   group_none h = misses NoTable (table_at db name) _ h
 

@@ -53,6 +53,11 @@ abbrev pub rows_in : {X : Type 0} → Result (X × Spent) Refused → Result X R
 rows_in (Ok found) = Ok found.0
 rows_in (Err why) = Err why
 
+-- the reply that rows are under their header
+abbrev pub under : List Bytes → Result (List (List Value)) Refused → Result Reply Refused
+under header (Ok rows) = Ok (reply.Rows header rows)
+under header (Err why) = Err why
+
 -- how many failures of the run store a result tells
 abbrev pub faults_in : {X : Type 0} → Result X Refused → ℕ
 faults_in (Ok x) = 0

@@ -2,7 +2,7 @@
 ghost use Rattle.std.specs.Prelude.{◌≡◌, ◌∷◌, []};
 
 use crate::catalog::Catalog;
-use crate::grouping::{asked_of, rows_different, rows_grouped};
+use crate::grouping::{rows_asked, rows_different};
 use crate::payloads::stage_for;
 use gq_command::{Command, Item, Payload, Test};
 use gq_group::{Budget, Spent};
@@ -258,10 +258,11 @@ impl<H: KeyHash<Key> + Copy, S: RunStore> Engine<H, S> {
         ensures budget { budget_of self.new ≡ budget_of self.old }
     {
         let header = header_of(self.alloc, &clauses.by, clauses.shown.as_slice())?;
-        let asked = asked_of(self.alloc, &self.catalog, name, clauses)?;
-        let (hasher, store) = (self.hasher, &mut self.store);
+        let (hasher, catalog, store) = (self.hasher, &self.catalog, &mut self.store);
         let (budget, spent) = (self.budget, self.spent);
-        let (rows, spent) = rows_grouped(self.alloc, hasher, &asked, store, budget, spent)?;
+        let (rows, spent) = rows_asked(
+            self.alloc, hasher, catalog, name, clauses, store, budget, spent,
+        )?;
         self.spent = spent;
         Ok(Reply::Rows { header, rows })
     }

@@ -1,14 +1,16 @@
 //! Groupings over the run store, by their plans, and the refusals that come of them.
-ghost use Rattle.std.specs.Prelude.{◌≡◌, ◌⊎◌, ◌+◌, ◌≤◌, ◌<◌, All, IsTrue, Ok, Err, IfOk, IfErr, length, option_copied};
+ghost use Rattle.std.specs.Prelude.{◌≡◌, ◌⊎◌, ◌+◌, ◌≤◌, ◌<◌, true, All, IsTrue, Ok, Err, IfOk, IfErr, length, option_copied};
 ghost use Rattle.gq_query.specs.Selecting.{other_columns};
 ghost use Rattle.gq_query.specs.Rollups.{grouping_sets};
 ghost use Rattle.gq_query.specs.Work.{RisesBy};
 ghost use Rattle.gq_reply.specs.declared.refusal.Refusal.TheVariants.{Memory, SumRange};
 ghost use Rattle.gq_reply.specs.Refusals.{unnumbered};
 ghost use Rattle.gq_reply.specs.Outcomes.{some_or};
+ghost use Rattle.gq_plan.specs.Headers.{group_header};
 ghost use Rattle.gq_plan.specs.Plans.{IsWithin};
 ghost use Rattle.gq_engine.specs.Refusing.{group_refusal};
-ghost use Rattle.gq_engine.specs.Serving.{GroupsOver, faults_in, rows_in};
+ghost use Rattle.gq_engine.specs.Serving.{ComesOver, GroupsOver, faults_in, rows_in, under};
+ghost use Rattle.gq_engine.specs.Spending.{Rises};
 ghost use Rattle.gq_engine.specs.Steps.{Asks, group as grouped, keys_planned, other_in, rows_about, rows_planned};
 
 use crate::catalog::Catalog;
@@ -23,17 +25,17 @@ use gq_table::Table;
 use std::alloc::Global;
 use sw_probe::KeyHash;
 
-/// What a `group` asks of the tables of a catalog.
+// What a `group` asks of the tables of a catalog.
 #[derive(Drop)]
-pub struct Asked<'a, H: KeyHash<Key>> {
-    pub table: &'a Table<H>,
-    /// The table that its `exists` names, if there is one.
-    pub others: Option<&'a Table<H>>,
-    pub plan: GroupPlan,
+struct Asked<'a, H: KeyHash<Key>> {
+    table: &'a Table<H>,
+    // The table that its `exists` names, if there is one.
+    others: Option<&'a Table<H>>,
+    plan: GroupPlan,
 }
 
-/// Looks up what a `group` names, or says why it is refused.
-pub fn asked_of<'a, H: KeyHash<Key> + Copy>(
+// Looks up what a `group` names, or says why it is refused.
+fn asked_of<'a, H: KeyHash<Key> + Copy>(
     alloc: Global,
     catalog: &'a Catalog<H>,
     name: &str,
@@ -84,9 +86,33 @@ fn columns_of<'a, H: KeyHash<Key> + Copy>(table: Option<&'a Table<H>>) -> &'a [C
     }
 }
 
-/// The result rows of a `group` and what was spent, raised by what grouping them took, or the refusal
-/// that this comes to.
-pub fn rows_grouped<H: KeyHash<Key> + Copy, S: RunStore>(
+/// The result rows of a `group` of a catalog's table and what was spent, raised by what grouping them
+/// took, or the refusal that this comes to.
+pub fn rows_asked<H: KeyHash<Key> + Copy, S: RunStore>(
+    alloc: Global,
+    hasher: H,
+    catalog: &Catalog<H>,
+    name: &str,
+    clauses: &GroupClauses,
+    store: &mut S,
+    budget: Budget,
+    spent: Spent,
+) -> Result<(Rows, Spent), Refused>
+    ensures comes { ComesOver true (S.runs store.old).honest
+        (grouped catalog.now name.now clauses.now)
+        (under (group_header clauses.now.by clauses.now.shown) (rows_in result))
+        catalog.now catalog.now }
+    ensures spent { IfOk result (λ found. Rises (S.runs store.old).honest budget.entries
+        catalog.now name.now clauses.now spent found.1) }
+    ensures faults { (S.runs store.old).failures + faults_in result ≤ (S.runs store.new).failures }
+    ensures honest { (S.runs store.new).honest ≡ (S.runs store.old).honest }
+{
+    let asked = asked_of(alloc, catalog, name, clauses)?;
+    rows_grouped(alloc, hasher, &asked, store, budget, spent)
+}
+
+// The same of what it asks, looked up.
+fn rows_grouped<H: KeyHash<Key> + Copy, S: RunStore>(
     alloc: Global,
     hasher: H,
     asked: &Asked<'_, H>,
