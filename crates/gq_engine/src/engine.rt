@@ -4,10 +4,10 @@ ghost use Rattle.std.specs.Prelude.{◌≡◌, ◌∷◌, []};
 use crate::catalog::Catalog;
 use crate::grouping::{rows_asked, rows_different};
 use crate::payloads::stage_for;
+use crate::showing::all_shown;
 use gq_command::{Command, Item, Payload, Test};
 use gq_group::{Budget, Spent};
-use gq_plan::{GroupClauses, header_of, names_of, plan_distinct};
-use gq_query::show_rows;
+use gq_plan::{GroupClauses, header_of, plan_distinct};
 use gq_reply::{Refusal, Refused, Reply};
 use gq_row::{Column, Key, Limits, Row, Schema, Sequence, Text, find_positions};
 use gq_spill::RunStore;
@@ -240,10 +240,10 @@ impl<H: KeyHash<Key> + Copy, S: RunStore> Engine<H, S> {
         ensures { Comes (shown (database self.now) name)
             result (database self.now) (database self.now) }
     {
-        let table = self.catalog.get(name.as_str()).ok_or(Refusal::NoTable)?;
-        let header = names_of(self.alloc, table.schema().columns())?;
-        let rows = show_rows(self.alloc, table)?;
-        Ok(Reply::Rows { header, rows })
+        match self.catalog.get(name.as_str()) {
+            Some(table) => all_shown(self.alloc, table),
+            None => Err(Refused::from(Refusal::NoTable)),
+        }
     }
 
     fn group(&mut self, name: &str, clauses: &GroupClauses) -> Result<Reply, Refused>

@@ -41,6 +41,7 @@ pub mod laws;
 mod payloads;
 mod run;
 mod sending;
+mod showing;
 
 pub use engine::Engine;
 pub use gq_group::{Budget, Spent};

@@ -1,42 +1,36 @@
-use Rattle.std.proofs.Common.{◌≡◌, ◌∙◌, ap, rules}
-use Rattle.std.specs.Prelude.{Ok}
-use Rattle.std.proofs.lemmas.Result.{err_from_is_err_and}
+use Rattle.std.proofs.Common.{◌≡◌, ◌∙◌, ℕ, List, Some, sym, ap, rules}
+use Rattle.std.specs.Prelude.{Result, Ok, Err, IfOk, IfErr}
 use Rattle.gq_command.specs.Commands.{column_names}
-use Rattle.gq_reply.specs.declared.refusal.Refusal.TheVariants.{NoTable}
+use Rattle.gq_row.specs.Tables.{PlainTable}
+use Rattle.gq_reply.specs.declared.refusal.Refusal.TheVariants.{Memory, NoTable}
+use Rattle.gq_reply.specs.declared.refusal.Refused.{Refused}
 use Rattle.gq_reply.specs.declared.reply.Reply.{Reply}
 use Rattle.gq_reply.specs.declared.reply.Reply.TheVariants as reply
 use Rattle.gq_reply.specs.Refusals.{unnumbered}
 use Rattle.gq_query.specs.Answers.{rows_shown}
+use Rattle.gq_engine.specs.Databases.{Database, table_at}
 use Rattle.gq_engine.specs.Engines.{database}
+use Rattle.gq_engine.specs.Serving.{Comes}
 use Rattle.gq_engine.specs.Steps.{show_table}
 use Rattle.gq_engine.proofs.FormLemmas.{show_none, show_gives}
 use Rattle.gq_engine.proofs.OrderLemmas.{same_tables}
-use Rattle.gq_reply.proofs.StepLemmas.{missed}
 use Rattle.gq_engine.proofs.StepLemmas.{no_memory, refuses, carries}
 use Rattle.gq_engine.proofs.engine.Engine.show.Goals as goal
 
-pub returns-in_err-table : goal.returns-in_err-table
-returns-in_err-table g c =
-    let db = database c.args.self.now in
-    let p = err_from_is_err_and c.from_residual.result c.from_residual.ensures.1 in
-    let m = missed c.get.result c.in_err-table.field-0.0 NoTable c.in_err-table.ensures.value in
-    rw p.1 (refuses (show_table db c.args.name) NoTable p.0 db (p.2 ∙ ap unnumbered m.1) (show_none db c.args.name (search rules)))
-
-pub returns-in_err-header : goal.returns-in_err-header
-returns-in_err-header g c =
-    let db = database c.args.self.now in
-    let p = err_from_is_err_and c.from_residual-in_err-header.result c.from_residual-in_err-header.ensures.1 in
-    rw p.1 (no_memory (show_table db c.args.name) p.0 db p.2)
-
-pub returns-in_err-rows : goal.returns-in_err-rows
-returns-in_err-rows g c =
-    let db = database c.args.self.now in
-    let p = err_from_is_err_and c.from_residual-in_err-rows.result c.from_residual-in_err-rows.ensures.1 in
-    rw p.1 (no_memory (show_table db c.args.name) p.0 db p.2)
+-- what showing a table of the database comes to
+shown_comes : (db : Database) (name : List ℕ) (table : PlainTable) (result : Result Reply Refused) → table_at db name ≡ Some table
+    → IfOk result (λ answer. answer ≡ reply.Rows (column_names table.heading.columns) (rows_shown table)) → IfErr result (λ why. why ≡ unnumbered Memory) → Comes (show_table db name) result db db
+shown_comes db name table (Ok (reply.Rows header rows)) found told lost = carries (show_table db name) (reply.Rows header rows) db db (show_gives db name table found ∙ ap (λ (r : Reply). Ok (db, r)) (sym told)) (same_tables db)
+shown_comes db name table (Ok (reply.Done n)) found told lost = let none : ⊥ = cc in absurd none
+shown_comes db name table (Ok (reply.Refused why number)) found told lost = let none : ⊥ = cc in absurd none
+shown_comes db name table (Err why) found told lost = no_memory (show_table db name) why db lost
 
 pub returns : goal.returns
 returns g c =
     let db = database c.args.self.now in
-    let told : reply.Rows (column_names c.in_ok-table.table.now.heading.columns) (rows_shown c.in_ok-table.table.now) ≡ reply.Rows c.in_ok-header.header c.in_ok-rows.rows = cc (c.in_ok-header.ensures, c.in_ok-rows.ensures, c.columns.ensures, c.schema.ensures) in
-    let shown = show_gives db c.args.name c.in_ok-table.table.now (search rules) in
-    carries (show_table db c.args.name) (reply.Rows c.in_ok-header.header c.in_ok-rows.rows) db db (shown ∙ ap (λ (r : Reply). Ok (db, r)) told) (same_tables db)
+    refuses (show_table db c.args.name) NoTable c.from.result db c.from.ensures (show_none db c.args.name (search rules))
+
+pub returns-in-Some : goal.returns-in-Some
+returns-in-Some g c =
+    let db = database c.args.self.now in
+    shown_comes db c.args.name c.in-Some.table.now c.all_shown.result (search rules) c.all_shown.ensures.shown c.all_shown.ensures.refused
