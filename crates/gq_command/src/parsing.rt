@@ -1,11 +1,14 @@
 //! Tokens as commands: one function for each rule of the grammar, which takes the tokens that it
 //! reads from the front of those that are left.
-ghost use Rattle.std.specs.Prelude.{◌≡◌, if◌then◌else◌, None, IfOk, IfErr, bytes_eq};
+ghost use Rattle.std.specs.Prelude.{◌≡◌, if◌then◌else◌, List, None, IfOk, IfErr, bytes_eq};
 ghost use Rattle.std.specs.List.{list_all};
 ghost use Rattle.gq_row.specs.Repeats.{no_repeats};
-ghost use Rattle.gq_command.specs.Commands.{column_names, is_row_test, keeps_rules, same_length};
+ghost use Rattle.gq_command.specs.Commands.{Bytes, column_names, is_row_test, keeps_rules, same_length};
+ghost use Rattle.gq_clause.specs.declared.aggregate.Aggregate.{Aggregate as Asked};
+ghost use Rattle.gq_command.specs.declared.command.By.{By as Columns};
+ghost use Rattle.gq_command.specs.declared.command.Command.TheVariants.{Group};
 ghost use Rattle.gq_token.specs.Results.{Gives};
-ghost use Rattle.gq_command.specs.Reading.{text_behind, kind_at, column_at, columns_at, key_at, row_at, create_at, exists_behind, exists_at, by_behind, by_at, group_at, distinct_at, form_behind, form_at, ended, command_of};
+ghost use Rattle.gq_command.specs.Reading.{text_behind, kind_at, column_at, columns_at, key_at, row_at, create_at, exists_behind, exists_at, by_behind, by_at, conditions_behind, group_at, distinct_at, form_behind, form_at, ended, command_of};
 ghost use Rattle.gq_token.specs.declared.parse_error.ParseError.TheVariants.{Memory};
 
 use crate::command::{By, Command, Exists, Payload};
@@ -165,7 +168,31 @@ fn by_of(alloc: Global, tokens: &mut Tokens) -> Result<By, ParseError>
     })
 }
 
-#[tactic(auto, unfolding(crate::specs::Reading::group_at, crate::specs::Reading::conditions_behind))]
+/// What rows and groups have to meet.
+#[derive(Drop)]
+struct Conditions {
+    tests: Sequence<Test>,
+    exists: Option<Exists>,
+    having: Sequence<Test>,
+}
+
+/// The conditions behind what is shown.
+#[tactic(auto, unfolding(crate::specs::Reading::conditions_behind))]
+fn conditions_of(alloc: Global, tokens: &mut Tokens) -> Result<Conditions, ParseError>
+    ensures { (table : Bytes) (by : Columns) (shown : List Asked) →
+        Gives (λ found. (Group table by shown found.tests found.exists found.having, tokens.new)) result (conditions_behind table by shown tokens.old) }
+{
+    let tests = tests_behind(alloc, Terminal::Where, tokens)?;
+    let exists = exists_of(alloc, tokens)?;
+    let having = tests_behind(alloc, Terminal::Having, tokens)?;
+    Ok(Conditions {
+        tests: Sequence::new(tests),
+        exists,
+        having: Sequence::new(having),
+    })
+}
+
+#[tactic(auto, unfolding(crate::specs::Reading::group_at))]
 fn group_of(alloc: Global, tokens: &mut Tokens) -> Result<Command, ParseError>
     ensures { Gives (λ command. (command, tokens.new)) result (group_at tokens.old) }
 {
@@ -173,16 +200,18 @@ fn group_of(alloc: Global, tokens: &mut Tokens) -> Result<Command, ParseError>
     let by = by_of(alloc, tokens)?;
     expect(tokens, Terminal::Show)?;
     let shown = aggregates_of(alloc, tokens)?;
-    let tests = tests_behind(alloc, Terminal::Where, tokens)?;
-    let exists = exists_of(alloc, tokens)?;
-    let having = tests_behind(alloc, Terminal::Having, tokens)?;
+    let Conditions {
+        tests,
+        exists,
+        having,
+    } = conditions_of(alloc, tokens)?;
     Ok(Command::Group {
         table,
         by,
         shown: Sequence::new(shown),
-        tests: Sequence::new(tests),
+        tests,
         exists,
-        having: Sequence::new(having),
+        having,
     })
 }
 
