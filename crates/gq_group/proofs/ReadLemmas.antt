@@ -4,20 +4,21 @@ use Rattle.std.specs.Prelude.{IsTrue, Ok, Err, IsErrAnd, IsErrOf, if◌then◌el
 use Rattle.std.specs.List.{sum_by}
 use Rattle.std.proofs.lemmas.List.Sums.{sum_by-cons}
 use Rattle.std.proofs.lemmas.Bool.Decides.{nat_tests}
+use Rattle.std.proofs.lemmas.Grind.{common_steps}
 use Rattle.gq_row.specs.declared.value.Value.{Value}
 use Rattle.gq_spill.specs.Runs.{Runs}
-use Rattle.gq_group.specs.Access.{RunSet, either, Apart, LeavesOthers, HasCause, GroupCause}
+use Rattle.gq_group.specs.Access.{RunSet, either, Apart, LeavesOthers, KeepsOwn, HasCause, GroupCause}
 use Rattle.gq_group.specs.Entries.{Pair}
-use Rattle.gq_group.specs.Groups.{Spec}
+use Rattle.gq_group.specs.Groups.{Spec, all_fit, fits_spec}
 use Rattle.gq_group.specs.Levels.{one_if_some, lots, classes_at}
-use Rattle.gq_group.specs.Readings.{Places, Reads, IsWide, left_lots}
+use Rattle.gq_group.specs.Readings.{AreRows, Places, Reads, IsWide, left_lots}
 use Rattle.gq_group.specs.Residents.{Resident}
 use Rattle.gq_group.specs.Slots.{is_run, among, Separate, Ours, AllHeld, SlotHolds, AreEmpty}
 use Rattle.gq_group.specs.declared.slot.Slot.{Slot}
 use Rattle.gq_group.specs.declared.refusal.Refusal.{Refusal}
 use Rattle.gq_group.specs.declared.refusal.Refusal.TheVariants.{SumRange, Memory, StoreFault, Damaged}
-use Rattle.gq_group.proofs.AccessLemmas.{or_in, or_from, or_left, leaves-refl, leaves-both}
-use Rattle.gq_group.proofs.SlotLemmas.{not_both, none_there, both_none}
+use Rattle.gq_group.proofs.AccessLemmas.{or_in, or_from, or_left, keeps-apart, leaves-refl, leaves-trans, leaves-both}
+use Rattle.gq_group.proofs.SlotLemmas.{not_both, none_there, both_none, held-stays}
 
 -- what is apart from a step's runs, and was there, is apart from those that it has afterwards
 pub apart-step : (r s : Runs) (a b k : RunSet) → LeavesOthers a b r s → Apart k a → ((run : ℕ) → IsTrue (k run) → IsTrue (r.live run)) → Apart k b
@@ -97,15 +98,15 @@ reads-none spec budget class n honest before r m slots start same empty = record
 }
 
 -- one row more was read and placed
-pub reads-step : (spec : Spec) (budget : ℕ) (class : List Value → ℕ) (n : ℕ) (honest : Bool) (before now after : List (List Value) → Type 0) (r s t : Runs) (count written began columns w b : ℕ)
+pub reads-step : (spec : Spec) (budget as_many : ℕ) (class by_class : List Value → ℕ) (n : ℕ) (honest : Bool) (before now after : List (List Value) → Type 0) (r s t : Runs) (count written began columns w b : ℕ)
     (m m' : List Pair) (slots slots' : List Slot) (row : List Value)
     → Reads spec budget class n honest before now r count written began columns m slots
     → (IsTrue honest → (rows : List (List Value)) → now rows → (rest : List (List Value)) × (rows ≡ row ∷ rest) × after rest)
     → ((parts : List (List (List Value))) → AllHeld r slots parts → AllHeld s slots parts)
-    → Places spec budget class n row s t m m' slots slots' w b
+    → as_many ≡ budget → by_class ≡ class → Places spec as_many by_class n row s t m m' slots slots' w b
     → (wide : ℕ) → wide ≡ cond (count == 0) (length row) columns
     → Reads spec budget class n honest before after t (count + 1) (written + w) (began + b) wide m' slots'
-reads-step spec budget class n honest before now after r s t count written began columns w b m m' slots slots' row read next stays place wide is_wide =
+reads-step spec budget as_many class by_class n honest before now after r s t count written began columns w b m m' slots slots' row read next stays same alike placed wide is_wide =
     let held : AllHeld s slots (left_lots spec class n read.done m) = stays (left_lots spec class n read.done m) read.held in
     record {
       done = read.done ++ row ∷ [];
@@ -120,6 +121,53 @@ reads-step spec budget class n honest before now after r s t count written began
       began_runs = omega (arith, place.runs read.done read.resident held, read.began_runs);
       wide = subst (λ n. IsWide n (read.done ++ row ∷ [])) (sym is_wide) (wide-step read.done row count columns read.counted read.wide);
     }
+  where
+    place : Places spec budget class n row s t m m' slots slots' w b
+    place = subst (λ x. Places spec x class n row s t m m' slots slots' w b) same (subst (λ f. Places spec as_many f n row s t m m' slots slots' w b) alike placed)
+
+-- a row that was read, and can't be grouped, was none of those that were there
+pub not-damaged : (spec : Spec) (budget : ℕ) (class : List Value → ℕ) (n : ℕ) (honest : Bool) (before now after : List (List Value) → Type 0) (r : Runs) (count written began columns : ℕ) (m : List Pair) (slots : List Slot) (row : List Value)
+    → Reads spec budget class n honest before now r count written began columns m slots
+    → (IsTrue honest → (rows : List (List Value)) × before rows × AreRows spec rows)
+    → (IsTrue honest → (rows : List (List Value)) → now rows → (rest : List (List Value)) × (rows ≡ row ∷ rest) × after rest)
+    → fits_spec spec row ≡ false → IsTrue honest → ⊥
+not-damaged spec budget class n honest before now after r count written began columns m slots row read known next unfit h =
+    let rows = known h in
+    let left = read.rest h rows.0 rows.1 in
+    let more = next h left.0 left.2 in
+    unlike read.done more.0 (subst (λ l. IsTrue (all_fit spec l)) (left.1 ∙ ap (λ l. read.done ++ l) more.1) rows.2.0)
+  where
+    unlike : (done rest : List (List Value)) → IsTrue (all_fit spec (done ++ row ∷ rest)) → ⊥
+    unlike done rest fit = grind (arith, common_steps)
+
+-- what the source has, what stands in slots, and what is held there, after a row was read and placed
+pub record Placing (a b : RunSet) (slots slots' : List Slot) (r0 r s t : Runs) : Type 0 where
+  pub kept : KeepsOwn b s t
+  pub held : (parts : List (List (List Value))) → AllHeld r slots parts → AllHeld s slots parts
+  pub apart : Apart (among slots') b
+  pub others : LeavesOthers a (either b (among slots')) r0 t
+
+pub placing : (before a b : RunSet) (slots slots' : List Slot) (r0 r s t : Runs) → LeavesOthers a b r s → LeavesOthers (among slots) (among slots') s t → Ours slots r → Apart (among slots) a → LeavesOthers before (either a (among slots)) r0 r
+    → ((run : ℕ) → IsTrue (b run) → IsTrue (s.live run)) → Placing before b slots slots' r0 r s t
+placing before a b slots slots' r0 r s t step put ours apart others live =
+    let away : Apart b (among slots) = apart-flip (among slots) b (apart-step r s a b (among slots) step apart ours.live) in
+    let kept : KeepsOwn (among slots) r s = keeps-apart a b (among slots) r s step (apart-flip (among slots) a apart) ours.live in
+    record {
+      kept = keeps-apart (among slots) (among slots') b s t put (apart-flip b (among slots) away) live;
+      held = λ parts held. held-stays r s slots parts kept ours held;
+      apart = apart-flip b (among slots') (apart-step s t (among slots) (among slots') b put away live);
+      others = leaves-trans _ _ _ _ _ _ others (leaves-both a b (among slots) (among slots') r s t step put);
+    }
+
+-- a refusal to place a row that was read has a cause since the first row
+pub placing-cause : (e : Refusal) (before a b : RunSet) (spec : Spec) (budget : ℕ) (class : List Value → ℕ) (n : ℕ) (honest : Bool) (from now : List (List Value) → Type 0) (r0 r s t : Runs) (count written began columns : ℕ) (m : List Pair) (slots : List Slot)
+    → Reads spec budget class n honest from now r count written began columns m slots
+    → LeavesOthers a b r s → Ours slots r → Apart (among slots) a → LeavesOthers before (either a (among slots)) r0 r
+    → ((parts : List (List (List Value))) → AllHeld s slots parts → HasCause e s t) → HasCause e r0 t
+placing-cause e before a b spec budget class n honest from now r0 r s t count written began columns m slots read step ours apart others told =
+    let kept : KeepsOwn (among slots) r s = keeps-apart a b (among slots) r s step (apart-flip (among slots) a apart) ours.live in
+    let parts = left_lots spec class n read.done m in
+    cause-later e before (either b (among slots)) r0 s t (leaves-trans _ _ _ _ _ _ others (leaves-left a b (among slots) r s step)) (told parts (held-stays r s slots parts kept ours read.held))
 
 -- all were read
 pub reads-end : (spec : Spec) (budget : ℕ) (class : List Value → ℕ) (n : ℕ) (honest : Bool) (before now : List (List Value) → Type 0) (r s : Runs) (count written began columns : ℕ) (m : List Pair) (slots : List Slot)

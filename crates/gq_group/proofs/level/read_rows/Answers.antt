@@ -1,16 +1,16 @@
-use Rattle.std.proofs.Common.{arith, ◌∙◌, refl, subst}
+use Rattle.std.proofs.Common.{ap, arith, ◌∙◌, refl, subst, sym}
 use Rattle.gq_group.proofs.Results.{if_err_is, on_ok_err}
 use Rattle.std.proofs.lemmas.Result.{IfOk-from_err}
-use Rattle.std.proofs.lemmas.Grind.{common_steps}
 use Rattle.sw_table.specs.LaidOut.{hash_by}
 use Rattle.gq_row.specs.Classes.{bytes_of}
 use Rattle.gq_group.specs.Access.{LeavesOthers, Apart, KeepsOwn}
-use Rattle.gq_group.specs.Levels.{class_by, classes_at}
-use Rattle.gq_group.specs.Readings.{Places}
-use Rattle.gq_group.specs.Slots.{Ours, among}
+use Rattle.gq_group.specs.Levels.{class_by}
+use Rattle.gq_group.specs.Residents.{Resident}
+use Rattle.gq_group.specs.declared.budget.Budget.{Budget}
+use Rattle.gq_group.specs.Slots.{among}
 use Rattle.gq_group.proofs.AccessLemmas.{leaves-trans, leaves-both, keeps-apart}
 use Rattle.gq_group.proofs.SlotLemmas.{held-stays}
-use Rattle.gq_group.proofs.ReadLemmas.{apart-step, apart-flip, ours-stays, leaves-left, cause-later, ours-empty, apart-empty, others-empty, reads-none, reads-step, reads-end}
+use Rattle.gq_group.proofs.ReadLemmas.{apart-step, apart-flip, ours-stays, leaves-left, cause-later, ours-empty, apart-empty, not-damaged, others-empty, placing, placing-cause, reads-none, reads-step, reads-end}
 use Rattle.gq_group.proofs.level.read_rows.Goals as goal
 
 pub rows-init : goal.rows-init
@@ -47,16 +47,12 @@ returns-clause-read g c =
 
 pub returns-in_err-placed-clause-cause : goal.returns-in_err-placed-clause-cause
 returns-in_err-placed-clause-cause g c =
-    let r = g.S.RunStore.runs c.rows.store in
-    let s = g.S.RunStore.runs c.next.new.store in
-    let t = g.S.RunStore.runs c.place_row.new.store in
-    let step : LeavesOthers (g.R.RowSource.owns c.rows.source) (g.R.RowSource.owns c.next.new.self) r s = c.in_ok-more.ensures.others in
-    let kept : KeepsOwn (among c.rows.slots.items) r s
-    = keeps-apart _ _ (among c.rows.slots.items) r s step (apart-flip _ _ c.rows.invariant.apart) c.rows.invariant.ours.live in
-    let held = held-stays r s c.rows.slots.items _ kept c.rows.invariant.ours c.rows.invariant.read.held in
-    let told = c.in_err-placed.ensures.cause _ held in
-    let all = cause-later _ _ _ (g.S.RunStore.runs c.args.store.now) s t (leaves-trans _ _ _ _ _ _ c.rows.invariant.others (leaves-left _ _ (among c.rows.slots.items) r s step)) told in
-    if_err_is _ c.from_residual-in_err-placed.result c.in_err-placed.field-0.0 c.from_residual-in_err-placed.ensures.1 all
+    let e = c.in_err-placed.field-0.0 in
+    let inv = c.rows.invariant in
+    if_err_is _ c.from_residual-in_err-placed.result e c.from_residual-in_err-placed.ensures.1
+    (placing-cause e (g.R.RowSource.owns c.args.source.now) (g.R.RowSource.owns c.rows.source) (g.R.RowSource.owns c.next.new.self) c.args.spec.now _ _ _ _ _ _
+    (g.S.RunStore.runs c.args.store.now) (g.S.RunStore.runs c.rows.store) (g.S.RunStore.runs c.next.new.store) (g.S.RunStore.runs c.place_row.new.store) c.rows.rows_read c.rows.rows_written c.rows.runs c.rows.columns c.rows.table.groups.pairs c.rows.slots.items
+    inv.read c.in_ok-more.ensures.others inv.ours inv.apart inv.others c.in_err-placed.ensures.cause)
 
 pub rows-preserved : goal.rows-preserved
 rows-preserved g c =
@@ -64,27 +60,20 @@ rows-preserved g c =
     let placed = c.in_ok-placed.ensures in
     let a = g.R.RowSource.owns c.rows.source in
     let b = g.R.RowSource.owns c.next.new.self in
-    let k = among c.rows.slots.items in
-    let k' = among c.place_row.new.slots.items in
     let r = g.S.RunStore.runs c.rows.store in
     let s = g.S.RunStore.runs c.next.new.store in
     let t = g.S.RunStore.runs c.place_row.new.store in
     let step : LeavesOthers a b r s = c.in_ok-more.ensures.others in
-    let kept : KeepsOwn k r s = keeps-apart a b k r s step (apart-flip k a inv.apart) inv.ours.live in
-    let then : LeavesOthers k k' s t = placed.others in
-    let ours : Ours c.rows.slots.items s = ours-stays r s a b c.rows.slots.items step inv.ours in
-    let apart : Apart k b = apart-step r s a b k step inv.apart inv.ours.live in
-    let live = g.met.R.RowSource.own_live c.next.new.self s c.in_ok-more.ensures.ready in
-    let source : KeepsOwn b s t = keeps-apart k k' b s t then apart live in
+    let ready = c.in_ok-more.ensures.ready in
     let next = rw c.if-not-more.false at c.in_ok-more.ensures.rows in
-    let hashed = subst (λ h. Places c.args.spec.now c.rows.table.budget.entries (class_by (hash_by g.H.KeyHash.hash_of bytes_of h) c.args.level) (classes_at c.args.level) c.next.new.row s t c.rows.table.groups.pairs c.place_row.new.table.groups.pairs c.rows.slots.items c.place_row.new.slots.items c.in_ok-placed.placed.written c.in_ok-placed.placed.began) inv.hasher placed.places in
-    let places = subst (λ b. Places c.args.spec.now b.entries (class_by (hash_by g.H.KeyHash.hash_of bytes_of c.args.table.now.groups.hasher) c.args.level) (classes_at c.args.level) c.next.new.row s t c.rows.table.groups.pairs c.place_row.new.table.groups.pairs c.rows.slots.items c.place_row.new.slots.items c.in_ok-placed.placed.written c.in_ok-placed.placed.began) inv.budget hashed in
+    let done = placing (g.R.RowSource.owns c.args.source.now) a b c.rows.slots.items c.place_row.new.slots.items (g.S.RunStore.runs c.args.store.now) r s t step placed.others inv.ours inv.apart inv.others (g.met.R.RowSource.own_live c.next.new.self s ready) in
     record {
-      ready = g.met.R.RowSource.stays_ready c.next.new.self s t source c.in_ok-more.ensures.ready;
-      read = reads-step c.args.spec.now _ _ _ _ _ _ (g.R.RowSource.gives c.next.new.self t) r s t c.rows.rows_read c.rows.rows_written c.rows.runs c.rows.columns _ _ c.rows.table.groups.pairs c.place_row.new.table.groups.pairs c.rows.slots.items c.place_row.new.slots.items c.next.new.row inv.read
-          (λ h rows now. let before = inv.others.same_honest ∙ h in let got = next before rows now in (got.0, got.1, g.met.R.RowSource.keeps_rows c.next.new.self s t source c.in_ok-more.ensures.ready (step.same_honest ∙ before) got.0 got.2))
-          (λ parts held. held-stays r s c.rows.slots.items parts kept inv.ours held)
-          places c.width-columns.result c.width-columns.ensures;
+      ready = g.met.R.RowSource.stays_ready c.next.new.self s t done.kept ready;
+      read = reads-step c.args.spec.now _ c.rows.table.budget.entries _ _ _ _ _ _ (g.R.RowSource.gives c.next.new.self t) r s t c.rows.rows_read c.rows.rows_written c.rows.runs c.rows.columns c.in_ok-placed.placed.written c.in_ok-placed.placed.began
+          c.rows.table.groups.pairs c.place_row.new.table.groups.pairs c.rows.slots.items c.place_row.new.slots.items c.next.new.row inv.read
+          (λ h rows now. let before = inv.others.same_honest ∙ h in let got = next before rows now in (got.0, got.1, g.met.R.RowSource.keeps_rows c.next.new.self s t done.kept ready (step.same_honest ∙ before) got.0 got.2))
+          done.held (ap (λ (x : Budget). x.entries) inv.budget) (ap (λ h. class_by (hash_by g.H.KeyHash.hash_of bytes_of h) c.args.level) inv.hasher)
+          placed.places c.width-columns.result c.width-columns.ensures;
       budget = placed.budget ∙ inv.budget;
       each = placed.each ∙ inv.each;
       hasher = placed.hasher ∙ inv.hasher;
@@ -93,18 +82,21 @@ rows-preserved g c =
       less_runs = omega (arith, inv.less_runs, placed.places.one_began);
       same_length = placed.same_length;
       ours = placed.ours;
-      apart = apart-flip b k' (apart-step s t k k' b then (apart-flip k b apart) live);
-      others = leaves-trans _ _ _ _ _ _ inv.others (leaves-both a b k k' r s t step then);
+      apart = done.apart;
+      others = done.others;
       grows = λ run h. step.grows run (inv.grows run h);
       owned = λ none run h. inv.owned none run (c.in_ok-more.ensures.owned none run h);
       made = λ none. omega (arith, c.in_ok-more.ensures.made none, inv.made none, placed.made);
     }
 
 pub returns-then-not-fits-clause-cause : goal.returns-then-not-fits-clause-cause
-returns-then-not-fits-clause-cause g c = grind (arith, common_steps)
+returns-then-not-fits-clause-cause g c =
+    let inv = c.rows.invariant in
+    not-damaged c.args.spec.now _ _ _ _ _ _ (g.R.RowSource.gives c.next.new.self (g.S.RunStore.runs c.next.new.store)) (g.S.RunStore.runs c.rows.store) c.rows.rows_read c.rows.rows_written c.rows.runs c.rows.columns c.rows.table.groups.pairs c.rows.slots.items c.next.new.row
+    inv.read c.requires.rows (λ h. (rw c.if-not-more.false at c.in_ok-more.ensures.rows) (inv.others.same_honest ∙ h)) (sym c.fits.ensures ∙ c.if-not-fits.true)
 
 pub overflow_add-runs : goal.overflow_add-runs
-overflow_add-runs g c = grind (arith, common_steps)
+overflow_add-runs g c = omega (arith, c.rows.invariant.bound, c.requires.few, c.rows.invariant.less, c.rows.invariant.less_runs, c.in_ok-placed.ensures.places.one, c.in_ok-placed.ensures.places.one_began)
 
 pub returns-then-not-fits-clause-others : goal.returns-then-not-fits-clause-others
 returns-then-not-fits-clause-others g c =
@@ -271,3 +263,20 @@ returns-in_err-placed-clause-grows g c = λ run h. c.in_ok-more.ensures.others.g
 
 pub returns-in_err-placed-clause-owned : goal.returns-in_err-placed-clause-owned
 returns-in_err-placed-clause-owned g c = λ none run h. c.rows.invariant.owned none run (c.in_ok-more.ensures.owned none run h)
+
+pub place_row-requires-clause-fits : goal.place_row-requires-clause-fits
+place_row-requires-clause-fits g c = sym c.fits.ensures ∙ c.if-not-fits.false
+
+pub place_row-requires-clause-resident : goal.place_row-requires-clause-resident
+place_row-requires-clause-resident g c =
+    let inv = c.rows.invariant in
+    (inv.read.done, omega (arith, inv.read.counted, inv.bound, c.requires.few), subst (λ (b : Budget). Resident c.args.spec.now b.entries inv.read.done c.rows.table.groups.pairs) (sym inv.budget) inv.read.resident)
+
+pub overflow_add-rows_read : goal.overflow_add-rows_read
+overflow_add-rows_read g c = omega (arith, c.rows.invariant.bound, c.requires.few)
+
+pub overflow_add-rows_written : goal.overflow_add-rows_written
+overflow_add-rows_written g c = omega (arith, c.rows.invariant.bound, c.requires.few, c.rows.invariant.less, c.in_ok-placed.ensures.places.one)
+
+pub rows-smaller : goal.rows-smaller
+rows-smaller g c = omega (arith, rw c.if-not-more.false at c.in_ok-more.ensures.bound)
