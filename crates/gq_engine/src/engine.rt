@@ -35,9 +35,7 @@ impl<H: KeyHash<Key> + Copy, S: RunStore> Engine<H, S> {
     ghost use Rattle.gq_engine.specs.Carrying.{Carried};
     ghost use Rattle.gq_engine.specs.Databases.{IsKeyed};
     ghost use Rattle.gq_engine.specs.Runs.{AnsweredAlike, AnsweredAsLists, KeptUnlessDone, FaultsHappened, takes_no_memory};
-    ghost use Rattle.gq_engine.specs.Serving.{Comes, ComesOver, ComesSurely, reply_of};
-    ghost use Rattle.gq_engine.specs.Spending.{GroupSpends, Spends};
-    ghost use Rattle.gq_engine.specs.Steps.{create as created, drop_table as dropped, load_table as loaded, upsert as upserted, delete_row as removed, show_table as shown, group as grouped, distinct as told_apart};
+    ghost use Rattle.gq_engine.specs.Spending.{Spends};
 
     /// An engine without tables, whose keys will be hashed by `hasher`.
     pub fn new(alloc: Global, hasher: H, store: S, budget: Budget, limits: Limits) -> Engine<H, S>
@@ -162,13 +160,7 @@ impl<H: KeyHash<Key> + Copy, S: RunStore> Engine<H, S> {
         key: Sequence<Text>,
     ) -> Result<Reply, Refused>
         requires { is_command (Command.Create name columns key) ≡ true }
-        ensures comes { Comes
-            (created (setting_of S.runs self.old).limits (database self.old) name columns key)
-            result (database self.old) (database self.new) }
-        ensures setting { setting_of S.runs self.new ≡ setting_of S.runs self.old }
-        ensures spent { spent_of self.new ≡ spent_of self.old }
-        ensures budget { budget_of self.new ≡ budget_of self.old }
-        ensures failures { failures_of S.runs self.new ≡ failures_of S.runs self.old }
+        ensures { Carried S.runs (Command.Create name columns key) result self.old self.new }
     {
         if self.catalog.get(name.as_str()).is_some() {
             return Err(Refused::from(Refusal::TableExists));
@@ -185,36 +177,21 @@ impl<H: KeyHash<Key> + Copy, S: RunStore> Engine<H, S> {
     }
 
     fn upsert(&mut self, name: Text, row: Row) -> Result<Reply, Refused>
-        ensures comes { Comes (upserted (setting_of S.runs self.old).limits (database self.old) name row)
-            result (database self.old) (database self.new) }
-        ensures setting { setting_of S.runs self.new ≡ setting_of S.runs self.old }
-        ensures spent { spent_of self.new ≡ spent_of self.old }
-        ensures budget { budget_of self.new ≡ budget_of self.old }
-        ensures failures { failures_of S.runs self.new ≡ failures_of S.runs self.old }
+        ensures { Carried S.runs (Command.Upsert name row) result self.old self.new }
     {
         self.catalog.upsert(name.as_str(), row, &self.limits)?;
         Ok(Reply::Done(1))
     }
 
     fn drop_table(&mut self, name: Text) -> Result<Reply, Refused>
-        ensures surely { ComesSurely (dropped (database self.old) name)
-            result (database self.old) (database self.new) }
-        ensures setting { setting_of S.runs self.new ≡ setting_of S.runs self.old }
-        ensures spent { spent_of self.new ≡ spent_of self.old }
-        ensures budget { budget_of self.new ≡ budget_of self.old }
-        ensures failures { failures_of S.runs self.new ≡ failures_of S.runs self.old }
+        ensures { Carried S.runs (Command.Drop name) result self.old self.new }
     {
         self.catalog.remove(name.as_str())?;
         Ok(Reply::Done(0))
     }
 
     fn load(&mut self, name: Text, payload: Payload) -> Result<Reply, Refused>
-        ensures comes { Comes (loaded (setting_of S.runs self.old).limits (database self.old) name payload)
-            result (database self.old) (database self.new) }
-        ensures setting { setting_of S.runs self.new ≡ setting_of S.runs self.old }
-        ensures spent { spent_of self.new ≡ spent_of self.old }
-        ensures budget { budget_of self.new ≡ budget_of self.old }
-        ensures failures { failures_of S.runs self.new ≡ failures_of S.runs self.old }
+        ensures { Carried S.runs (Command.Load name payload) result self.old self.new }
     {
         let (alloc, limits) = (self.alloc, &self.limits);
         let (staged, count) = stage_for(alloc, &self.catalog, name.as_str(), payload, limits)?;
@@ -224,12 +201,7 @@ impl<H: KeyHash<Key> + Copy, S: RunStore> Engine<H, S> {
     }
 
     fn delete(&mut self, name: Text, values: Row) -> Result<Reply, Refused>
-        ensures surely { ComesSurely (removed (database self.old) name values)
-            result (database self.old) (database self.new) }
-        ensures setting { setting_of S.runs self.new ≡ setting_of S.runs self.old }
-        ensures spent { spent_of self.new ≡ spent_of self.old }
-        ensures budget { budget_of self.new ≡ budget_of self.old }
-        ensures failures { failures_of S.runs self.new ≡ failures_of S.runs self.old }
+        ensures { Carried S.runs (Command.Delete name values) result self.old self.new }
     {
         let mut values = values.into_cells();
         let found = self.catalog.delete(name.as_str(), values.as_mut_slice())?;
@@ -237,8 +209,7 @@ impl<H: KeyHash<Key> + Copy, S: RunStore> Engine<H, S> {
     }
 
     fn show(&self, name: Text) -> Result<Reply, Refused>
-        ensures { Comes (shown (database self.now) name)
-            result (database self.now) (database self.now) }
+        ensures { Carried S.runs (Command.Show name) result self.now self.now }
     {
         match self.catalog.get(name.as_str()) {
             Some(table) => all_shown(self.alloc, table),
@@ -247,15 +218,8 @@ impl<H: KeyHash<Key> + Copy, S: RunStore> Engine<H, S> {
     }
 
     fn group(&mut self, name: &str, clauses: &GroupClauses) -> Result<Reply, Refused>
-        ensures comes { ComesOver true (setting_of S.runs self.old).honest
-            (grouped (database self.old) name.now clauses.now)
-            result (database self.old) (database self.new) }
-        ensures faults { FaultsHappened (reply_of result ∷ []) (failures_of S.runs self.old)
-            (failures_of S.runs self.new) }
-        ensures setting { setting_of S.runs self.new ≡ setting_of S.runs self.old }
-        ensures spent { GroupSpends (setting_of S.runs self.old).honest (budget_of self.old)
-            (database self.old) name.now clauses.now (reply_of result) (spent_of self.old) (spent_of self.new) }
-        ensures budget { budget_of self.new ≡ budget_of self.old }
+        ensures { Carried S.runs (Command.Group name.now clauses.now.by clauses.now.shown clauses.now.tests
+            clauses.now.exists clauses.now.having) result self.old self.new }
     {
         let header = header_of(self.alloc, &clauses.by, clauses.shown.as_slice())?;
         let (hasher, catalog, store) = (self.hasher, &self.catalog, &mut self.store);
@@ -269,14 +233,7 @@ impl<H: KeyHash<Key> + Copy, S: RunStore> Engine<H, S> {
 
     fn distinct(&mut self, name: &str, on: Sequence<Text>, tests: &[Test]) -> Result<Reply, Refused>
         requires { is_command (Command.Distinct name.now on tests.now) ≡ true }
-        ensures comes { ComesOver true (setting_of S.runs self.old).honest
-            (told_apart (database self.old) name.now on tests.now)
-            result (database self.old) (database self.new) }
-        ensures faults { FaultsHappened (reply_of result ∷ []) (failures_of S.runs self.old)
-            (failures_of S.runs self.new) }
-        ensures setting { setting_of S.runs self.new ≡ setting_of S.runs self.old }
-        ensures spent { spent_of self.new ≡ spent_of self.old }
-        ensures budget { budget_of self.new ≡ budget_of self.old }
+        ensures { Carried S.runs (Command.Distinct name.now on tests.now) result self.old self.new }
     {
         let table = self.catalog.get(name).ok_or(Refusal::NoTable)?;
         let plan = plan_distinct(self.alloc, table.schema(), on.as_slice(), tests)?;

@@ -1,6 +1,7 @@
-use Rattle.std.proofs.Common.{◌≡◌, ◌∙◌, ℕ, List, Some, sym, ap, rules}
+use Rattle.std.proofs.Common.{◌≡◌, ◌∙◌, ℕ, List, Some, refl, sym, ap, rules}
 use Rattle.std.specs.Prelude.{Result, Ok, Err, IfOk, IfErr}
 use Rattle.gq_command.specs.Commands.{column_names}
+use Rattle.gq_command.specs.declared.command.Command.TheVariants.{Show}
 use Rattle.gq_row.specs.Tables.{PlainTable}
 use Rattle.gq_reply.specs.declared.refusal.Refusal.TheVariants.{Memory, NoTable}
 use Rattle.gq_reply.specs.declared.refusal.Refused.{Refused}
@@ -9,9 +10,9 @@ use Rattle.gq_reply.specs.declared.reply.Reply.TheVariants as reply
 use Rattle.gq_reply.specs.Refusals.{unnumbered}
 use Rattle.gq_query.specs.Answers.{rows_shown}
 use Rattle.gq_engine.specs.Databases.{Database, table_at}
-use Rattle.gq_engine.specs.Engines.{database}
 use Rattle.gq_engine.specs.Serving.{Comes}
 use Rattle.gq_engine.specs.Steps.{show_table}
+use Rattle.gq_engine.proofs.CarryingLemmas.{carried_plainly}
 use Rattle.gq_engine.proofs.FormLemmas.{show_none, show_gives}
 use Rattle.gq_engine.proofs.OrderLemmas.{same_tables}
 use Rattle.gq_engine.proofs.StepLemmas.{no_memory, refuses, carries}
@@ -27,10 +28,12 @@ shown_comes db name table (Err why) found told lost = no_memory (show_table db n
 
 pub returns : goal.returns
 returns g c =
-    let db = database c.args.self.now in
-    refuses (show_table db c.args.name) NoTable c.from.result db c.from.ensures (show_none db c.args.name (search rules))
+    let db = c.args.self.now.catalog in
+    carried_plainly g.S.RunStore.runs (Show c.args.name) (Err c.from.result) c.args.self.now db refl refl
+    (refuses (show_table db c.args.name) NoTable c.from.result db c.from.ensures (show_none db c.args.name (search rules)))
 
 pub returns-in-Some : goal.returns-in-Some
 returns-in-Some g c =
-    let db = database c.args.self.now in
-    shown_comes db c.args.name c.in-Some.table.now c.all_shown.result (search rules) c.all_shown.ensures.shown c.all_shown.ensures.refused
+    let db = c.args.self.now.catalog in
+    carried_plainly g.S.RunStore.runs (Show c.args.name) c.all_shown.result c.args.self.now db refl refl
+    (shown_comes db c.args.name c.in-Some.table.now c.all_shown.result (search rules) c.all_shown.ensures.shown c.all_shown.ensures.refused)
