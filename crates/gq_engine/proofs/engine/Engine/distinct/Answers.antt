@@ -1,5 +1,5 @@
-use Rattle.std.proofs.Common.{◌≡◌, ◌<◌, length, refl, sym, ap, subst, rules, Some}
-use Rattle.std.specs.Prelude.{Ok, Err}
+use Rattle.std.proofs.Common.{◌≡◌, ◌∙◌, ◌<◌, length, refl, sym, ap, subst, Some}
+use Rattle.std.specs.Prelude.{Ok, Err, option_copied}
 use Rattle.gq_command.specs.declared.command.Command.TheVariants.{Distinct}
 use Rattle.gq_reply.specs.declared.refusal.Refusal.TheVariants.{NoTable}
 use Rattle.gq_reply.specs.declared.reply.Reply.TheVariants.{Rows}
@@ -21,13 +21,13 @@ returns-in_err-table g c =
     let m = missed c.get.result why NoTable c.in_err-table.ensures.value in
     passed_on g.S.RunStore.runs command (unnumbered why) self self c.from_residual.result c.from_residual.ensures.1
     (carried_plainly g.S.RunStore.runs command (Err (unnumbered why)) self self.catalog refl refl
-    (refuses (distinct self.catalog c.args.name.now c.args.on c.args.tests.now) NoTable (unnumbered why) self.catalog (ap unnumbered m.1) (distinct_none self.catalog c.args.name.now c.args.on c.args.tests.now (search rules))))
+    (refuses (distinct self.catalog c.args.name.now c.args.on c.args.tests.now) NoTable (unnumbered why) self.catalog (ap unnumbered m.1) (distinct_none self.catalog c.args.name.now c.args.on c.args.tests.now (sym c.get.ensures ∙ ap option_copied m.0))))
 
 pub returns-in_err-plan : goal.returns-in_err-plan
 returns-in_err-plan g c =
     let self = c.args.self.now in
     let table = c.in_ok-table.table.now in
-    let found : table_at self.catalog c.args.name.now ≡ Some table = search rules in
+    let found : table_at self.catalog c.args.name.now ≡ Some table = sym c.get.ensures ∙ ap option_copied c.in_ok-table.ensures.ok_part in
     let command = Distinct c.args.name.now c.args.on c.args.tests.now in
     let why = c.in_err-plan.field-0.0 in
     passed_on g.S.RunStore.runs command why self self c.from_residual-in_err-plan.result c.from_residual-in_err-plan.ensures.1
@@ -48,7 +48,7 @@ returns-in_err-rows g c =
     let db = self.catalog in
     let table = c.in_ok-table.table.now in
     let plan = c.in_ok-plan.plan in
-    let found : table_at db c.args.name.now ≡ Some table = search rules in
+    let found : table_at db c.args.name.now ≡ Some table = sym c.get.ensures ∙ ap option_copied c.in_ok-table.ensures.ok_part in
     let told : distinct_plan table.heading.columns c.args.on c.args.tests.now ≡ Ok plan = rw (c.schema.ensures, c.as_slice.ensures) at c.in_ok-plan.ensures.told in
     let steps = distinct_planned db c.args.name.now c.args.on c.args.tests.now table found plan told in
     let command = Distinct c.args.name.now c.args.on c.args.tests.now in
@@ -64,7 +64,7 @@ returns g c =
     let db = self.catalog in
     let table = c.in_ok-table.table.now in
     let plan = c.in_ok-plan.plan in
-    let found : table_at db c.args.name.now ≡ Some table = search rules in
+    let found : table_at db c.args.name.now ≡ Some table = sym c.get.ensures ∙ ap option_copied c.in_ok-table.ensures.ok_part in
     let told : distinct_plan table.heading.columns c.args.on c.args.tests.now ≡ Ok plan = rw (c.schema.ensures, c.as_slice.ensures) at c.in_ok-plan.ensures.told in
     let steps = distinct_planned db c.args.name.now c.args.on c.args.tests.now table found plan told in
     carried_over g.S.RunStore.runs (Distinct c.args.name.now c.args.on c.args.tests.now) (Ok (Rows c.args.on c.in_ok-rows.rows)) self c.rows_different.new.store self.spent c.in_ok-rows.ensures.honest refl
