@@ -1,5 +1,5 @@
 -- What one reading of rows has done.
-use Rattle.std.proofs.Common.{◌≡◌, ◌≤◌, ◌<◌, ◌+◌, ◌-◌, ◌*◌, ◌/◌, ◌%◌, ◌^◌, ◌++◌, ◌==◌, ℕ, zero, suc, Bool, true, false, cond, ◌||◌, List, [], ◌∷◌, length, map, refl, sym, ap, subst, ◌∙◌, arith, Option, Some, None, true≢false}
+use Rattle.std.proofs.Common.{◌≡◌, ◌≤◌, ◌<◌, ◌+◌, ◌-◌, ◌*◌, ◌/◌, ◌%◌, ◌^◌, ◌++◌, ◌==◌, ℕ, zero, suc, Bool, true, false, cond, ◌||◌, List, [], ◌∷◌, length, map, refl, sym, ap, subst, ◌∙◌, arith, Option, Some, None}
 use Rattle.std.specs.Prelude.{IsTrue, IsPermutation, All, filter, not, nat_lt, is_some}
 use Rattle.std.specs.FinMap.{len}
 use Rattle.std.specs.List.{sum_by, flat_map, list_all, list_any, AllByRecursion}
@@ -18,7 +18,7 @@ use Rattle.gq_row.specs.Tables.{keys, of_key}
 use Rattle.gq_spill.specs.Runs.{Runs}
 use Rattle.gq_spill.specs.Writing.{Writing}
 use Rattle.gq_group.specs.Entries.{listed, Pair, tallies, group_at}
-use Rattle.gq_group.specs.Groups.{Spec, Group, groups, group_of, keys_of, answered, all_fit, fits_spec, is_none, out_of_range, Pushes}
+use Rattle.gq_group.specs.Groups.{Spec, Group, groups, group_of, keys_of, answered, fits_spec, is_none, out_of_range, Pushes}
 use Rattle.gq_group.specs.Levels.{row_groups, lots, classes_at, class_at, class_by}
 use Rattle.gq_group.specs.Readings.{AreRows, Fit, IsWide, Parted, Numbers, Reads, left_lots}
 use Rattle.gq_group.specs.Residents.{Resident, has_entry, taken, left_over}
@@ -67,14 +67,6 @@ fit-rows spec columns (row ∷ rows) h wide = record {
   fits = h.0;
   widths = All-cons (λ other. length other ≡ columns) row rows wide (subst (λ n. All (λ other. length other ≡ n) rows) wide h.1);
 }
-
--- a row that was read can be grouped
-fits_last : (spec : Spec) (done rest : List (List Value)) (row : List Value) → all_fit spec (done ++ row ∷ rest) ≡ true → fits_spec spec row ≡ true
-fits_last spec [] rest row h = (and_parts (fits_spec spec row) (all_fit spec rest) h).0
-fits_last spec (d ∷ done) rest row h = fits_last spec done rest row (and_parts (fits_spec spec d) (all_fit spec (done ++ row ∷ rest)) h).1
-
-pub bad_row : (spec : Spec) (rows done rest : List (List Value)) (row : List Value) → rows ≡ done ++ row ∷ rest → IsTrue (all_fit spec rows) → fits_spec spec row ≡ false → ⊥
-bad_row spec rows done rest row is fit misfit = true≢false (sym (fits_last spec done rest row (ap (all_fit spec) (sym is) ∙ fit)) ∙ misfit)
 
 -- ---- what the runs hold, over any store
 

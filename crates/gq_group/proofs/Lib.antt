@@ -7,6 +7,7 @@ pub mod FirstLemmas
 pub mod GoneLemmas
 pub mod KeptLemmas
 pub mod LevelLemmas
+pub mod LevelingLemmas
 pub mod Lots
 pub mod MapGroups
 pub mod OpenLemmas
@@ -21,4 +22,5 @@ pub mod Sending
 pub mod SlotLemmas
 pub mod Spilling
 pub mod StackLemmas
+pub mod StackingLemmas
 pub mod Widths

@@ -1,6 +1,6 @@
 -- Rows are read and placed, one after the other.
-use Rattle.std.proofs.Common.{◌≡◌, ◌<◌, ◌≤◌, ◌+◌, ◌++◌, ◌==◌, ℕ, zero, suc, Bool, true, false, List, [], ◌∷◌, length, Result, refl, sym, ap, subst, ◌∙◌, arith, ◌||◌, inl, inr, append_assoc, length-append, cond}
-use Rattle.std.specs.Prelude.{IsTrue, Ok, Err, IsErrAnd, IsErrOf, if◌then◌else◌, nat_lt}
+use Rattle.std.proofs.Common.{◌≡◌, ◌<◌, ◌≤◌, ◌+◌, ◌++◌, ◌==◌, ℕ, zero, suc, Bool, true, false, List, [], ◌∷◌, length, refl, sym, ap, subst, ◌∙◌, arith, ◌||◌, inl, inr, append_assoc, length-append, cond}
+use Rattle.std.specs.Prelude.{IsTrue, if◌then◌else◌, nat_lt}
 use Rattle.std.specs.List.{sum_by}
 use Rattle.std.proofs.lemmas.List.Sums.{sum_by-cons}
 use Rattle.std.proofs.lemmas.Bool.Decides.{nat_tests}
@@ -203,14 +203,6 @@ group_cause-of Memory r s h = tt
 group_cause-of StoreFault r s h = h
 group_cause-of Damaged r s h = h
 group_cause-of SumRange r s h = tt
-
--- what has a cause is no sum that is out of range
-pub no_sum : {T : Type 0} (q : Result T Refusal) (e : Refusal) (r s : Runs) → IsErrAnd q (λ y. y ≡ e) → HasCause e r s → IsErrOf q SumRange → ⊥
-no_sum (Ok z) e r s is cause of = absurd is
-no_sum {T = T} (Err y) e r s is cause of = subst (λ x. HasCause x r s) (sym is ∙ inside of) cause
-  where
-    inside : IsErrOf {T = T} (Err y) SumRange → y ≡ SumRange
-    inside h = cc
 
 -- no level has more classes than sixteen
 pub places-few : (level n : ℕ) → n ≡ classes_at level → n ≤ 16

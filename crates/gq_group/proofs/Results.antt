@@ -1,7 +1,7 @@
 -- What holds of results, from other things that hold of them.
-use Rattle.std.proofs.Common.{◌≡◌, ◌++◌, ◌∙◌, cond, List, Result, Ok, Err, ap, subst, sym}
+use Rattle.std.proofs.Common.{◌≡◌, ◌++◌, cond, List, Result, Ok, Err, subst, sym}
 use Rattle.std.proofs.lemmas.Bool.{false≢true, true≢false}
-use Rattle.std.specs.Prelude.{IfOk, IfErr, OnOk, OnErr, IsOk, is_ok, IsErr, IsErrAnd, IsErrOf}
+use Rattle.std.specs.Prelude.{IfOk, IfErr, OnOk, OnErr, IsOk, is_ok, IsErr, IsErrAnd}
 
 pub if_ok_on : {T E : Type 0} (P Q : T → Type 0) (R : Type 0) (r : Result T E) → OnOk r R → ((x : T) → R → P x → Q x) → IfOk r P → IfOk r Q
 if_ok_on P Q R (Ok x) on f h = f x on h
@@ -42,13 +42,6 @@ on_ok_err P (Err e) is = tt
 pub if_err_is : {T E : Type 0} (P : E → Type 0) (r : Result T E) (e : E) → IsErrAnd r (λ y. y ≡ e) → P e → IfErr r P
 if_err_is P (Ok x) e is h = absurd is
 if_err_is P (Err y) e is h = subst P (sym is) h
-
-pub err_of_was : {T U E : Type 0} (r : Result T E) (q : Result U E) (e x : E) → IsErrAnd r (λ y. y ≡ e) → q ≡ Err e → IsErrOf r x → IsErrOf q x
-err_of_was (Ok z) q e x is was of = absurd is
-err_of_was {T = T} {E = E} (Err y) q e x is was of = was ∙ ap (λ (z : E). Err z) (sym is ∙ inside of)
-  where
-    inside : IsErrOf {T = T} (Err y) x → y ≡ x
-    inside h = cc
 
 pub on_err_so : {T E : Type 0} (P : Type 0) (r : Result T E) → P → OnErr r P
 on_err_so P (Ok x) h = tt

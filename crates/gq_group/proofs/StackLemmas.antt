@@ -191,19 +191,9 @@ module _ (a src k k' : RunSet) (front slots : List Slot) (slot : Slot) (w : Writ
           (λ run. or_between (mine run) (src run) (k run)) (λ run. or_between (mine run || among slots run) (src run) (k' run))
           (leaves-left (either mine k) (either (either mine (among slots)) k') src r m step)
 
--- a stack that was taken apart, where room was made for more first
-pub popped-from : (stack behind other : List Slot) → behind ≡ stack → behind ≡ other → stack ≡ other
-popped-from stack behind other same is = sym same ∙ is
-
 -- the same stack, written in another way
 pub stack-same : (a b : RunSet) (stack other : List Slot) (r s : Runs) → stack ≡ other → OnStack a b stack r s → OnStack a b other r s
 stack-same a b stack other r s same on = subst (λ st. OnStack a b st r s) same on
-
--- a run was read and discarded: what the source owns is still apart from the sink
-pub still-apart : (a src k k' : RunSet) (stack front slots : List Slot) (slot : Slot) (w : Writing) (r0 r m t : Runs) → stack ≡ front ++ slot ∷ [] → slot.writer ≡ Some w → OnStack a (either src k) stack r0 r
-    → LeavesOthers (either (only w.mark.id.number) k) (either (either (only w.mark.id.number) (among slots)) k') r m → Gone (only w.mark.id.number) m t
-    → Apart src k → ((run : ℕ) → IsTrue (src run) → IsTrue (r.live run)) → Apart src k'
-still-apart a src k k' stack front slots slot w r0 r m t popped is on step gone apart live = src_sink a src k k' front slots slot w r0 r m t is (stack-same a (either src k) stack (front ++ slot ∷ []) r0 r popped on) step gone apart live
 
 -- a run was read and discarded, and what it gave is on the stack: the stack, what the source owns, and what is held in front
 pub record Turned (a src k' : RunSet) (front later : List Slot) (r0 r t : Runs) : Type 0 where

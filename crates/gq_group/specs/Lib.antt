@@ -2,6 +2,7 @@ pub mod Access
 pub mod Distinct
 pub mod Entries
 pub mod Groups
+pub mod Leveling
 pub mod Levels
 pub mod Maps
 pub mod Phases

@@ -1,12 +1,13 @@
 //! One reading of a source: groups of some keys to the sink, rows of other keys to runs.
-ghost use Rattle.std.specs.Prelude.{◌≡◌, ◌+◌, ◌<◌, ◌≤◌, ◌^◌, ◌++◌, [], ℕ, false, true, List, length, IsTrue, IfOk, OnOk, IfErr, IsErrOf, cond, ◌==◌};
+ghost use Rattle.std.specs.Prelude.{◌≡◌, ◌+◌, ◌<◌, ◌≤◌, ◌^◌, [], ℕ, false, List, length, IsTrue, IfOk, OnOk, IfErr, cond, ◌==◌};
 ghost use Rattle.sw_table.specs.LaidOut.{hash_by};
 ghost use Rattle.gq_row.specs.declared.value.Value.{Value as Cell};
 ghost use Rattle.gq_row.specs.Classes.{bytes_of};
-ghost use Rattle.gq_group.specs.Access.{Apart, either, LeavesOthers, HasCause, GroupCause};
-ghost use Rattle.gq_group.specs.Groups.{Group, fits_spec, out_of_range};
+ghost use Rattle.gq_group.specs.Access.{Apart, either, LeavesOthers, HasCause};
+ghost use Rattle.gq_group.specs.Groups.{fits_spec};
+ghost use Rattle.gq_group.specs.Leveling.{LevelRead};
 ghost use Rattle.gq_group.specs.Levels.{class_at, class_by, classes_at};
-ghost use Rattle.gq_group.specs.Readings.{AreRows, Parted, Numbers, Places, Reads};
+ghost use Rattle.gq_group.specs.Readings.{AreRows, Places, Reads};
 ghost use Rattle.gq_group.specs.Residents.{Resident};
 ghost use Rattle.gq_group.specs.Slots.{among, Ours, AllHeld, AreEmpty};
 
@@ -235,32 +236,11 @@ pub(crate) fn one_level<H: KeyHash<Key> + Copy, S: RunStore, R: RowSource<S>, K:
     requires rows { IsTrue (S.runs store.old).honest → (rows : List (List Cell)) ×
         R.gives source.old (S.runs store.old) rows × AreRows spec.now rows }
     requires none { slots.old.items ≡ [] }
-    ensures parted { IsTrue (S.runs store.old).honest → IfOk result (λ done.
-        (rows : List (List Cell)) → R.gives source.old (S.runs store.old) rows →
-        Parted spec.now budget.entries rows slots.new.items (S.runs store.new) done (λ out.
-        (before : List Group) → K.holds sink.old (S.runs store.old) before →
-        K.holds sink.new (S.runs store.new) (before ++ out))) }
-    ensures overflow { IsErrOf result Refusal.SumRange → IsTrue (S.runs store.old).honest →
-        (rows : List (List Cell)) → R.gives source.old (S.runs store.old) rows →
-        out_of_range spec.now rows ≡ true }
-    ensures numbers { IfOk result (λ done. Numbers budget.entries (R.bound source.old)
-        slots.new.items done) }
-    ensures places { length slots.new.items ≤ 16 }
-    ensures source { OnOk result (R.is_ready source.new (S.runs store.new)) }
-    ensures sink { OnOk result (K.is_ready sink.new (S.runs store.new)) }
-    ensures ours { Ours slots.new.items (S.runs store.new) }
-    ensures apart { Apart (among slots.new.items) (either (R.owns source.new) (K.owns sink.new)) }
-    ensures still_apart { Apart (R.owns source.new) (K.owns sink.new) }
-    ensures others { LeavesOthers (either (R.owns source.old) (K.owns sink.old)) (either (either
-        (R.owns source.new) (among slots.new.items)) (K.owns sink.new)) (S.runs store.old) (S.runs
-        store.new) }
-    ensures grows { (run : ℕ) → IsTrue (R.owns source.old run) → IsTrue (R.owns source.new run) }
-    ensures sink_grows { (run : ℕ) → IsTrue (K.owns sink.old run) → IsTrue (K.owns sink.new run) }
-    ensures owned { R.makes_runs ≡ false → (run : ℕ) → IsTrue (R.owns source.new run) →
-        IsTrue (R.owns source.old run) }
-    ensures made { R.makes_runs ≡ false → K.makes_runs ≡ false → IfOk result (λ done.
-        (S.runs store.new).made ≡ (S.runs store.old).made + done.runs) }
-    ensures cause { IfErr result (λ e. GroupCause e (S.runs store.old) (S.runs store.new)) }
+    ensures { LevelRead spec.now budget.entries (R.bound source.old) (R.gives source.old
+        (S.runs store.old)) (K.holds sink.old (S.runs store.old)) (K.holds sink.new (S.runs store.new))
+        (R.owns source.old) (R.owns source.new) (K.owns sink.old) (K.owns sink.new) (R.is_ready
+        source.new (S.runs store.new)) (K.is_ready sink.new (S.runs store.new)) R.makes_runs
+        K.makes_runs (S.runs store.old) (S.runs store.new) slots.new.items result }
 {
     let hint = source.rows_hint();
     let Ok(mut table) = start_level(alloc, hasher, spec, level, budget, hint, slots) else {

@@ -1,13 +1,10 @@
 //! Readings one after the other: of a source, and then of each run that is begun.
-ghost use Rattle.std.specs.Prelude.{◌≡◌, ◌+◌, ◌<◌, ◌≤◌, ◌^◌, ◌++◌, [], ℕ, false, true, List, length, IsTrue, IfOk, OnOk, IfErr, IsErrOf};
+ghost use Rattle.std.specs.Prelude.{◌≡◌, ◌+◌, ◌<◌, ◌≤◌, ◌^◌, [], false, List, IsTrue};
 ghost use Rattle.gq_row.specs.declared.value.Value.{Value as Cell};
-ghost use Rattle.gq_spill.specs.Runs.{Runs};
-ghost use Rattle.gq_group.specs.Access.{Apart, either, LeavesOthers, GroupCause};
-ghost use Rattle.gq_group.specs.Groups.{Group, out_of_range};
-ghost use Rattle.gq_group.specs.Readings.{AreRows, Fit, Parted, Numbers};
-ghost use Rattle.gq_group.specs.RunSources.{only};
-ghost use Rattle.gq_group.specs.Slots.{among, Ours, HasRun, Gone};
-ghost use Rattle.gq_group.specs.Stacks.{OnStack, Waits};
+ghost use Rattle.gq_group.specs.Access.{Apart};
+ghost use Rattle.gq_group.specs.Leveling.{RunRead, LevelsRead};
+ghost use Rattle.gq_group.specs.Readings.{AreRows, Fit};
+ghost use Rattle.gq_group.specs.Slots.{HasRun};
 
 use crate::budget::Budget;
 use crate::group_sink::GroupSink;
@@ -43,31 +40,10 @@ fn read_run<H: KeyHash<Key> + Copy, S: RunStore, K: GroupSink<S>>(
     requires rows { IsTrue (S.runs store.old).honest → (rows : List (List Cell)) ×
         HasRun writer (S.runs store.old) rows × Fit spec.now columns rows }
     requires none { slots.old.items ≡ [] }
-    ensures parted { IsTrue (S.runs store.old).honest → IfOk result (λ done.
-        (rows : List (List Cell)) → HasRun writer (S.runs store.old) rows →
-        Fit spec.now columns rows → Parted spec.now budget.entries rows slots.new.items (S.runs
-        store.new) done (λ out. (before : List Group) →
-        K.holds sink.old (S.runs store.old) before →
-        K.holds sink.new (S.runs store.new) (before ++ out))) }
-    ensures overflow { IsErrOf result Refusal.SumRange → IsTrue (S.runs store.old).honest →
-        (rows : List (List Cell)) → HasRun writer (S.runs store.old) rows →
-        Fit spec.now columns rows → out_of_range spec.now rows ≡ true }
-    ensures numbers { IfOk result (λ done. Numbers budget.entries writer.mark.records
-        slots.new.items done) }
-    ensures places { length slots.new.items ≤ 16 }
-    ensures sink { OnOk result (K.is_ready sink.new (S.runs store.new)) }
-    ensures ours { Ours slots.new.items (S.runs store.new) }
-    ensures apart { Apart (among slots.new.items) (either (only writer.mark.id.number) (K.owns
-        sink.new)) }
-    ensures still_apart { K.owns sink.new writer.mark.id.number ≡ false }
-    ensures sink_grows { (run : ℕ) → IsTrue (K.owns sink.old run) → IsTrue (K.owns sink.new run) }
-    ensures others { (mid : Runs) × LeavesOthers (either (only writer.mark.id.number) (K.owns
-        sink.old)) (either (either (only writer.mark.id.number) (among slots.new.items)) (K.owns
-        sink.new)) (S.runs store.old) mid × Gone (only writer.mark.id.number) mid (S.runs
-        store.new) }
-    ensures made { K.makes_runs ≡ false → IfOk result (λ done.
-        (S.runs store.new).made ≡ (S.runs store.old).made + done.runs) }
-    ensures cause { IfErr result (λ e. GroupCause e (S.runs store.old) (S.runs store.new)) }
+    ensures { RunRead spec.now budget.entries columns writer (K.holds sink.old (S.runs store.old))
+        (K.holds sink.new (S.runs store.new)) (K.owns sink.old) (K.owns sink.new) (K.is_ready
+        sink.new (S.runs store.new)) K.makes_runs (S.runs store.old) (S.runs store.new)
+        slots.new.items result }
 {
     let mark = writer.finish();
     let mut source = RunSource {
@@ -109,26 +85,11 @@ pub(crate) fn group_levels<H: KeyHash<Key> + Copy, S: RunStore, R: RowSource<S>,
     requires rows { IsTrue (S.runs store.old).honest → (rows : List (List Cell)) ×
         R.gives source.old (S.runs store.old) rows × AreRows spec.now rows }
     requires none { stack.old.items ≡ [] }
-    ensures waits { IsTrue (S.runs store.old).honest → IfOk result (λ spent. (columns : ℕ) ×
-        ((rows : List (List Cell)) → R.gives source.old (S.runs store.old) rows →
-        AreRows spec.now rows → Waits spec.now budget.entries rows columns [] (S.runs store.new)
-        spent (λ out. (before : List Group) → K.holds sink.old (S.runs store.old) before →
-        K.holds sink.new (S.runs store.new) (before ++ out)))) }
-    ensures overflow { IsErrOf result Refusal.SumRange → IsTrue (S.runs store.old).honest →
-        (rows : List (List Cell)) → R.gives source.old (S.runs store.old) rows →
-        AreRows spec.now rows → out_of_range spec.now rows ≡ true }
-    ensures read { IfOk result (λ spent. spent.rows_read ≤ R.bound source.old) }
-    ensures apart { Apart (R.owns source.new) (K.owns sink.new) }
-    ensures grows_source { (run : ℕ) → IsTrue (R.owns source.old run) →
-        IsTrue (R.owns source.new run) }
-    ensures grows_sink { (run : ℕ) → IsTrue (K.owns sink.old run) → IsTrue (K.owns sink.new run) }
-    ensures source { OnOk result (R.is_ready source.new (S.runs store.new)) }
-    ensures sink { OnOk result (K.is_ready sink.new (S.runs store.new)) }
-    ensures stack { OnStack (either (R.owns source.old) (K.owns sink.old)) (either (R.owns
-        source.new) (K.owns sink.new)) stack.new.items (S.runs store.old) (S.runs store.new) }
-    ensures made { R.makes_runs ≡ false → K.makes_runs ≡ false → IfOk result (λ spent.
-        (S.runs store.new).made ≡ (S.runs store.old).made + spent.runs) }
-    ensures cause { IfErr result (λ e. GroupCause e (S.runs store.old) (S.runs store.new)) }
+    ensures { LevelsRead spec.now budget.entries (R.bound source.old) (R.gives source.old
+        (S.runs store.old)) (K.holds sink.old (S.runs store.old)) (K.holds sink.new (S.runs store.new))
+        (R.owns source.old) (R.owns source.new) (K.owns sink.old) (K.owns sink.new) (R.is_ready
+        source.new (S.runs store.new)) (K.is_ready sink.new (S.runs store.new)) R.makes_runs
+        K.makes_runs (S.runs store.old) (S.runs store.new) stack.new.items result }
 {
     let first = one_level(alloc, hasher, spec, 0, source, sink, store, budget, stack)?;
     let mut rows_written = first.rows_written;

@@ -1,0 +1,67 @@
+-- What one reading did with a source, a sink and a run store.
+use Rattle.std.specs.Prelude.{◌≡◌, ◌+◌, ◌≤◌, ◌++◌, ℕ, Bool, false, true, IsTrue, List, [], length, Result, IfOk, OnOk, IfErr, IsErrOf}
+use Rattle.gq_row.specs.declared.value.Value.{Value}
+use Rattle.gq_spill.specs.Runs.{Runs}
+use Rattle.gq_spill.specs.Writing.{Writing}
+use Rattle.gq_group.specs.Access.{RunSet, Apart, either, LeavesOthers, GroupCause}
+use Rattle.gq_group.specs.Groups.{Spec, Group, out_of_range}
+use Rattle.gq_group.specs.Readings.{AreRows, Fit, Parted, Numbers}
+use Rattle.gq_group.specs.RunSources.{only}
+use Rattle.gq_group.specs.Slots.{among, Ours, HasRun, Gone}
+use Rattle.gq_group.specs.Stacks.{OnStack, Waits}
+use Rattle.gq_group.specs.declared.grouping.Spent.{Spent}
+use Rattle.gq_group.specs.declared.level.Level.{Level}
+use Rattle.gq_group.specs.declared.refusal.Refusal.{Refusal}
+use Rattle.gq_group.specs.declared.refusal.Refusal.TheVariants.{SumRange}
+use Rattle.gq_group.specs.declared.slot.Slot.{Slot}
+
+-- The groups of some keys of the rows that a source gives went to a sink, and the rows of its other keys to runs in slots, or the reading was refused.
+-- What the source owned and owns, what the sink owned and owns, and the slots' runs lie apart at every exit.
+pub record LevelRead (spec : Spec) (budget bound : ℕ) (gives : List (List Value) → Type 0) (held holds : List Group → Type 0) (source_owned source_owns sink_owned sink_owns : RunSet)
+    (source_ready sink_ready : Type 0) (source_makes sink_makes : Bool) (old new : Runs) (slots : List Slot) (result : Result Level Refusal) : Type 0 where
+  pub parted : IsTrue old.honest → IfOk result (λ done. (rows : List (List Value)) → gives rows → Parted spec budget rows slots new done (λ out. (before : List Group) → held before → holds (before ++ out)))
+  pub overflow : IsErrOf result SumRange → IsTrue old.honest → (rows : List (List Value)) → gives rows → out_of_range spec rows ≡ true
+  pub numbers : IfOk result (λ done. Numbers budget bound slots done)
+  pub places : length slots ≤ 16
+  pub source : OnOk result source_ready
+  pub sink : OnOk result sink_ready
+  pub ours : Ours slots new
+  pub apart : Apart (among slots) (either source_owns sink_owns)
+  pub still_apart : Apart source_owns sink_owns
+  pub others : LeavesOthers (either source_owned sink_owned) (either (either source_owns (among slots)) sink_owns) old new
+  pub grows : (run : ℕ) → IsTrue (source_owned run) → IsTrue (source_owns run)
+  pub sink_grows : (run : ℕ) → IsTrue (sink_owned run) → IsTrue (sink_owns run)
+  pub owned : source_makes ≡ false → (run : ℕ) → IsTrue (source_owns run) → IsTrue (source_owned run)
+  pub made : source_makes ≡ false → sink_makes ≡ false → IfOk result (λ done. new.made ≡ old.made + done.runs)
+  pub cause : IfErr result (λ e. GroupCause e old new)
+
+-- The same of a run, which was discarded once it was read.
+pub record RunRead (spec : Spec) (budget columns : ℕ) (writer : Writing) (held holds : List Group → Type 0) (sink_owned sink_owns : RunSet) (sink_ready : Type 0) (sink_makes : Bool) (old new : Runs) (slots : List Slot)
+    (result : Result Level Refusal) : Type 0 where
+  pub parted : IsTrue old.honest → IfOk result (λ done. (rows : List (List Value)) → HasRun writer old rows → Fit spec columns rows → Parted spec budget rows slots new done (λ out. (before : List Group) → held before → holds (before ++ out)))
+  pub overflow : IsErrOf result SumRange → IsTrue old.honest → (rows : List (List Value)) → HasRun writer old rows → Fit spec columns rows → out_of_range spec rows ≡ true
+  pub numbers : IfOk result (λ done. Numbers budget writer.mark.records slots done)
+  pub places : length slots ≤ 16
+  pub sink : OnOk result sink_ready
+  pub ours : Ours slots new
+  pub apart : Apart (among slots) (either (only writer.mark.id.number) sink_owns)
+  pub still_apart : sink_owns writer.mark.id.number ≡ false
+  pub sink_grows : (run : ℕ) → IsTrue (sink_owned run) → IsTrue (sink_owns run)
+  pub others : (mid : Runs) × LeavesOthers (either (only writer.mark.id.number) sink_owned) (either (either (only writer.mark.id.number) (among slots)) sink_owns) old mid × Gone (only writer.mark.id.number) mid new
+  pub made : sink_makes ≡ false → IfOk result (λ done. new.made ≡ old.made + done.runs)
+  pub cause : IfErr result (λ e. GroupCause e old new)
+
+-- All groups of a source's rows went to a sink, those of the runs that were begun as well, or it was refused, and the runs that are left stand on the stack.
+pub record LevelsRead (spec : Spec) (budget bound : ℕ) (gives : List (List Value) → Type 0) (held holds : List Group → Type 0) (source_owned source_owns sink_owned sink_owns : RunSet)
+    (source_ready sink_ready : Type 0) (source_makes sink_makes : Bool) (old new : Runs) (stacked : List Slot) (result : Result Spent Refusal) : Type 0 where
+  pub waits : IsTrue old.honest → IfOk result (λ spent. (columns : ℕ) × ((rows : List (List Value)) → gives rows → AreRows spec rows → Waits spec budget rows columns [] new spent (λ out. (before : List Group) → held before → holds (before ++ out))))
+  pub overflow : IsErrOf result SumRange → IsTrue old.honest → (rows : List (List Value)) → gives rows → AreRows spec rows → out_of_range spec rows ≡ true
+  pub read : IfOk result (λ spent. spent.rows_read ≤ bound)
+  pub apart : Apart source_owns sink_owns
+  pub grows_source : (run : ℕ) → IsTrue (source_owned run) → IsTrue (source_owns run)
+  pub grows_sink : (run : ℕ) → IsTrue (sink_owned run) → IsTrue (sink_owns run)
+  pub source : OnOk result source_ready
+  pub sink : OnOk result sink_ready
+  pub stack : OnStack (either source_owned sink_owned) (either source_owns sink_owns) stacked old new
+  pub made : source_makes ≡ false → sink_makes ≡ false → IfOk result (λ spent. new.made ≡ old.made + spent.runs)
+  pub cause : IfErr result (λ e. GroupCause e old new)
