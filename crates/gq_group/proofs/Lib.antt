@@ -18,6 +18,7 @@ pub mod PileLemmas
 pub mod ReadLemmas
 pub mod ResidentLemmas
 pub mod Results
+pub mod RowLemmas
 pub mod Sending
 pub mod SlotLemmas
 pub mod Spilling

@@ -191,6 +191,10 @@ module _ (a src k k' : RunSet) (front slots : List Slot) (slot : Slot) (w : Writ
           (λ run. or_between (mine run) (src run) (k run)) (λ run. or_between (mine run || among slots run) (src run) (k' run))
           (leaves-left (either mine k) (either (either mine (among slots)) k') src r m step)
 
+-- a stack that was taken apart, where room was made for more first
+pub popped-from : (stack behind other : List Slot) → behind ≡ stack → behind ≡ other → stack ≡ other
+popped-from stack behind other same is = sym same ∙ is
+
 -- the same stack, written in another way
 pub stack-same : (a b : RunSet) (stack other : List Slot) (r s : Runs) → stack ≡ other → OnStack a b stack r s → OnStack a b other r s
 stack-same a b stack other r s same on = subst (λ st. OnStack a b st r s) same on

@@ -3,17 +3,35 @@ use Rattle.std.specs.Prelude.{◌≡◌, ◌+◌, ◌≤◌, ◌++◌, ℕ, Bool
 use Rattle.gq_row.specs.declared.value.Value.{Value}
 use Rattle.gq_spill.specs.Runs.{Runs}
 use Rattle.gq_spill.specs.Writing.{Writing}
-use Rattle.gq_group.specs.Access.{RunSet, Apart, either, LeavesOthers, GroupCause}
+use Rattle.gq_group.specs.Access.{RunSet, Apart, either, LeavesOthers, HasCause, GroupCause}
+use Rattle.gq_group.specs.Entries.{Pair}
 use Rattle.gq_group.specs.Groups.{Spec, Group, out_of_range}
-use Rattle.gq_group.specs.Readings.{AreRows, Fit, Parted, Numbers}
+use Rattle.gq_group.specs.Readings.{AreRows, Fit, Reads, Parted, Numbers}
 use Rattle.gq_group.specs.RunSources.{only}
 use Rattle.gq_group.specs.Slots.{among, Ours, HasRun, Gone}
 use Rattle.gq_group.specs.Stacks.{OnStack, Waits}
 use Rattle.gq_group.specs.declared.grouping.Spent.{Spent}
 use Rattle.gq_group.specs.declared.level.Level.{Level}
+use Rattle.gq_group.specs.declared.level.Taken.{Taken}
 use Rattle.gq_group.specs.declared.refusal.Refusal.{Refusal}
 use Rattle.gq_group.specs.declared.refusal.Refusal.TheVariants.{SumRange}
 use Rattle.gq_group.specs.declared.slot.Slot.{Slot}
+
+-- All rows of a source were read, each into its group or into the run of its class, or it was refused.
+pub record RowsRead (spec : Spec) (budget : ℕ) (class : List Value → ℕ) (classes most : ℕ) (gives : List (List Value) → Type 0) (source_owned source_owns : RunSet) (source_ready : Type 0) (source_makes : Bool)
+    (old new : Runs) (pairs : List Pair) (slots : List Slot) (result : Result Taken Refusal) : Type 0 where
+  pub read : IfOk result (λ done. Reads spec budget class classes old.honest gives (λ left. left ≡ []) new done.rows_read done.rows_written done.runs done.columns pairs slots)
+  pub bound : IfOk result (λ done. done.rows_read ≤ most)
+  pub less_runs : IfOk result (λ done. done.runs ≤ done.rows_written)
+  pub places : length slots ≡ classes
+  pub source : OnOk result source_ready
+  pub ours : Ours slots new
+  pub apart : Apart (among slots) source_owns
+  pub others : LeavesOthers source_owned (either source_owns (among slots)) old new
+  pub grows : (run : ℕ) → IsTrue (source_owned run) → IsTrue (source_owns run)
+  pub owned : source_makes ≡ false → (run : ℕ) → IsTrue (source_owns run) → IsTrue (source_owned run)
+  pub made : source_makes ≡ false → IfOk result (λ done. new.made ≡ old.made + done.runs)
+  pub cause : IfErr result (λ e. HasCause e old new)
 
 -- The groups of some keys of the rows that a source gives went to a sink, and the rows of its other keys to runs in slots, or the reading was refused.
 -- What the source owned and owns, what the sink owned and owns, and the slots' runs lie apart at every exit.

@@ -1,13 +1,13 @@
 //! One reading of a source: groups of some keys to the sink, rows of other keys to runs.
-ghost use Rattle.std.specs.Prelude.{◌≡◌, ◌+◌, ◌<◌, ◌≤◌, ◌^◌, [], ℕ, false, List, length, IsTrue, IfOk, OnOk, IfErr, cond, ◌==◌};
+ghost use Rattle.std.specs.Prelude.{◌≡◌, ◌+◌, ◌<◌, ◌≤◌, ◌^◌, [], List, length, IsTrue, IfOk, OnOk, IfErr, cond, ◌==◌};
 ghost use Rattle.sw_table.specs.LaidOut.{hash_by};
 ghost use Rattle.gq_row.specs.declared.value.Value.{Value as Cell};
 ghost use Rattle.gq_row.specs.Classes.{bytes_of};
-ghost use Rattle.gq_group.specs.Access.{Apart, either, LeavesOthers, HasCause};
+ghost use Rattle.gq_group.specs.Access.{Apart, LeavesOthers, HasCause};
 ghost use Rattle.gq_group.specs.Groups.{fits_spec};
-ghost use Rattle.gq_group.specs.Leveling.{LevelRead};
+ghost use Rattle.gq_group.specs.Leveling.{RowsRead, LevelRead};
 ghost use Rattle.gq_group.specs.Levels.{class_at, class_by, classes_at};
-ghost use Rattle.gq_group.specs.Readings.{AreRows, Places, Reads};
+ghost use Rattle.gq_group.specs.Readings.{AreRows, Places};
 ghost use Rattle.gq_group.specs.Residents.{Resident};
 ghost use Rattle.gq_group.specs.Slots.{among, Ours, AllHeld, AreEmpty};
 
@@ -145,25 +145,11 @@ fn read_rows<H: KeyHash<Key> + Copy, S: RunStore, R: RowSource<S>>(
     requires start { Resident spec.now table.old.budget.entries [] table.old.groups.pairs }
     requires places { length slots.old.items ≡ classes_at level }
     requires empty { AreEmpty slots.old.items }
-    ensures read { IfOk result (λ taken. Reads spec.now table.old.budget.entries (class_by
-        (hash_by H.hash_of bytes_of table.old.groups.hasher) level) (classes_at level) (S.runs
-        store.old).honest (R.gives source.old (S.runs store.old)) (λ left. left ≡ []) (S.runs
-        store.new) taken.rows_read taken.rows_written taken.runs taken.columns table.new.groups.pairs
-        slots.new.items) }
-    ensures bound { IfOk result (λ taken. taken.rows_read ≤ R.bound source.old) }
-    ensures less_runs { IfOk result (λ taken. taken.runs ≤ taken.rows_written) }
-    ensures places { length slots.new.items ≡ classes_at level }
-    ensures source { OnOk result (R.is_ready source.new (S.runs store.new)) }
-    ensures ours { Ours slots.new.items (S.runs store.new) }
-    ensures apart { Apart (among slots.new.items) (R.owns source.new) }
-    ensures others { LeavesOthers (R.owns source.old) (either (R.owns source.new) (among
-        slots.new.items)) (S.runs store.old) (S.runs store.new) }
-    ensures grows { (run : ℕ) → IsTrue (R.owns source.old run) → IsTrue (R.owns source.new run) }
-    ensures owned { R.makes_runs ≡ false → (run : ℕ) → IsTrue (R.owns source.new run) →
-        IsTrue (R.owns source.old run) }
-    ensures made { R.makes_runs ≡ false → IfOk result (λ taken.
-        (S.runs store.new).made ≡ (S.runs store.old).made + taken.runs) }
-    ensures cause { IfErr result (λ e. HasCause e (S.runs store.old) (S.runs store.new)) }
+    ensures { RowsRead spec.now table.old.budget.entries (class_by (hash_by H.hash_of bytes_of
+        table.old.groups.hasher) level) (classes_at level) (R.bound source.old) (R.gives source.old
+        (S.runs store.old)) (R.owns source.old) (R.owns source.new) (R.is_ready source.new (S.runs
+        store.new)) R.makes_runs (S.runs store.old) (S.runs store.new) table.new.groups.pairs
+        slots.new.items result }
 {
     let mut rows_read: u64 = 0;
     let mut rows_written: u64 = 0;

@@ -1,9 +1,11 @@
 use Rattle.std.proofs.Common.{[], ap, subst, sym}
 use Rattle.sw_table.specs.LaidOut.{hash_by}
 use Rattle.gq_row.specs.Classes.{bytes_of}
+use Rattle.gq_group.specs.Access.{either}
 use Rattle.gq_group.specs.Levels.{class_by}
 use Rattle.gq_group.specs.Maps.{MapView}
 use Rattle.gq_group.specs.Residents.{Resident}
+use Rattle.gq_group.specs.Slots.{among}
 use Rattle.gq_group.specs.declared.budget.Budget.{Budget}
 use Rattle.gq_group.proofs.AccessLemmas.{keeps-apart}
 use Rattle.gq_group.proofs.LevelLemmas.{class_less}
@@ -40,7 +42,7 @@ push_all-requires g c =
     let s = g.S.RunStore.runs c.read_rows.new.store in
     let k = g.K.GroupSink.owns c.args.sink.now in
     let live = g.met.K.GroupSink.own_live c.args.sink.now r c.requires.sink in
-    record { sink = g.met.K.GroupSink.stays_ready c.args.sink.now r s (keeps-apart _ _ k r s c.in_ok-taken.ensures.others c.requires.apart live) c.requires.sink }
+    record { sink = g.met.K.GroupSink.stays_ready c.args.sink.now r s (keeps-apart (g.R.RowSource.owns c.args.source.now) (either (g.R.RowSource.owns c.read_rows.new.source) (among c.read_rows.new.slots.items)) k r s c.in_ok-taken.ensures.others c.requires.apart live) c.requires.sink }
 
 pub returns-in_default : goal.returns-in_default
 returns-in_default g c =
@@ -50,8 +52,10 @@ returns-in_default g c =
 pub returns-in_err-taken : goal.returns-in_err-taken
 returns-in_err-taken g c =
     let r = g.S.RunStore.runs c.args.store.now in
+    let s = g.S.RunStore.runs c.read_rows.new.store in
     let told = c.in_err-taken.ensures in
-    level-stopped c.args.spec.now c.args.budget.entries _ _ _ _ _ _ _ _ (g.R.RowSource.owns c.args.source.now) (g.R.RowSource.owns c.read_rows.new.source) (g.K.GroupSink.owns c.args.sink.now) r (g.S.RunStore.runs c.read_rows.new.store) c.read_rows.new.slots.items c.args.level
+    level-stopped c.args.spec.now c.args.budget.entries _ _ _ (g.K.GroupSink.holds c.args.sink.now s) (g.R.RowSource.is_ready c.read_rows.new.source s) (g.K.GroupSink.is_ready c.args.sink.now s) _ _
+    (g.R.RowSource.owns c.args.source.now) (g.R.RowSource.owns c.read_rows.new.source) (g.K.GroupSink.owns c.args.sink.now) r s c.read_rows.new.slots.items c.args.level
     c.requires.apart (g.met.K.GroupSink.own_live c.args.sink.now r c.requires.sink) told.places told.ours told.apart told.others told.grows told.owned
     c.from_residual.result c.in_err-taken.field-0.0 c.from_residual.ensures.1 told.cause
 
@@ -59,10 +63,12 @@ pub returns-in_err-groups : goal.returns-in_err-groups
 returns-in_err-groups g c =
     let r = g.S.RunStore.runs c.args.store.now in
     let s = g.S.RunStore.runs c.read_rows.new.store in
+    let t = g.S.RunStore.runs c.push_all.new.store in
     let told = c.in_ok-taken.ensures in
     let n = c.in_ok-taken.taken in
-    level-full c.args.spec.now c.args.budget.entries _ _ _ _ _ _ _ _ (g.R.RowSource.owns c.args.source.now) (g.R.RowSource.owns c.read_rows.new.source) (g.K.GroupSink.owns c.args.sink.now) (g.K.GroupSink.owns c.push_all.new.sink)
-    r s (g.S.RunStore.runs c.push_all.new.store) c.read_rows.new.slots.items c.args.level
+    level-full c.args.spec.now c.args.budget.entries _ _ _ (g.K.GroupSink.holds c.push_all.new.sink t) (g.R.RowSource.is_ready c.read_rows.new.source t) (g.K.GroupSink.is_ready c.push_all.new.sink t) _ _
+    (g.R.RowSource.owns c.args.source.now) (g.R.RowSource.owns c.read_rows.new.source) (g.K.GroupSink.owns c.args.sink.now) (g.K.GroupSink.owns c.push_all.new.sink)
+    r s t c.read_rows.new.slots.items c.args.level
     c.requires.apart (g.met.K.GroupSink.own_live c.args.sink.now r c.requires.sink) told.places told.ours told.apart told.others told.grows told.owned c.in_err-groups.ensures.others
     (class_by (hash_by g.H.KeyHash.hash_of bytes_of c.in-Ok.table.groups.hasher) c.args.level) c.in-Ok.table.budget.entries n.rows_read n.rows_written n.runs n.columns c.read_rows.new.table.groups.pairs c.into_groups.result.pairs told.read
     (ap (λ (b : Budget). b.entries) c.in-Ok.ensures.budget) (ap (λ (x : MapView _). x.pairs) c.into_groups.ensures) (g.met.R.RowSource.own_live c.read_rows.new.source s told.source)
@@ -72,15 +78,17 @@ pub returns : goal.returns
 returns g c =
     let r = g.S.RunStore.runs c.args.store.now in
     let s = g.S.RunStore.runs c.read_rows.new.store in
+    let t = g.S.RunStore.runs c.push_all.new.store in
     let told = c.in_ok-taken.ensures in
     let pushed = c.in_ok-groups.ensures in
     let n = c.in_ok-taken.taken in
     let hash = hash_by g.H.KeyHash.hash_of bytes_of c.in-Ok.table.groups.hasher in
-    level-done c.args.spec.now c.args.budget.entries _ _ _ _ _ _ _ _ (g.R.RowSource.owns c.args.source.now) (g.R.RowSource.owns c.read_rows.new.source) (g.K.GroupSink.owns c.args.sink.now) (g.K.GroupSink.owns c.push_all.new.sink)
-    r s (g.S.RunStore.runs c.push_all.new.store) c.read_rows.new.slots.items c.args.level
+    level-done c.args.spec.now c.args.budget.entries _ _ _ (g.K.GroupSink.holds c.push_all.new.sink t) (g.R.RowSource.is_ready c.read_rows.new.source t) (g.K.GroupSink.is_ready c.push_all.new.sink t) _ _
+    (g.R.RowSource.owns c.args.source.now) (g.R.RowSource.owns c.read_rows.new.source) (g.K.GroupSink.owns c.args.sink.now) (g.K.GroupSink.owns c.push_all.new.sink)
+    r s t c.read_rows.new.slots.items c.args.level
     c.requires.apart (g.met.K.GroupSink.own_live c.args.sink.now r c.requires.sink) told.places told.ours told.apart told.others told.grows told.owned pushed.others
     (class_by hash c.args.level) c.in-Ok.table.budget.entries n.rows_read n.rows_written n.runs n.columns c.read_rows.new.table.groups.pairs c.into_groups.result.pairs told.read
     (ap (λ (b : Budget). b.entries) c.in-Ok.ensures.budget) (ap (λ (x : MapView _). x.pairs) c.into_groups.ensures) (g.met.R.RowSource.own_live c.read_rows.new.source s told.source)
     c.in_ok-groups.groups (g.K.GroupSink.holds c.args.sink.now s) (class_less hash c.args.level) c.args.budget.some told.bound told.less_runs
     (λ kept. g.met.K.GroupSink.keeps_groups c.args.sink.now r s kept c.requires.sink) pushed.sent pushed.count pushed.entries
-    (λ kept. g.met.R.RowSource.stays_ready c.read_rows.new.source s _ kept told.source) pushed.sink told.made pushed.made
+    (λ kept. g.met.R.RowSource.stays_ready c.read_rows.new.source s t kept told.source) pushed.sink told.made pushed.made

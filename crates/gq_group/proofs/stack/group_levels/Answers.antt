@@ -1,7 +1,7 @@
-use Rattle.std.proofs.Common.{sym, ◌∙◌, arith}
+use Rattle.std.proofs.Common.{◌++◌, ◌∷◌, [], sym, ◌∙◌, arith}
 use Rattle.std.proofs.lemmas.List.{nil_from_length}
 use Rattle.gq_group.proofs.Results.{appended}
-use Rattle.gq_group.proofs.StackLemmas.{on_top, top-apart, top-few, top-live, work-read, work-skip}
+use Rattle.gq_group.proofs.StackLemmas.{on_top, popped-from, top-apart, top-few, top-live, work-read, work-skip}
 use Rattle.gq_group.proofs.StackingLemmas.{levels-done, levels-first, levels-full, levels-stopped, room, shrunk, so_far-first, so_far-read, so_far-skip}
 use Rattle.gq_group.proofs.stack.group_levels.Goals as goal
 
@@ -41,15 +41,15 @@ pub returns : goal.returns
 returns g c =
     let was = nil_from_length c.reserve.new.self.items (omega (arith, c.in_default-pop.ensures.cases)) in
     levels-done c.args.spec.now c.args.budget.entries _ _ _ _ _ _ _ _ _ _ _ _ _ _ c.in_ok-first.first.columns c.runs.stack.items _ c.runs.invariant c.pop.new.self.items
-    (sym c.reserve.ensures.items ∙ was) (nil_from_length c.pop.new.self.items (omega (arith, c.in_default-pop.ensures.cases)))
+    (popped-from c.runs.stack.items c.reserve.new.self.items [] c.reserve.ensures.items was) (nil_from_length c.pop.new.self.items (omega (arith, c.in_default-pop.ensures.cases)))
 
 pub read_run-outcome-requires-clause-live : goal.read_run-outcome-requires-clause-live
 read_run-outcome-requires-clause-live g c =
-    top-live c.runs.stack.items c.pop.new.self.items c.in-Some.slot c.in-Some-writer.writer (g.S.RunStore.runs c.runs.store) (sym c.reserve.ensures.items ∙ c.in-Some.ensures.items) c.in-Some-writer.is c.runs.invariant.on.ours
+    top-live c.runs.stack.items c.pop.new.self.items c.in-Some.slot c.in-Some-writer.writer (g.S.RunStore.runs c.runs.store) (popped-from c.runs.stack.items c.reserve.new.self.items (c.pop.new.self.items ++ c.in-Some.slot ∷ []) c.reserve.ensures.items c.in-Some.ensures.items) c.in-Some-writer.is c.runs.invariant.on.ours
 
 pub read_run-outcome-requires-clause-few : goal.read_run-outcome-requires-clause-few
 read_run-outcome-requires-clause-few g c =
-    top-few c.runs.stack.items c.pop.new.self.items c.in-Some.slot c.in-Some-writer.writer (sym c.reserve.ensures.items ∙ c.in-Some.ensures.items) c.in-Some-writer.is c.runs.invariant.counts.few
+    top-few c.runs.stack.items c.pop.new.self.items c.in-Some.slot c.in-Some-writer.writer (popped-from c.runs.stack.items c.reserve.new.self.items (c.pop.new.self.items ++ c.in-Some.slot ∷ []) c.reserve.ensures.items c.in-Some.ensures.items) c.in-Some-writer.is c.runs.invariant.counts.few
 
 pub read_run-outcome-requires-clause-sink : goal.read_run-outcome-requires-clause-sink
 read_run-outcome-requires-clause-sink g c = c.runs.invariant.sink
@@ -57,14 +57,14 @@ read_run-outcome-requires-clause-sink g c = c.runs.invariant.sink
 pub read_run-outcome-requires-clause-apart : goal.read_run-outcome-requires-clause-apart
 read_run-outcome-requires-clause-apart g c =
     top-apart c.runs.stack.items c.pop.new.self.items c.in-Some.slot c.in-Some-writer.writer (g.R.RowSource.owns c.one_level.new.source) (g.K.GroupSink.owns c.runs.sink)
-    (sym c.reserve.ensures.items ∙ c.in-Some.ensures.items) c.in-Some-writer.is c.runs.invariant.on.apart
+    (popped-from c.runs.stack.items c.reserve.new.self.items (c.pop.new.self.items ++ c.in-Some.slot ∷ []) c.reserve.ensures.items c.in-Some.ensures.items) c.in-Some-writer.is c.runs.invariant.on.apart
 
 pub read_run-outcome-requires-clause-rows : goal.read_run-outcome-requires-clause-rows
 read_run-outcome-requires-clause-rows g c = λ h.
     let before = sym c.runs.invariant.on.others.same_honest ∙ h in
     let known = c.requires.rows before in
     let top = on_top c.args.spec.now c.args.budget.entries known.0 c.in_ok-first.first.columns c.runs.stack.items c.pop.new.self.items c.in-Some.slot c.in-Some-writer.writer
-    (g.S.RunStore.runs c.runs.store) _ _ (sym c.reserve.ensures.items ∙ c.in-Some.ensures.items) c.in-Some-writer.is (c.runs.invariant.waits before known.0 known.1 known.2) in
+    (g.S.RunStore.runs c.runs.store) _ _ (popped-from c.runs.stack.items c.reserve.new.self.items (c.pop.new.self.items ++ c.in-Some.slot ∷ []) c.reserve.ensures.items c.in-Some.ensures.items) c.in-Some-writer.is (c.runs.invariant.waits before known.0 known.1 known.2) in
     (top.part, top.has, top.fit)
 
 pub read_run-outcome-requires-clause-none : goal.read_run-outcome-requires-clause-none
@@ -73,10 +73,12 @@ read_run-outcome-requires-clause-none g c = c.new-slots.ensures.items
 pub runs-preserved : goal.runs-preserved
 runs-preserved g c =
     so_far-skip c.args.spec.now c.args.budget.entries _ _ _ _ _ _ _ _ _ _ _ _ _ _ c.in_ok-first.first.columns c.runs.stack.items _ c.runs.invariant c.pop.new.self.items c.in-Some.slot
-    (sym c.reserve.ensures.items ∙ c.in-Some.ensures.items) c.in_default-writer.is
+    (popped-from c.runs.stack.items c.reserve.new.self.items (c.pop.new.self.items ++ c.in-Some.slot ∷ []) c.reserve.ensures.items c.in-Some.ensures.items) c.in_default-writer.is
 
 pub runs-preserved-in-Some-writer : goal.runs-preserved-in-Some-writer
 runs-preserved-in-Some-writer g c =
+    let t = g.S.RunStore.runs c.read_run-outcome.new.store in
+    let sink = c.read_run-outcome.new.sink in
     let s = g.S.RunStore.runs c.runs.store in
     let told = c.read_run-outcome.ensures in
     let front = c.pop.new.self.items in
@@ -84,26 +86,30 @@ runs-preserved-in-Some-writer g c =
     let source = c.one_level.new.source in
     let fits = c.append.ensures.succeeds (omega (arith, c.in-Ok.ensures.ok, c.pop.ensures.capacity, c.pop.ensures.len, told.places)) in
     so_far-read c.args.spec.now c.args.budget.entries _ _ _ _ _ _ _ _ _ _ _ _ _ s c.in_ok-first.first.columns c.runs.stack.items _ c.runs.invariant front slots c.in-Some.slot c.in-Some-writer.writer
-    (sym c.reserve.ensures.items ∙ c.in-Some.ensures.items) c.in-Some-writer.is _ _ _ (g.S.RunStore.runs c.read_run-outcome.new.store) c.read_run-outcome.result told
+    (popped-from c.runs.stack.items c.reserve.new.self.items (c.pop.new.self.items ++ c.in-Some.slot ∷ []) c.reserve.ensures.items c.in-Some.ensures.items) c.in-Some-writer.is (g.K.GroupSink.holds sink t) (g.K.GroupSink.owns sink) (g.K.GroupSink.is_ready sink t) t c.read_run-outcome.result told
     c.append.new.self.items (appended c.append.result _ front slots fits c.append.ensures.items) (g.met.R.RowSource.own_live source s c.runs.invariant.source)
-    _ c.in_ok-done.done c.args.budget.some c.args.budget.few c.in_ok-done.was (λ kept. g.met.R.RowSource.stays_ready source s _ kept c.runs.invariant.source)
+    (g.R.RowSource.is_ready source t) c.in_ok-done.done c.args.budget.some c.args.budget.few c.in_ok-done.was (λ kept. g.met.R.RowSource.stays_ready source s t kept c.runs.invariant.source)
 
 pub runs-smaller : goal.runs-smaller
-runs-smaller g c = work-skip c.runs.stack.items c.pop.new.self.items c.in-Some.slot (sym c.reserve.ensures.items ∙ c.in-Some.ensures.items) c.in_default-writer.is
+runs-smaller g c = work-skip c.runs.stack.items c.pop.new.self.items c.in-Some.slot (popped-from c.runs.stack.items c.reserve.new.self.items (c.pop.new.self.items ++ c.in-Some.slot ∷ []) c.reserve.ensures.items c.in-Some.ensures.items) c.in_default-writer.is
 
 pub runs-smaller-in-Some-writer : goal.runs-smaller-in-Some-writer
 runs-smaller-in-Some-writer g c =
+    let t = g.S.RunStore.runs c.read_run-outcome.new.store in
+    let sink = c.read_run-outcome.new.sink in
     let told = c.read_run-outcome.ensures in
     let front = c.pop.new.self.items in
     let slots = c.read_run-outcome.new.slots.items in
     let fits = c.append.ensures.succeeds (omega (arith, c.in-Ok.ensures.ok, c.pop.ensures.capacity, c.pop.ensures.len, told.places)) in
     work-read c.runs.stack.items c.append.new.self.items c.in_ok-done.done
     (shrunk c.args.spec.now c.args.budget.entries _ _ _ _ _ _ _ _ _ _ _ _ _ _ c.in_ok-first.first.columns c.runs.stack.items _ c.runs.invariant front slots c.in-Some.slot c.in-Some-writer.writer
-    (sym c.reserve.ensures.items ∙ c.in-Some.ensures.items) c.in-Some-writer.is _ _ _ _ c.read_run-outcome.result told
+    (popped-from c.runs.stack.items c.reserve.new.self.items (c.pop.new.self.items ++ c.in-Some.slot ∷ []) c.reserve.ensures.items c.in-Some.ensures.items) c.in-Some-writer.is (g.K.GroupSink.holds sink t) (g.K.GroupSink.owns sink) (g.K.GroupSink.is_ready sink t) t c.read_run-outcome.result told
     c.append.new.self.items (appended c.append.result _ front slots fits c.append.ensures.items) c.in_ok-done.done c.in_ok-done.was)
 
 pub returns-in_err-done : goal.returns-in_err-done
 returns-in_err-done g c =
+    let t = g.S.RunStore.runs c.read_run-outcome.new.store in
+    let sink = c.read_run-outcome.new.sink in
     let s = g.S.RunStore.runs c.runs.store in
     let told = c.read_run-outcome.ensures in
     let front = c.pop.new.self.items in
@@ -111,24 +117,30 @@ returns-in_err-done g c =
     let source = c.one_level.new.source in
     let fits = c.append.ensures.succeeds (omega (arith, c.in-Ok.ensures.ok, c.pop.ensures.capacity, c.pop.ensures.len, told.places)) in
     levels-stopped c.args.spec.now c.args.budget.entries _ _ _ _ _ _ _ _ _ _ _ _ _ s c.in_ok-first.first.columns c.runs.stack.items _ c.runs.invariant front slots c.in-Some.slot c.in-Some-writer.writer
-    (sym c.reserve.ensures.items ∙ c.in-Some.ensures.items) c.in-Some-writer.is _ _ _ (g.S.RunStore.runs c.read_run-outcome.new.store) c.read_run-outcome.result told
+    (popped-from c.runs.stack.items c.reserve.new.self.items (c.pop.new.self.items ++ c.in-Some.slot ∷ []) c.reserve.ensures.items c.in-Some.ensures.items) c.in-Some-writer.is (g.K.GroupSink.holds sink t) (g.K.GroupSink.owns sink) (g.K.GroupSink.is_ready sink t) t c.read_run-outcome.result told
     c.append.new.self.items (appended c.append.result _ front slots fits c.append.ensures.items) (g.met.R.RowSource.own_live source s c.runs.invariant.source)
-    _ c.from_residual-in_err-done.result c.in_err-done.field-0.0 c.from_residual-in_err-done.ensures.1 c.in_err-done.was
+    (g.R.RowSource.is_ready source t) c.from_residual-in_err-done.result c.in_err-done.field-0.0 c.from_residual-in_err-done.ensures.1 c.in_err-done.was
 
 pub overflow_add-rows_written : goal.overflow_add-rows_written
 overflow_add-rows_written g c =
+    let t = g.S.RunStore.runs c.read_run-outcome.new.store in
+    let sink = c.read_run-outcome.new.sink in
     let all = room c.args.spec.now c.args.budget.entries _ _ _ _ _ _ _ _ _ _ _ _ _ _ c.in_ok-first.first.columns c.runs.stack.items _ c.runs.invariant c.pop.new.self.items c.read_run-outcome.new.slots.items c.in-Some.slot c.in-Some-writer.writer
-    (sym c.reserve.ensures.items ∙ c.in-Some.ensures.items) c.in-Some-writer.is _ _ _ _ c.read_run-outcome.result c.read_run-outcome.ensures c.in_ok-done.done c.args.budget.few c.in_ok-done.was in
+    (popped-from c.runs.stack.items c.reserve.new.self.items (c.pop.new.self.items ++ c.in-Some.slot ∷ []) c.reserve.ensures.items c.in-Some.ensures.items) c.in-Some-writer.is (g.K.GroupSink.holds sink t) (g.K.GroupSink.owns sink) (g.K.GroupSink.is_ready sink t) t c.read_run-outcome.result c.read_run-outcome.ensures c.in_ok-done.done c.args.budget.few c.in_ok-done.was in
     all.for_rows
 
 pub overflow_add-groups : goal.overflow_add-groups
 overflow_add-groups g c =
+    let t = g.S.RunStore.runs c.read_run-outcome.new.store in
+    let sink = c.read_run-outcome.new.sink in
     let all = room c.args.spec.now c.args.budget.entries _ _ _ _ _ _ _ _ _ _ _ _ _ _ c.in_ok-first.first.columns c.runs.stack.items _ c.runs.invariant c.pop.new.self.items c.read_run-outcome.new.slots.items c.in-Some.slot c.in-Some-writer.writer
-    (sym c.reserve.ensures.items ∙ c.in-Some.ensures.items) c.in-Some-writer.is _ _ _ _ c.read_run-outcome.result c.read_run-outcome.ensures c.in_ok-done.done c.args.budget.few c.in_ok-done.was in
+    (popped-from c.runs.stack.items c.reserve.new.self.items (c.pop.new.self.items ++ c.in-Some.slot ∷ []) c.reserve.ensures.items c.in-Some.ensures.items) c.in-Some-writer.is (g.K.GroupSink.holds sink t) (g.K.GroupSink.owns sink) (g.K.GroupSink.is_ready sink t) t c.read_run-outcome.result c.read_run-outcome.ensures c.in_ok-done.done c.args.budget.few c.in_ok-done.was in
     all.for_groups
 
 pub overflow_add-runs : goal.overflow_add-runs
 overflow_add-runs g c =
+    let t = g.S.RunStore.runs c.read_run-outcome.new.store in
+    let sink = c.read_run-outcome.new.sink in
     let all = room c.args.spec.now c.args.budget.entries _ _ _ _ _ _ _ _ _ _ _ _ _ _ c.in_ok-first.first.columns c.runs.stack.items _ c.runs.invariant c.pop.new.self.items c.read_run-outcome.new.slots.items c.in-Some.slot c.in-Some-writer.writer
-    (sym c.reserve.ensures.items ∙ c.in-Some.ensures.items) c.in-Some-writer.is _ _ _ _ c.read_run-outcome.result c.read_run-outcome.ensures c.in_ok-done.done c.args.budget.few c.in_ok-done.was in
+    (popped-from c.runs.stack.items c.reserve.new.self.items (c.pop.new.self.items ++ c.in-Some.slot ∷ []) c.reserve.ensures.items c.in-Some.ensures.items) c.in-Some-writer.is (g.K.GroupSink.holds sink t) (g.K.GroupSink.owns sink) (g.K.GroupSink.is_ready sink t) t c.read_run-outcome.result c.read_run-outcome.ensures c.in_ok-done.done c.args.budget.few c.in_ok-done.was in
     all.for_runs
