@@ -1,8 +1,11 @@
 -- Two phases with a run between them: whose runs are left alone.
 use Rattle.std.proofs.Common.{◌≡◌, ◌+◌, ◌||◌, ℕ, Bool, true, false, Result, Ok, Err, refl, sym, ap, subst, ◌∙◌, inl, inr, arith}
-use Rattle.std.specs.Prelude.{IsTrue, OnOk, IfOk, IfErr}
+use Rattle.std.specs.Prelude.{IsTrue, IsErrAnd, List, OnOk, IfOk, IfErr}
+use Rattle.gq_row.specs.declared.value.Value.{Value}
 use Rattle.gq_spill.specs.Runs.{Runs}
 use Rattle.gq_group.specs.Access.{RunSet, either, Apart, LeavesOthers, KeepsOwn, HasCause, GroupCause}
+use Rattle.gq_group.specs.Counting.{CountedInRun}
+use Rattle.gq_group.specs.Groups.{Group}
 use Rattle.gq_group.specs.Phases.{blamed_as}
 use Rattle.gq_group.specs.Slots.{Gone}
 use Rattle.gq_group.specs.RunSources.{only, same_number, equal_number}
@@ -177,3 +180,21 @@ leaves-one was new run k k' r s is grows step =
 
 pub apart-run : (was new run : ℕ) (k : RunSet) → was ≡ run → IsTrue (only new was) → Apart (only new) k → Apart (only run) k
 apart-run was new run k is grows apart = subst (λ n. Apart (only n) k) (sym (equal_number was new grows) ∙ is) apart
+
+-- a refusal in one of the phases
+pub counted-refused : (by : List ℕ) (column budget number : ℕ) (gives : List (List Value) → Type 0) (held holds : List Group → Type 0) (a b k l : RunSet) (source_ready sink_ready : Type 0) (source_makes sink_makes : Bool) (r s : Runs) (q : Result Spent Refusal) (e : Refusal)
+    → IsErrAnd q (λ y. y ≡ e) → LeavesOthers (either (either a k) (only number)) (either (either b l) (only number)) r s → Apart (only number) (either b l) → ((run : ℕ) → IsTrue (either a k run) → IsTrue (either b l run)) → HasCause e r s
+    → CountedInRun by column budget number gives held holds a b k l source_ready sink_ready source_makes sink_makes r s q
+counted-refused by column budget number gives held holds a b k l source_ready sink_ready source_makes sink_makes r s (Ok x) e is others apart grows cause = absurd is
+counted-refused by column budget number gives held holds a b k l source_ready sink_ready source_makes sink_makes r s (Err y) e is others apart grows cause = record {
+  groups = λ h. tt;
+  counts = λ h. tt;
+  spills = λ h. tt;
+  made = λ none no. tt;
+  others = others;
+  apart = apart;
+  grows = grows;
+  source = tt;
+  sink = tt;
+  cause = subst (λ x. HasCause x r s) (sym is) cause;
+}

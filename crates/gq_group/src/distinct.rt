@@ -1,9 +1,10 @@
 //! How many different values the rows of each key have in a column.
-ghost use Rattle.std.specs.Prelude.{◌≡◌, ◌+◌, ◌≤◌, ◌<◌, ◌^◌, ◌++◌, [], ℕ, true, false, List, length, IsTrue, IfOk, OnOk, IfErr, IfSome};
+ghost use Rattle.std.specs.Prelude.{◌≡◌, ◌+◌, ◌≤◌, ◌<◌, ◌^◌, ◌++◌, [], ℕ, false, List, length, IsTrue, IfOk, OnOk, IfErr};
 ghost use Rattle.gq_row.specs.declared.value.Value.{Value as Cell};
 ghost use Rattle.gq_spill.specs.Reading.{Left, opened};
 ghost use Rattle.gq_spill.specs.Writing.{Wrote};
 ghost use Rattle.gq_group.specs.Access.{Apart, either, LeavesOthers, HasCause};
+ghost use Rattle.gq_group.specs.Counting.{CountedInRun};
 ghost use Rattle.gq_group.specs.Distinct.{PushesDistinct, with_column, all_have};
 ghost use Rattle.gq_group.specs.Groups.{Group, keys_of, Pushes, OneWidth};
 ghost use Rattle.gq_group.specs.Phases.{pairs_of, counts_of, blamed_as, CanWrite};
@@ -165,30 +166,11 @@ fn count_in_run<H: KeyHash<Key> + Copy, S: RunStore, R: RowSource<S>, K: GroupSi
         IsTrue (all_have (with_column by.now column) rows) }
     requires widths { IsTrue (S.runs store.old).honest → (rows : List (List Cell)) →
         R.gives source.old (S.runs store.old) rows → OneWidth rows }
-    ensures groups { IsTrue (S.runs store.old).honest →
-        OnOk result ((rows : List (List Cell)) → R.gives source.old (S.runs store.old) rows
-        → (before : List Group) → K.holds sink.old (S.runs store.old) before
-        → PushesDistinct by.now column rows
-        (λ out. K.holds sink.new (S.runs store.new) (before ++ out))) }
-    ensures counts { IsTrue (S.runs store.old).honest →
-        IfOk result (λ spent. (rows : List (List Cell)) →
-        R.gives source.old (S.runs store.old) rows
-        → (spent.rows_read ≡ length rows) × (spent.groups ≡ length (keys_of by.now rows))) }
-    ensures spills { IsTrue (S.runs store.old).honest →
-        IfOk result (λ spent. SpillsTwice budget.entries spent) }
-    ensures made { R.makes_runs ≡ false → K.makes_runs ≡ false → IfOk result (λ spent.
-        (S.runs store.new).made + 1 ≡ (S.runs store.old).made + spent.runs) }
-    ensures others { LeavesOthers
-        (either (either (R.owns source.old) (K.owns sink.old)) (only keys.writer.mark.id.number))
-        (either (either (R.owns source.new) (K.owns sink.new)) (only keys.writer.mark.id.number))
-        (S.runs store.old) (S.runs store.new) }
-    ensures apart { Apart (only keys.writer.mark.id.number)
-        (either (R.owns source.new) (K.owns sink.new)) }
-    ensures grows { (run : ℕ) → IsTrue (either (R.owns source.old) (K.owns sink.old) run) →
-        IsTrue (either (R.owns source.new) (K.owns sink.new) run) }
-    ensures source { OnOk result (R.is_ready source.new (S.runs store.new)) }
-    ensures sink { OnOk result (K.is_ready sink.new (S.runs store.new)) }
-    ensures cause { IfErr result (λ e. HasCause e (S.runs store.old) (S.runs store.new)) }
+    ensures { CountedInRun by.now column budget.entries keys.writer.mark.id.number (R.gives source.old
+        (S.runs store.old)) (K.holds sink.old (S.runs store.old)) (K.holds sink.new (S.runs store.new))
+        (R.owns source.old) (R.owns source.new) (K.owns sink.old) (K.owns sink.new) (R.is_ready
+        source.new (S.runs store.new)) (K.is_ready sink.new (S.runs store.new)) R.makes_runs
+        K.makes_runs (S.runs store.old) (S.runs store.new) result }
 {
     let Ok(spec) = pairs_spec(alloc, by, column) else {
         return Err(Refusal::Memory);
