@@ -113,6 +113,23 @@ none-known b n (Some xs) = (xs, refl, [], refl, refl)
 pub nothing-between : (b : Bounds) (p : Place) → Between b p p []
 nothing-between b p = none-known b p.lines p.left
 
+-- a line without a payload is taken alone
+pub taken-plain : (b : Bounds) (number : ℕ) (text : Bytes) (old : Stream) (f : Option Fault) → takes_payload b text ≡ false → IsFaultOf b (Plain text) f → TookItem b number text old old f number
+taken-plain b number text old f takes fault = by-known old.left refl
+  where
+    by-known : (k : Known) → old.left ≡ k → IfSome k (λ bytes. (rest : Bytes) × (old.left ≡ Some rest) × IsTaken b number text bytes f number rest)
+    by-known None is = tt
+    by-known (Some xs) is = (
+      xs,
+      is,
+      record {
+        entry = Plain text;
+        line_is = refl;
+        items = ap (λ (t : Bool). cond t (numbered_by (takes_payload b) number (Some (record { number = number; line = text; payload = [] })) (raw_lines xs)) ((record { number = number; entry = Plain text }) ∷ numbered_left b number xs)) takes;
+        fault = fault;
+      },
+    )
+
 -- a load is taken with its payload
 pub taken-loading : (b : Bounds) (number m : ℕ) (text : Bytes) (old new : Stream) (f p : Option Fault) → takes_payload b text ≡ true → IsFaultOf b (Plain text) f → PassedPayload b number old new p m → TookItem b number text old new (either f p) m
 taken-loading b number m text old new f p takes fault passed = by-known old.left passed
