@@ -85,69 +85,105 @@ fn push_expected(
     let last = words
         .len()
         .saturating_sub(if diagnosis.whole { 0 } else { 1 });
-    message.push_str("expected ")?;
     // Each word would make the line longer than a line may be.
-    if words.is_empty() && !diagnosis.whole {
-        message.push_str("a shorter line")?;
-    }
+    message.push_str(if words.is_empty() && !diagnosis.whole {
+        "expected a shorter line"
+    } else {
+        "expected "
+    })?;
+    push_words(alloc, message, words, last, piece)?;
+    message.push_str(match (diagnosis.whole, last) {
+        (false, _) => "",
+        (true, 0) => "the end of the line",
+        (true, _) => " or the end of the line",
+    })
+}
+
+/// Appends words, with an `or` before the one of this index.
+fn push_words(
+    alloc: Global,
+    message: &mut String,
+    words: &[(&'static str, &'static str)],
+    last: usize,
+    piece: &[u8],
+) -> Result<(), AllocError> {
     for (index, (shown, _spelled)) in words.iter().enumerate() {
-        if index > 0 {
-            message.push_str(if index == last { " or " } else { ", " })?;
-        }
-        message.push_str(label(alloc, shown, piece)?)?;
-    }
-    if diagnosis.whole {
-        if last > 0 {
-            message.push_str(" or ")?;
-        }
-        message.push_str("the end of the line")?;
+        message.push_str(if index == 0 {
+            ""
+        } else if index == last {
+            " or "
+        } else {
+            ", "
+        })?;
+        message.push_str(label(alloc, shown, piece))?;
     }
     Ok(())
 }
 
 /// What a word is called where this was found: a name where one may stand has been named before, and
 /// a number is out of range.
-fn label(alloc: Global, shown: &'static str, piece: &[u8]) -> Result<&'static str, AllocError> {
+fn label(alloc: Global, shown: &'static str, piece: &[u8]) -> &'static str {
     if shown == NUMBER
         && piece.iter().any(|byte| byte.is_ascii_digit())
         && !piece.starts_with(b"'")
     {
-        return Ok("a number of 64 bits");
+        "a number of 64 bits"
+    } else if shown == NAME && is_name(alloc, piece) {
+        "another name"
+    } else {
+        shown
     }
-    if shown != NAME {
-        return Ok(shown);
-    }
+}
+
+/// Whether a piece is a name, as far as there is memory to tell.
+fn is_name(alloc: Global, piece: &[u8]) -> bool {
     let Ok(text) = str::from_utf8(piece) else {
-        return Ok(shown);
+        return false;
     };
     match lex(alloc, text) {
-        Ok(mut tokens) => match tokens.take() {
-            Some(Token::Name(_)) => Ok("another name"),
-            _ => Ok(shown),
-        },
-        Err(_) => Ok(shown),
+        Ok(mut tokens) => matches!(tokens.take(), Some(Token::Name(_))),
+        Err(_) => false,
     }
 }
 
 /// Appends what was found.
 fn push_found(message: &mut String, piece: &[u8]) -> Result<(), AllocError> {
+    let (quote, text) = found(piece);
     message.push_str(", found ")?;
-    let quotes = piece
-        .iter()
-        .filter(|byte| piece.first() == Some(byte))
-        .count();
-    match (str::from_utf8(piece), piece.first()) {
-        (Ok(""), _) => message.push_str("the end of the line"),
-        (Ok(_), Some(b'\'' | b'"')) if quotes % 2 == 1 => {
-            message.push_str("a quote that nothing closes")
-        }
-        (Ok(text), _) if text.len() > 64 => message.push_str("something long"),
-        (Ok(text), Some(b'\'' | b'"')) => message.push_str(text),
-        (Ok(text), _) => {
-            message.push_str("'")?;
-            message.push_str(text)?;
-            message.push_str("'")
-        }
-        (Err(_), _) => message.push_str("what is not UTF-8"),
+    message.push_str(quote)?;
+    message.push_str(text)?;
+    message.push_str(quote)
+}
+
+/// What a piece is called, and the quote around it.
+fn found(piece: &[u8]) -> (&'static str, &str) {
+    let Ok(text) = str::from_utf8(piece) else {
+        return ("", "what is not UTF-8");
+    };
+    let is_quoted = matches!(piece, [b'\'' | b'"', ..]);
+    if text.is_empty() {
+        ("", "the end of the line")
+    } else if is_quoted && is_open(piece) {
+        ("", "a quote that nothing closes")
+    } else if text.len() > 64 {
+        ("", "something long")
+    } else if is_quoted {
+        ("", text)
+    } else {
+        ("'", text)
     }
+}
+
+/// Whether the byte that a piece begins with stands in it an odd number of times.
+fn is_open(piece: &[u8]) -> bool {
+    let Some(quote) = piece.first() else {
+        return false;
+    };
+    let mut open = false;
+    for byte in piece {
+        if *byte == *quote {
+            open = !open;
+        }
+    }
+    open
 }
