@@ -1,5 +1,5 @@
 //! Where a line stops being the front of a command, and what could stand there, as the parser says.
-ghost use Rattle.std.specs.Prelude.{◌≡◌, ◌++◌, ℕ, List, true, take, IfOk};
+ghost use Rattle.std.specs.Prelude.{◌≡◌, ◌≤◌, ◌++◌, ℕ, List, true, length, take, IfOk};
 ghost use Rattle.std.specs.List.{All};
 ghost use Rattle.gq_command.specs.Commands.{Bytes};
 ghost use Rattle.gq_command.specs.Lines.{Says};
@@ -153,6 +153,23 @@ fn front_len(
     Ok(low)
 }
 
+/// Whether a word can stand behind a front.
+fn leads_on(
+    alloc: Global,
+    front: &[u8],
+    search: &Search,
+    spelled: &[u8],
+) -> Result<bool, AllocError> {
+    let mut longer = Vec::from_slice(alloc, front)?;
+    longer.extend_from_slice(spelled)?;
+    let ends = if front.is_empty() {
+        ends_of(spelled.get(1..).unwrap_or(b""))
+    } else {
+        search.ends
+    };
+    leads(alloc, longer.as_slice(), &Search { ends, ..*search })
+}
+
 /// Those of some words that can stand behind a front.
 fn words_behind(
     alloc: Global,
@@ -161,19 +178,9 @@ fn words_behind(
     among: &[(&'static str, &'static str)],
 ) -> Result<Vec<(&'static str, &'static str)>, AllocError> {
     let mut words = Vec::new(alloc);
-    for (shown, spelled) in among {
-        let mut longer = Vec::from_slice(alloc, front)?;
-        longer.extend_from_slice(spelled.as_bytes())?;
-        let word = Search {
-            ends: if front.is_empty() {
-                ends_of(spelled.as_bytes().get(1..).unwrap_or(b""))
-            } else {
-                search.ends
-            },
-            ..*search
-        };
-        if leads(alloc, longer.as_slice(), &word)? {
-            words.push((*shown, *spelled))?;
+    for word in among {
+        if leads_on(alloc, front, search, word.1.as_bytes())? {
+            words.push(*word)?;
         }
     }
     Ok(words)
@@ -195,31 +202,57 @@ pub struct Diagnosis {
 /// Looks where a line stops being the front of a command.
 pub fn diagnose(alloc: Global, line: &[u8], limits: &Limits) -> Result<Diagnosis, AllocError> {
     let pieces = pieces_of(alloc, line)?;
-    let first = match pieces
-        .first()
-        .and_then(|piece| line.get(piece.start..piece.end))
-    {
-        Some(word) => word,
-        None => line,
-    };
+    diagnose_pieces(alloc, line, pieces.as_slice(), limits)
+}
+
+/// The same of a line with these pieces.
+fn diagnose_pieces(
+    alloc: Global,
+    line: &[u8],
+    pieces: &[Piece],
+    limits: &Limits,
+) -> Result<Diagnosis, AllocError> {
     let search = Search {
-        ends: ends_of(first),
+        ends: ends_of(first_word(line, pieces)),
         limits,
     };
-    let count = front_len(alloc, line, pieces.as_slice(), &search)?;
-    let front = match count.checked_sub(1).and_then(|last| pieces.get(last)) {
-        Some(last) => last.end.min(line.len()),
-        None => 0,
-    };
-    let end = Piece {
-        start: line.len(),
-        end: line.len(),
-    };
+    let count = front_len(alloc, line, pieces, &search)?;
+    let front = front_end(line, pieces, count);
     let (text, _behind) = line.split_at(front);
+    let whole = says_command(alloc, text, limits)?;
     Ok(Diagnosis {
         front,
-        piece: pieces.get(count).copied().unwrap_or(end),
+        piece: piece_behind(line, pieces, count),
         words: words_behind(alloc, text, &search, &WORDS)?,
-        whole: says_command(alloc, text, limits)?,
+        whole,
     })
+}
+
+/// How many bytes so many pieces of a line take, from its start.
+fn front_end(line: &[u8], pieces: &[Piece], count: usize) -> usize
+    ensures { result ≤ length line.now }
+{
+    match count.checked_sub(1).and_then(|last| pieces.get(last)) {
+        Some(last) => last.end.min(line.len()),
+        None => 0,
+    }
+}
+
+/// The piece behind so many, or an empty one at the line's end.
+fn piece_behind(line: &[u8], pieces: &[Piece], count: usize) -> Piece {
+    match pieces.get(count) {
+        Some(piece) => *piece,
+        None => Piece {
+            start: line.len(),
+            end: line.len(),
+        },
+    }
+}
+
+/// The first piece of a line, or all of it where it has none.
+fn first_word<'a>(line: &'a [u8], pieces: &[Piece]) -> &'a [u8] {
+    pieces
+        .first()
+        .and_then(|piece| line.get(piece.start..piece.end))
+        .unwrap_or(line)
 }
