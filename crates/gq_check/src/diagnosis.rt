@@ -126,6 +126,22 @@ fn leads(alloc: Global, front: &[u8], search: &Search) -> Result<bool, AllocErro
     Ok(false)
 }
 
+/// Whether a line is the front of a command up to the end of this piece, where there is one.
+fn leads_up_to(
+    alloc: Global,
+    line: &[u8],
+    piece: Option<&Piece>,
+    search: &Search,
+) -> Result<bool, AllocError> {
+    let Some(piece) = piece else {
+        return Ok(false);
+    };
+    match line.get(..piece.end) {
+        Some(front) => leads(alloc, front, search),
+        None => Ok(false),
+    }
+}
+
 /// How many of the pieces are the longest front of a command.
 fn front_len(
     alloc: Global,
@@ -140,11 +156,7 @@ fn front_len(
             break;
         }
         let middle = low + (high - low) / 2;
-        let leads = match pieces.get(middle).and_then(|piece| line.get(..piece.end)) {
-            Some(front) => leads(alloc, front, search)?,
-            None => false,
-        };
-        if leads {
+        if leads_up_to(alloc, line, pieces.get(middle), search)? {
             low = middle + 1;
         } else {
             high = middle;
@@ -232,8 +244,11 @@ fn diagnose_pieces(
 fn front_end(line: &[u8], pieces: &[Piece], count: usize) -> usize
     ensures { result ≤ length line.now }
 {
-    match count.checked_sub(1).and_then(|last| pieces.get(last)) {
-        Some(last) => last.end.min(line.len()),
+    let Some(last) = count.checked_sub(1) else {
+        return 0;
+    };
+    match pieces.get(last) {
+        Some(piece) => piece.end.min(line.len()),
         None => 0,
     }
 }
@@ -251,8 +266,8 @@ fn piece_behind(line: &[u8], pieces: &[Piece], count: usize) -> Piece {
 
 /// The first piece of a line, or all of it where it has none.
 fn first_word<'a>(line: &'a [u8], pieces: &[Piece]) -> &'a [u8] {
-    pieces
-        .first()
-        .and_then(|piece| line.get(piece.start..piece.end))
-        .unwrap_or(line)
+    match pieces.first() {
+        Some(piece) => line.get(piece.start..piece.end).unwrap_or(line),
+        None => line,
+    }
 }

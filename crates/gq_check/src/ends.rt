@@ -116,11 +116,10 @@ const FORMS: [(&[&str], &[&str]); 5] = [
 /// The ends of the fronts of the form that begins with this word; none where no form does.
 pub fn ends_of(first: &[u8]) -> &'static [&'static str] {
     for (words, ends) in &FORMS {
-        if words
-            .iter()
-            .any(|word| first.eq_ignore_ascii_case(word.as_bytes()))
-        {
-            return ends;
+        for word in *words {
+            if first.eq_ignore_ascii_case(word.as_bytes()) {
+                return ends;
+            }
         }
     }
     &[]

@@ -11,30 +11,30 @@ pub struct Piece {
     pub end: usize,
 }
 
-fn is_word_byte(byte: u8) -> bool {
-    byte.is_ascii_alphanumeric() || byte == b'_'
+/// A kind of bytes that stand together in a line.
+#[derive(Clone, Copy)]
+enum Kind {
+    Word,
+    Blank,
+    /// Behind the first of a character of several bytes.
+    Tail,
 }
 
-fn word_len(bytes: &[u8]) -> usize
-    ensures { result ≤ length bytes.now }
-{
-    bytes.iter().take_while(|b| is_word_byte(**b)).count()
+impl Kind {
+    fn has(self, byte: u8) -> bool {
+        match self {
+            Kind::Word => byte.is_ascii_alphanumeric() || byte == b'_',
+            Kind::Blank => byte == b' ' || byte == b'\t',
+            Kind::Tail => byte & 0xC0 == 0x80,
+        }
+    }
 }
 
-fn blank_len(bytes: &[u8]) -> usize
+/// How many bytes of a kind stand at the front.
+fn run_len(bytes: &[u8], kind: Kind) -> usize
     ensures { result ≤ length bytes.now }
 {
-    bytes
-        .iter()
-        .take_while(|b| **b == b' ' || **b == b'\t')
-        .count()
-}
-
-/// The bytes behind the first of a character of several.
-fn tail_len(bytes: &[u8]) -> usize
-    ensures { result ≤ length bytes.now }
-{
-    bytes.iter().take_while(|b| **b & 0xC0 == 0x80).count()
+    bytes.iter().take_while(|b| kind.has(**b)).count()
 }
 
 /// The bytes up to the quote that closes, behind the one that opens: a doubled quote closes nothing.
@@ -60,9 +60,9 @@ fn piece_len(first: u8, behind: &[u8]) -> usize
     1 + match (first, behind.first()) {
         (b'\'' | b'"', _) => quoted_len(behind, first),
         (b'<', Some(b'>' | b'=')) | (b'>', Some(b'=')) => 1,
-        (b'+' | b'-', _) => word_len(behind),
-        (first, _) if is_word_byte(first) => word_len(behind),
-        _ => tail_len(behind),
+        (b'+' | b'-', _) => run_len(behind, Kind::Word),
+        (first, _) if Kind::Word.has(first) => run_len(behind, Kind::Word),
+        _ => run_len(behind, Kind::Tail),
     }
 }
 
@@ -71,7 +71,7 @@ pub fn pieces_of(alloc: Global, line: &[u8]) -> Result<Vec<Piece>, AllocError> {
     let mut pieces = Vec::new(alloc);
     let mut rest = line;
     for _ in 0..line.len() {
-        let blanks = blank_len(rest);
+        let blanks = run_len(rest, Kind::Blank);
         let (_blanks, word) = rest.split_at(blanks);
         let Some((first, behind)) = word.split_first() else {
             return Ok(pieces);
