@@ -7,7 +7,7 @@ use std::alloc::AllocError;
 use thiserror::Error;
 
 /// Why reading refuses an item of a script, whatever tables there are.
-#[derive(Clone, Copy, Debug, PartialEq, Eq)]
+#[derive(Clone, Copy, PartialEq, Eq)]
 pub enum Fault {
     /// The line says no command.
     Syntax,
