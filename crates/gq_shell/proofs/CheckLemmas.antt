@@ -13,7 +13,7 @@ use Rattle.gq_check.specs.declared.report.Report.{Report}
 use Rattle.gq_check.specs.Numbering.{Numbered, numbered_left}
 use Rattle.gq_check.specs.Reports.{Between, Place, Reports, report_text}
 use Rattle.gq_check.proofs.Steps.{end-from, on-from}
-use Rattle.gq_shell.specs.Checking.{ToldAll, ToldFront, texts}
+use Rattle.gq_shell.specs.Checking.{Begins, ToldAll, ToldFront, texts}
 use Rattle.gq_shell.specs.Streams.{Stream, GotFront}
 
 abbrev Known : Type 0
@@ -24,11 +24,6 @@ pub record Telling (name : Bytes) (start now : Place) (before after : Known) (an
   pub between : Between GREATEST start now reports
   pub written : Appends before after (texts name reports)
   pub any_is : any ≡ some reports
-
--- the place at which a check begins
-pub record Begins (script : Known) (start : Place) : Type 0 where
-  pub left : IfSome script (λ bytes. start.left ≡ Some (without_mark bytes))
-  pub lines : start.lines ≡ 0
 
 texts-append : (name : Bytes) (xs ys : List Report) → texts name (xs ++ ys) ≡ texts name xs ++ texts name ys
 texts-append name [] ys = refl

@@ -4,9 +4,10 @@ use Rattle.std.specs.declared.io.Error.{Error}
 use Rattle.gq_row.specs.Limits.{GREATEST}
 use Rattle.gq_token.specs.Texts.{some}
 use Rattle.gq_command.specs.Commands.{Bytes}
+use Rattle.gq_command.specs.Script.{without_mark}
 use Rattle.gq_check.specs.declared.report.Report.{Report}
 use Rattle.gq_check.specs.Numbering.{Numbered, numbered}
-use Rattle.gq_check.specs.Reports.{Reports, report_text}
+use Rattle.gq_check.specs.Reports.{Place, Reports, report_text}
 use Rattle.gq_options.specs.CommandLine.{Text}
 use Rattle.gq_shell.specs.Sources.{Sources, Stopped, StoppedBy, StoppedForMemory}
 use Rattle.gq_shell.specs.Streams.{Stream, Got, GotFront, IsUntouched}
@@ -36,6 +37,16 @@ pub record ToldFront (name script : Bytes) (replies : Stream) : Type 0 where
 abbrev pub ToldReports : Bytes → Option Bytes → Stream → Result Bool CheckStop → Type 0
 ToldReports name script replies (Ok any) = IfSome script (λ bytes. ToldAll name bytes replies any)
 ToldReports name script replies (Err why) = IfSome script (λ bytes. ToldFront name bytes replies)
+
+-- a report was written, or a front of it
+abbrev pub ToldReport : Bytes → Report → Stream → Result (Unit {0}) CheckStop → Type 0
+ToldReport name r replies (Ok done) = Got replies (report_text name r)
+ToldReport name r replies (Err why) = GotFront replies (report_text name r)
+
+-- the place at which the check of a script begins
+pub record Begins (script : Option Bytes) (start : Place) : Type 0 where
+  pub left : IfSome script (λ bytes. start.left ≡ Some (without_mark bytes))
+  pub lines : start.lines ≡ 0
 
 -- the exit status of a check, and what the standard error got
 abbrev pub EndedCheck : Result Bool CheckStop → Stream → ℕ → Type 0

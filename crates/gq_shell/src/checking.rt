@@ -1,13 +1,14 @@
 //! A script that is checked, and not run.
-ghost use Rattle.std.specs.Prelude.{◌≡◌};
+ghost use Rattle.std.specs.Prelude.{◌≡◌, Option};
 ghost use Rattle.std.specs.Fn.{FnOnceReturnsAt};
 ghost use Rattle.gq_options.specs.Words.{asked_by};
-ghost use Rattle.gq_shell.specs.Checking.{CheckedNamed, CheckedScript, ToldReports};
+ghost use Rattle.gq_command.specs.Commands.{Bytes};
+ghost use Rattle.gq_shell.specs.Checking.{Begins, CheckedNamed, CheckedScript, ToldReport, ToldReports};
 ghost use Rattle.gq_shell.specs.Streams.{stream};
 
 use crate::stopping::{answer_error, stop, stop_for_memory};
-use crate::telling::tell;
-use gq_check::{CheckFault, Checker};
+use crate::telling::{CutShort, tell};
+use gq_check::{CheckFault, Checker, Report};
 use gq_options::Options;
 use gq_row::Limits;
 use std::alloc::Global;
@@ -93,23 +94,55 @@ fn tell_reports<R: Read + Drop, W: Write>(
 ) -> Result<bool, CheckStop>
     ensures { ToldReports name.now (R.remaining script) (stream W.contents replies.old replies.new) result }
 {
-    let limits = Limits::greatest();
     let mut checker = Checker::new(script);
+    tell_all(alloc, name, &mut checker, replies)
+}
+
+// Writes the reports that a checker still finds.
+fn tell_all<R: Read, W: Write>(
+    alloc: Global,
+    name: &str,
+    checker: &mut Checker<R>,
+    replies: &mut W,
+) -> Result<bool, CheckStop>
+    ensures { (script : Option Bytes) → Begins script checker.old → ToldReports name.now script (stream W.contents replies.old replies.new) result }
+{
+    let limits = Limits::greatest();
     let mut any = false;
     for _ in 0..u64::MAX {
         let report = match checker.next(alloc, &limits) {
             Ok(Some(report)) => report,
             Ok(None) => return Ok(any),
-            Err(CheckFault::Read) => return Err(CheckStop::Read),
-            Err(CheckFault::Memory) => return Err(CheckStop::Memory),
+            Err(fault) => return Err(stop_of(fault)),
         };
-        let Ok(text) = report.text(alloc, name) else {
-            return Err(CheckStop::Memory);
-        };
-        let Ok(()) = tell(text.as_str(), replies) else {
-            return Err(CheckStop::Write);
-        };
+        tell_report(alloc, name, &report, replies)?;
         any = true;
     }
     Err(CheckStop::Read)
+}
+
+// Writes a report.
+fn tell_report<W: Write>(
+    alloc: Global,
+    name: &str,
+    report: &Report,
+    replies: &mut W,
+) -> Result<(), CheckStop>
+    ensures { ToldReport name.now report.now (stream W.contents replies.old replies.new) result }
+{
+    let Ok(text) = report.text(alloc, name) else {
+        return Err(CheckStop::Memory);
+    };
+    match tell(text.as_str(), replies) {
+        Ok(()) => Ok(()),
+        Err(CutShort) => Err(CheckStop::Write),
+    }
+}
+
+// Why a fault stops a check.
+fn stop_of(fault: CheckFault) -> CheckStop {
+    match fault {
+        CheckFault::Read => CheckStop::Read,
+        CheckFault::Memory => CheckStop::Memory,
+    }
 }
