@@ -15,16 +15,13 @@ use std::alloc::Global;
 use std::io::{self, Read, Write};
 
 /// Why a check stopped before the script's end.
-#[derive(Clone, Copy, Debug, PartialEq, Eq, thiserror::Error)]
+#[derive(Clone, Copy)]
 pub enum CheckStop {
     /// A read failed, or the script has more bytes than the limit.
-    #[error("read fault")]
     Read,
     /// A report was not taken whole.
-    #[error("write fault")]
     Write,
     /// A request for memory was refused.
-    #[error("out of memory")]
     Memory,
 }
 
