@@ -40,4 +40,16 @@ impl<K: Keyed, H: KeyHash<K>> Index<K, H> {
         }
         key
     }
+
+    /// Leaves the first keys, so many, and takes the others out. It takes no memory.
+    pub fn truncate(&mut self, keys: usize)
+    where
+        K: Drop,
+        ensures keys { self.new.keys ≡ take keys self.old.keys }
+        ensures hasher { self.new.hasher ≡ self.old.hasher }
+    {
+        while keys < self.len() {
+            let _ = self.pop();
+        }
+    }
 }

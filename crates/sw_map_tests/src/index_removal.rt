@@ -50,6 +50,12 @@ impl<H: KeyHash<u64>> Pair<H> {
         }
     }
 
+    // Leaves the first keys, so many.
+    fn truncate(&mut self, keys: usize) {
+        self.index.truncate(keys);
+        self.list.truncate(keys);
+    }
+
     fn number_of(&self, key: u64) -> Option<usize> {
         match self.index.find(&key) {
             Found::At(number) => Some(number),
@@ -107,5 +113,20 @@ fn a_key_here_and_there(rt: HostRuntime) -> Result<(), Fail> {
         pair.compare(&rt);
     }
     expect(&rt, pair.index.pop(), None);
+    Ok(())
+}
+
+// The first keys stay, and each of the others is absent.
+#[test]
+fn the_first_keys_stay(rt: HostRuntime) -> Result<(), Fail> {
+    let mut pair = Pair::new(rt.alloc(), LowBits(3));
+    pair.add(40)?;
+    for keys in [50, 40, 17, 1, 0] {
+        pair.truncate(keys);
+        pair.compare(&rt);
+        expect_at(&rt, keys as u64, pair.number_of(keys as u64), None);
+    }
+    pair.add(40)?;
+    pair.compare(&rt);
     Ok(())
 }
