@@ -68,7 +68,7 @@ impl<'a> KeyRef<'a> {
 impl Names<Key> for KeyRef<'_> {
     ghost named = { class_of };
 
-    #[inline]
+    #[inline(always)]
     fn same(&self, key: &Key) -> bool {
         has_key(self.row, self.positions, key.cells())
     }
@@ -98,7 +98,7 @@ impl Names<Key> for KeyCells<'_> {
 }
 
 // Whether the folds of a row's values in the columns at these positions are those of a key.
-#[inline]
+#[inline(always)]
 fn has_key(row: &[Value], positions: &[usize], key: &[Value]) -> bool
     requires { All (λ position. position < length row.now) positions.now }
     ensures { result ≡ same_key (key_of positions.now row.now) key.now }
