@@ -56,7 +56,7 @@ impl<'a, H: KeyHash<Key>> Kept<'a, H> {
 
     // Whether the row where a walk stands is kept. It is read only where that rests on its values.
     #[inline]
-    fn keeps_here(&self, rows: &mut RowCursor<'_, H>) -> Result<bool, AllocError>
+    fn keeps_here(&self, rows: &mut RowCursor<'_>) -> Result<bool, AllocError>
         requires { All (λ column. column < length rows.old.row)
             (ours_of (option_copied self.now.matching)) }
         ensures kept { IfOk result (λ kept. kept ≡ is_kept self.now rows.old.row) }
@@ -73,7 +73,7 @@ impl<'a, H: KeyHash<Key>> Kept<'a, H> {
     /// Goes on to the next of some rows that is kept, and tells whether there is one. Those before it are
     /// passed over. Refused for want of memory as the walk is.
     #[inline]
-    pub fn advance(&self, rows: &mut RowCursor<'_, H>) -> Result<bool, AllocError>
+    pub fn advance(&self, rows: &mut RowCursor<'_>) -> Result<bool, AllocError>
         requires { AreLong (ours_of (option_copied self.now.matching)) rows.old.rest }
         ensures kept { IfOk result (λ found. found ≡ true → filter (is_kept self.now) rows.old.rest ≡
             rows.new.row ∷ filter (is_kept self.now) rows.new.rest) }

@@ -11,7 +11,7 @@ use sw_probe::KeyHash;
 /// columns as they stand, one behind the other, and nothing else is copied.
 #[derive(Drop)]
 pub struct TableRows<'a, H: KeyHash<Key>> {
-    pub rows: RowCursor<'a, H>,
+    pub rows: RowCursor<'a>,
     pub kept: &'a Kept<'a, H>,
     pub columns: &'a [usize],
 }

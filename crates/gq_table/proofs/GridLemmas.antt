@@ -1,5 +1,5 @@
 -- Rows by columns.
-use Rattle.std.proofs.Common.{◌≡◌, ◌<◌, ◌≤◌, ◌+◌, ℕ, zero, suc, List, [], ◌∷◌, ◌++◌, length, map, take, drop, slice_index_or, slice_set, replicate, All, refl, sym, ap, subst, ◌∙◌, arith, length-append, length-take}
+use Rattle.std.proofs.Common.{◌≡◌, ◌<◌, ◌≤◌, ◌+◌, ℕ, zero, suc, List, [], ◌∷◌, ◌++◌, length, map, take, drop, slice_index_or, slice_set, replicate, All, refl, sym, ap, subst, ◌∙◌, arith, add-one, length-append, length-take, take-suc-set}
 use Rattle.std.proofs.lemmas.List.{append-nil, get_or_default, drop_all, drop-drop, drop-set-lt, get_or-drop, get_or-map, get_or-replicate, length-map, length-replicate, replicate-append-replicate, take_all, take-append-le}
 use Rattle.std.proofs.lemmas.List.Elements.{All-nil, All-cons, All-head, All-tail}
 use Rattle.gq_row.specs.Rows.{cells_in}
@@ -150,6 +150,20 @@ behind_all columns more i h =
     (λ z. take_all i columns h z ++ columns_behind (drop_all i columns h z) more) ∙ append-nil columns
 
 -- what is left of a list stays so past a place that is written
+-- one element more of a list
+pub first_more : {X : Type 0} (xs : List X) (i : ℕ) (d : X) → i < length xs → take (suc i) xs ≡ take i xs ++ slice_index_or xs i d ∷ []
+first_more [] i d within = absurd (omega arith)
+first_more (x ∷ xs) zero d within = refl
+first_more (x ∷ xs) (suc i) d within = ap (λ l. x ∷ l) (first_more xs i d (omega arith))
+
+pub one_more : {X : Type 0} (xs : List X) (i : ℕ) (d : X) → i < length xs → take (i + 1) xs ≡ take i xs ++ slice_index_or xs i d ∷ []
+one_more xs i d within = ap (λ n. take n xs) (add-one i) ∙ first_more xs i d within
+
+-- a list that is written over with another, up to a place, and one place further
+pub written_next : {X : Type 0} (xs ys : List X) (i : ℕ) (x d : X) → i < length xs → i < length ys → take i xs ≡ take i ys → x ≡ slice_index_or ys i d → take (i + 1) (slice_set xs i x) ≡ take (i + 1) ys
+written_next xs ys i x d in_xs in_ys same is =
+    ap (λ n. take n (slice_set xs i x)) (add-one i) ∙ take-suc-set xs i x in_xs ∙ (λ z. same z ++ is z ∷ []) ∙ sym (one_more ys i d in_ys)
+
 pub left_next : {X : Type 0} (xs ys : List X) (i : ℕ) (x : X) → drop i xs ≡ drop i ys → drop (i + 1) (slice_set xs i x) ≡ drop (i + 1) ys
 left_next xs ys i x h =
     drop-set-lt (i + 1) xs i x (omega arith) ∙ sym (drop-drop 1 i xs) ∙ ap (drop 1) h ∙ drop-drop 1 i ys

@@ -1,6 +1,6 @@
 pub mod GridLemmas
-pub mod LoadLemmas
-pub mod MapRows
+pub mod KeyedLemmas
+pub mod PlaceLemmas
 pub mod SheetLemmas
 pub mod StagedLemmas
 pub mod StandingLemmas

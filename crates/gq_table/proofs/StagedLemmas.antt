@@ -13,8 +13,7 @@ use Rattle.gq_row.proofs.DistinctLemmas.{one}
 use Rattle.gq_row.proofs.MovedLemmas.{IsPermutation-from_counts, put-permutation}
 use Rattle.gq_row.proofs.OrderLemmas.{same_key_exact, same_key_equiv, same_key_itself}
 use Rattle.gq_row.proofs.TableLemmas.{keys_differ-put}
-use Rattle.gq_table.proofs.LoadLemmas.{has_row-put}
-use Rattle.gq_table.proofs.MapRows.{count_deleted}
+use Rattle.gq_table.proofs.KeyedLemmas.{count_deleted, has_row-put}
 use Rattle.gq_table.proofs.StoredLemmas.{put_all_none}
 
 abbrev Row : Type 0

@@ -1,43 +1,40 @@
--- What a call leaves of a table whose rows stand in a map or in a list, and why it refuses.
-use Rattle.std.proofs.Common.{◌≡◌, ℕ, ◌+◌, ◌<◌, ◌≤◌, ◌⊎◌, inl, inr, Bool, true, false, cond, not, IsTrue, List, [], ◌∷◌, ◌++◌, length, Option, Some, None, Result, Ok, Err, refl, sym, ap, subst, ◌∙◌, arith, IsPermutation, length-append, append-nil, append_assoc}
+-- What a call leaves of a table whose rows stand under keys or in a list, and why it refuses.
+use Rattle.std.proofs.Common.{◌≡◌, map, fold, ℕ, ◌+◌, ◌<◌, ◌≤◌, ◌⊎◌, inl, inr, Bool, true, false, cond, not, IsTrue, List, [], ◌∷◌, ◌++◌, length, Option, Some, None, Result, Ok, Err, refl, sym, ap, subst, ◌∙◌, arith, IsPermutation, length-append, append-nil, append_assoc}
 use Rattle.std.specs.Prelude.{nat_lt, OnOk, OnErr, IfErr}
 use Rattle.std.specs.List.{list_all}
-use Rattle.std.specs.FinMap.{empty, get-empty}
 use Rattle.std.proofs.lemmas.Bool.Decides.{nat_tests}
-use Rattle.std.proofs.lemmas.List.Sorted.{IsPermutation-refl, IsPermutation-sym, IsPermutation-trans}
-use Rattle.sw_table.specs.View.{View}
-use Rattle.sw_flat.proofs.Classes.{none_some}
+use Rattle.std.proofs.lemmas.List.Sorted.{IsPermutation-refl}
 use Rattle.gq_row.specs.declared.value.Value.{Value}
 use Rattle.gq_row.specs.declared.limits.Bounds.{Bounds}
 use Rattle.gq_row.specs.Fitting.{fits_columns, has_null}
 use Rattle.gq_row.specs.Headings.{Heading, is_heading}
 use Rattle.gq_row.specs.Limits.{within_greatest}
 use Rattle.gq_row.specs.Rows.{key_of}
-use Rattle.gq_row.specs.Tables.{PlainTable, put, put_all, delete, has_row, keys_differ}
-use Rattle.gq_row.proofs.MovedLemmas.{put-permutation}
+use Rattle.gq_row.specs.Tables.{PlainTable, put, put_by_key, put_all, delete, has_row, keys_differ}
 use Rattle.gq_table.specs.declared.refusal.TableRefusal.{TableRefusal}
 use Rattle.gq_table.specs.declared.refusal.TableRefusal.TheVariants.{TypeMismatch, NullKey, Limit, Memory}
 use Rattle.gq_table.specs.declared.rows.Storage.{Storage}
 use Rattle.gq_table.specs.declared.rows.Storage.TheVariants.{Keyed, Listed}
 use Rattle.gq_table.specs.Changes.{IsPut, IsLoaded}
-use Rattle.gq_table.specs.Keyed.{OwnKeys, by_key, rows_in}
+use Rattle.gq_table.specs.declared.keyed.KeyedRows.{KeyedRows}
+use Rattle.gq_table.specs.Keyed.{OwnKeys, AreApart}
 use Rattle.gq_table.specs.Refusing.{limit_refusal, row_refusal, load_refusal, rows_with, replaces, WhyNotPut, WhyNotKeyed, WhyNotLoaded}
 use Rattle.gq_table.specs.Standing.{IsStanding}
 use Rattle.gq_table.specs.Stored.{ArePlaced, IsStored, rows_of}
-use Rattle.gq_table.proofs.StandingLemmas.{table, length-put, rows_limit, standing_moved, standing_put, standing_loaded, standing_deleted}
+use Rattle.gq_table.proofs.StandingLemmas.{table, length-put, rows_limit, standing_put, standing_loaded, standing_deleted}
 
--- ---- a map where the key has columns, a list where it has none
+-- ---- rows under keys where the key has columns, a list where it has none
 
 module _ {H : Type 0} where
-  pub keyed_some : (key : List ℕ) (m : View (List Value) (List Value) H) → ArePlaced key (Keyed m) → 0 < length key
+  pub keyed_some : (key : List ℕ) (m : KeyedRows H) → ArePlaced key (Keyed m) → 0 < length key
   keyed_some [] m h = absurd h
   keyed_some (column ∷ columns) m h = omega arith
 
-  pub keyed_own : (key : List ℕ) (m : View (List Value) (List Value) H) → ArePlaced key (Keyed m) → OwnKeys key (by_key m)
+  pub keyed_own : (key : List ℕ) (m : KeyedRows H) → ArePlaced key (Keyed m) → OwnKeys key m
   keyed_own [] m h = absurd h
   keyed_own (column ∷ columns) m h = h
 
-  placed_again : (key : List ℕ) (m : View (List Value) (List Value) H) → 0 < length key → OwnKeys key (by_key m) → ArePlaced key (Keyed m)
+  placed_again : (key : List ℕ) (m : KeyedRows H) → 0 < length key → OwnKeys key m → ArePlaced key (Keyed m)
   placed_again [] m some own = absurd (omega arith)
   placed_again (column ∷ columns) m some own = own
 
@@ -83,18 +80,28 @@ replaces_none : (key : List ℕ) (rows : List (List Value)) (row : List Value) �
 replaces_none [] rows row h = refl
 replaces_none (column ∷ columns) rows row h = h
 
-put_keyed_rows : (key : List ℕ) (rows out : List (List Value)) (new : List Value) → 0 < length key → IsTrue (keys_differ key rows) → IsPermutation (new ∷ delete key rows (key_of key new)) out → IsPermutation (put key rows new) out
-put_keyed_rows [] rows out new some differ moved = absurd (omega arith)
-put_keyed_rows (column ∷ columns) rows out new some differ moved = IsPermutation-trans _ _ _ (IsPermutation-sym _ _ (put-permutation column columns rows new differ)) moved
+put_keyed_rows : (key : List ℕ) (rows out : List (List Value)) (new : List Value) → 0 < length key → out ≡ put_by_key key rows new → IsPermutation (put key rows new) out
+put_keyed_rows [] rows out new some is = absurd (omega arith)
+put_keyed_rows (column ∷ columns) rows out new some is = subst (IsPermutation (put_by_key (column ∷ columns) rows new)) (sym is) (IsPermutation-refl (put_by_key (column ∷ columns) rows new))
 
--- ---- what the calls on a map and on a list say
+put_all_keyed : (key : List ℕ) (rows new : List (List Value)) → 0 < length key → put_all key rows new ≡ fold (put_by_key key) rows new
+put_all_keyed [] rows new some = absurd (omega arith)
+put_all_keyed (column ∷ columns) rows [] some = refl
+put_all_keyed (column ∷ columns) rows (row ∷ new) some = put_all_keyed (column ∷ columns) (put_by_key (column ∷ columns) rows row) new some
 
-pub record PutKeyed {H : Type 0} (most : ℕ) (row : List Value) (m n : View (List Value) (List Value) H) (result : Result (Unit {0}) TableRefusal) (key : List ℕ) : Type 0 where
-  pub own : OwnKeys key (by_key n)
-  pub ok : OnOk result (IsPermutation (row ∷ delete key (rows_in m) (key_of key row)) (rows_in n))
-  pub few : OnOk result (rows_with key (rows_in m) row ≤ most)
+-- where there are key columns, that keys differ says of them all
+pub apart_of : (key : List ℕ) (rows : List (List Value)) → 0 < length key → IsTrue (keys_differ key rows) → IsTrue (AreApart key rows)
+apart_of [] rows some differ = absurd (omega arith)
+apart_of (column ∷ columns) rows some differ = differ
+
+-- ---- what the calls on rows under keys and on a list say
+
+pub record PutKeyed {H : Type 0} (most : ℕ) (row : List Value) (m n : KeyedRows H) (result : Result (Unit {0}) TableRefusal) (key : List ℕ) : Type 0 where
+  pub own : OwnKeys key n
+  pub ok : OnOk result (n.rows ≡ put_by_key key m.rows row)
+  pub few : OnOk result (rows_with key m.rows row ≤ most)
   pub err : OnErr result (n ≡ m)
-  pub why : IfErr result (WhyNotKeyed most key (rows_in m) row)
+  pub why : IfErr result (WhyNotKeyed most key m.rows row)
 
 pub record PutListed (most : ℕ) (row : List Value) (old new : List (List Value)) (result : Result (Unit {0}) TableRefusal) : Type 0 where
   pub ok : OnOk result (new ≡ old ++ row ∷ [])
@@ -102,12 +109,12 @@ pub record PutListed (most : ℕ) (row : List Value) (old new : List (List Value
   pub err : OnErr result (new ≡ old)
   pub why : IfErr result (λ w. ((w ≡ Limit) × (most ≤ length old)) ⊎ ((w ≡ Memory) × (length old < most)))
 
-pub record LoadKeyed {H : Type 0} (most : ℕ) (loaded : List (List Value)) (m n : View (List Value) (List Value) H) (result : Result (Unit {0}) TableRefusal) (key : List ℕ) : Type 0 where
-  pub own : OwnKeys key (by_key n)
-  pub ok : OnOk result (IsPermutation (put_all key (rows_in m) loaded) (rows_in n))
-  pub few : OnOk result (length (put_all key (rows_in m) loaded) ≤ most)
+pub record LoadKeyed {H : Type 0} (most : ℕ) (loaded : List (List Value)) (m n : KeyedRows H) (result : Result (Unit {0}) TableRefusal) (key : List ℕ) : Type 0 where
+  pub own : OwnKeys key n
+  pub ok : OnOk result (n.rows ≡ fold (put_by_key key) m.rows loaded)
+  pub few : OnOk result (length (fold (put_by_key key) m.rows loaded) ≤ most)
   pub err : OnErr result (n ≡ m)
-  pub why : IfErr result (λ w. ((w ≡ Limit) × (most < length (put_all key (rows_in m) loaded))) ⊎ (w ≡ Memory))
+  pub why : IfErr result (λ w. ((w ≡ Limit) × (most < length (fold (put_by_key key) m.rows loaded))) ⊎ (w ≡ Memory))
 
 pub record LoadListed (most : ℕ) (loaded old new : List (List Value)) (result : Result (Unit {0}) TableRefusal) : Type 0 where
   pub ok : OnOk result (new ≡ old ++ loaded)
@@ -138,20 +145,20 @@ replaces_listed [] rows row e = refl
 replaces_listed (column ∷ columns) rows row e = let none : ⊥ = cc in absurd none
 
 module _ {H : Type 0} (bounds : Bounds) (limits : IsTrue (within_greatest bounds)) (h : Heading) (row : List Value) (fits : fits_columns h.columns row ≡ true) (no_null : has_null h.key row ≡ false) where
-  upserted_in : (m n : View (List Value) (List Value) H) (result : Result (Unit {0}) TableRefusal) → IsStored h (Keyed m) → PutKeyed bounds.rows row m n result h.key → Upserted bounds (table h (rows_in m)) row result (Keyed n)
+  upserted_in : (m n : KeyedRows H) (result : Result (Unit {0}) TableRefusal) → IsStored h (Keyed m) → PutKeyed bounds.rows row m n result h.key → Upserted bounds (table h m.rows) row result (Keyed n)
   upserted_in m n (Ok u) stored p =
       let some = keyed_some h.key m stored.placed in
-      let long = length-put h.key (rows_in m) row some in
-      let few : length (put h.key (rows_in m) row) ≤ bounds.rows = subst (λ l. l ≤ bounds.rows) (sym long) p.few in
+      let long = length-put h.key m.rows row some in
+      let few : length (put h.key m.rows row) ≤ bounds.rows = subst (λ l. l ≤ bounds.rows) (sym long) p.few in
       let most = rows_limit bounds limits in
-      let out = put_keyed_rows h.key (rows_in m) (rows_in n) row some stored.standing.keyed p.ok in
+      let out = put_keyed_rows h.key m.rows n.rows row some p.ok in
       record {
         stored = record {
-          standing = standing_put h (rows_in m) (rows_in n) row stored.standing fits (omega arith) out;
+          standing = standing_put h m.rows n.rows row stored.standing fits (omega arith) out;
           placed = placed_again h.key n some p.own;
         };
         ok = record { heading = refl; rows = out };
-        taken = refusal bounds h row fits no_null (rows_in m) ∙ within bounds.rows (put h.key (rows_in m) row) few;
+        taken = refusal bounds h row fits no_null m.rows ∙ within bounds.rows (put h.key m.rows row) few;
         refused = tt;
         unchanged = tt;
       }
@@ -160,17 +167,17 @@ module _ {H : Type 0} (bounds : Bounds) (limits : IsTrue (within_greatest bounds
     ok = tt;
     taken = tt;
     refused = reason p.why;
-    unchanged = ap (λ v. table h (rows_in v)) p.err;
+    unchanged = ap (λ v. table h (v.rows)) p.err;
   }
     where
-      long : length (put h.key (rows_in m) row) ≡ rows_with h.key (rows_in m) row
-      long = length-put h.key (rows_in m) row (keyed_some h.key m stored.placed)
+      long : length (put h.key m.rows row) ≡ rows_with h.key m.rows row
+      long = length-put h.key m.rows row (keyed_some h.key m stored.placed)
 
-      reason : WhyNotKeyed bounds.rows h.key (rows_in m) row why → WhyNotPut bounds (table h (rows_in m)) row why
-      reason (inl w) = inl (refusal bounds h row fits no_null (rows_in m) ∙ over bounds.rows (put h.key (rows_in m) row) (subst (λ l. bounds.rows < l) (sym long) w.1) ∙ ap Some (sym w.0))
-      reason (inr w) = inr (w.0, refusal bounds h row fits no_null (rows_in m) ∙ within bounds.rows (put h.key (rows_in m) row) (subst (λ l. l ≤ bounds.rows) (sym long) w.1), replaces_none h.key (rows_in m) row w.2)
+      reason : WhyNotKeyed bounds.rows h.key m.rows row why → WhyNotPut bounds (table h m.rows) row why
+      reason (inl w) = inl (refusal bounds h row fits no_null m.rows ∙ over bounds.rows (put h.key m.rows row) (subst (λ l. bounds.rows < l) (sym long) w.1) ∙ ap Some (sym w.0))
+      reason (inr w) = inr (w.0, refusal bounds h row fits no_null m.rows ∙ within bounds.rows (put h.key m.rows row) (subst (λ l. l ≤ bounds.rows) (sym long) w.1), replaces_none h.key m.rows row w.2)
 
-  pub upserted_keyed : (m n : View (List Value) (List Value) H) (result : Result (Unit {0}) TableRefusal) (key : List ℕ) → key ≡ h.key → IsStored h (Keyed m) → PutKeyed bounds.rows row m n result key → Upserted bounds (table h (rows_in m)) row result (Keyed n)
+  pub upserted_keyed : (m n : KeyedRows H) (result : Result (Unit {0}) TableRefusal) (key : List ℕ) → key ≡ h.key → IsStored h (Keyed m) → PutKeyed bounds.rows row m n result key → Upserted bounds (table h m.rows) row result (Keyed n)
   upserted_keyed m n result key e stored p = upserted_in m n result stored (subst (PutKeyed bounds.rows row m n result) e p)
 
   pub upserted_listed : (r n : Storage H) (result : Result (Unit {0}) TableRefusal) → IsListed r → IsListed n → IsStored h r → PutListed bounds.rows row (rows_of r) (rows_of n) result → Upserted bounds (table h (rows_of r)) row result n
@@ -230,16 +237,20 @@ pub record LoadedTable {H : Type 0} (bounds : Bounds) (old : PlainTable) (loaded
   pub unchanged : OnErr result (table old.heading (rows_of new) ≡ old)
 
 module _ {H : Type 0} (bounds : Bounds) (limits : IsTrue (within_greatest bounds)) (h : Heading) (rows : List (List Value)) (fits : list_all (fits_columns h.columns) rows ≡ true) where
-  loaded_in : (m n : View (List Value) (List Value) H) (result : Result (Unit {0}) TableRefusal) → IsStored h (Keyed m) → LoadKeyed bounds.rows rows m n result h.key → LoadedTable bounds (table h (rows_in m)) rows result (Keyed n)
+  loaded_in : (m n : KeyedRows H) (result : Result (Unit {0}) TableRefusal) → IsStored h (Keyed m) → LoadKeyed bounds.rows rows m n result h.key → LoadedTable bounds (table h m.rows) rows result (Keyed n)
   loaded_in m n (Ok u) stored p =
       let most = rows_limit bounds limits in
+      let some = keyed_some h.key m stored.placed in
+      let all = put_all_keyed h.key m.rows rows some in
+      let few : length (put_all h.key m.rows rows) ≤ bounds.rows = subst (λ l. length l ≤ bounds.rows) (sym all) p.few in
+      let out : IsPermutation (put_all h.key m.rows rows) n.rows = subst (IsPermutation (put_all h.key m.rows rows)) (all ∙ sym p.ok) (IsPermutation-refl (put_all h.key m.rows rows)) in
       record {
         stored = record {
-          standing = standing_loaded h (rows_in m) rows (rows_in n) stored.standing fits (let few = p.few in omega arith) p.ok;
-          placed = placed_again h.key n (keyed_some h.key m stored.placed) p.own;
+          standing = standing_loaded h m.rows rows n.rows stored.standing fits (omega arith) out;
+          placed = placed_again h.key n some p.own;
         };
-        ok = record { heading = refl; rows = p.ok };
-        taken = within bounds.rows (put_all h.key (rows_in m) rows) p.few;
+        ok = record { heading = refl; rows = out };
+        taken = within bounds.rows (put_all h.key m.rows rows) few;
         refused = tt;
         unchanged = tt;
       }
@@ -248,14 +259,17 @@ module _ {H : Type 0} (bounds : Bounds) (limits : IsTrue (within_greatest bounds
     ok = tt;
     taken = tt;
     refused = reason p.why;
-    unchanged = ap (λ v. table h (rows_in v)) p.err;
+    unchanged = ap (λ v. table h v.rows) p.err;
   }
     where
-      reason : ((why ≡ Limit) × (bounds.rows < length (put_all h.key (rows_in m) rows))) ⊎ (why ≡ Memory) → WhyNotLoaded bounds (table h (rows_in m)) rows why
-      reason (inl w) = inl (over bounds.rows (put_all h.key (rows_in m) rows) w.1 ∙ ap Some (sym w.0))
+      all : put_all h.key m.rows rows ≡ fold (put_by_key h.key) m.rows rows
+      all = put_all_keyed h.key m.rows rows (keyed_some h.key m stored.placed)
+
+      reason : ((why ≡ Limit) × (bounds.rows < length (fold (put_by_key h.key) m.rows rows))) ⊎ (why ≡ Memory) → WhyNotLoaded bounds (table h m.rows) rows why
+      reason (inl w) = inl (over bounds.rows (put_all h.key m.rows rows) (subst (λ l. bounds.rows < length l) (sym all) w.1) ∙ ap Some (sym w.0))
       reason (inr w) = inr w
 
-  pub loaded_keyed : (m n : View (List Value) (List Value) H) (result : Result (Unit {0}) TableRefusal) (key : List ℕ) → key ≡ h.key → IsStored h (Keyed m) → LoadKeyed bounds.rows rows m n result key → LoadedTable bounds (table h (rows_in m)) rows result (Keyed n)
+  pub loaded_keyed : (m n : KeyedRows H) (result : Result (Unit {0}) TableRefusal) (key : List ℕ) → key ≡ h.key → IsStored h (Keyed m) → LoadKeyed bounds.rows rows m n result key → LoadedTable bounds (table h m.rows) rows result (Keyed n)
   loaded_keyed m n result key e stored p = loaded_in m n result stored (subst (LoadKeyed bounds.rows rows m n result) e p)
 
   pub loaded_listed : (r n : Storage H) (result : Result (Unit {0}) TableRefusal) → IsListed r → IsListed n → IsStored h r → LoadListed bounds.rows rows (rows_of r) (rows_of n) result → LoadedTable bounds (table h (rows_of r)) rows result n
@@ -294,26 +308,18 @@ module _ {H : Type 0} (bounds : Bounds) (limits : IsTrue (within_greatest bounds
       reason (inl w) = inl (over bounds.rows (put_all h.key (rows_of r) rows) (let far = w.1 in omega (arith, long)) ∙ ap Some (sym w.0))
       reason (inr w) = inr w
 
--- ---- a reserve
-
-pub moved_keyed : {H : Type 0} (h : Heading) (m n : View (List Value) (List Value) H) (key : List ℕ) → key ≡ h.key → IsStored h (Keyed m) → OwnKeys key (by_key n) → IsPermutation (rows_in m) (rows_in n) → IsStored h (Keyed n)
-moved_keyed h m n key e stored own moved = record {
-  standing = standing_moved h (rows_in m) (rows_in n) stored.standing moved;
-  placed = placed_again h.key n (keyed_some h.key m stored.placed) (subst (λ l. OwnKeys l (by_key n)) e own);
-}
-
 -- ---- a delete, and an empty table
 
-pub deleted_keyed : {H : Type 0} (h : Heading) (m n : View (List Value) (List Value) H) (key : List ℕ) (k : List Value) → key ≡ h.key → IsStored h (Keyed m) → OwnKeys key (by_key n) → IsPermutation (delete key (rows_in m) k) (rows_in n) → IsStored h (Keyed n)
+pub deleted_keyed : {H : Type 0} (h : Heading) (m n : KeyedRows H) (key : List ℕ) (k : List Value) → key ≡ h.key → IsStored h (Keyed m) → OwnKeys key n → IsPermutation (delete key m.rows k) n.rows → IsStored h (Keyed n)
 deleted_keyed h m n key k e stored own moved = record {
-  standing = standing_deleted h (rows_in m) (rows_in n) k stored.standing (subst (λ l. IsPermutation (delete l (rows_in m) k) (rows_in n)) e moved);
-  placed = placed_again h.key n (keyed_some h.key m stored.placed) (subst (λ l. OwnKeys l (by_key n)) e own);
+  standing = standing_deleted h m.rows n.rows k stored.standing (subst (λ l. IsPermutation (delete l m.rows k) n.rows) e moved);
+  placed = placed_again h.key n (keyed_some h.key m stored.placed) (subst (λ l. OwnKeys l n) e own);
 }
 
-pub stored_empty : {H : Type 0} (h : Heading) (m : View (List Value) (List Value) H) → IsTrue (is_heading h) → (h.key ≡ [] → ⊥) → by_key m ≡ empty → rows_in m ≡ [] → IsStored h (Keyed m)
+pub stored_empty : {H : Type 0} (h : Heading) (m : KeyedRows H) → IsTrue (is_heading h) → (h.key ≡ [] → ⊥) → m.index.keys ≡ [] → m.rows ≡ [] → IsStored h (Keyed m)
 stored_empty h m heading some none no_rows = record {
   standing = subst (λ rows. IsStanding (table h rows)) (sym no_rows) (record { heading = heading; fitting = refl; keyed = nothing_differs h.key; few = omega arith });
-  placed = placed_again h.key m (some_long h.key some) (subst (OwnKeys h.key) (sym none) (λ c p e. absurd (none_some p (sym (get-empty _ c) ∙ e))));
+  placed = placed_again h.key m (some_long h.key some) (none ∙ ap (map (key_of h.key)) (sym no_rows));
 }
   where
     nothing_differs : (key : List ℕ) → IsTrue (keys_differ key [])

@@ -2,9 +2,9 @@ pub mod Changes
 pub mod Columns
 pub mod Keyed
 pub mod Lending
+pub mod Places
 pub mod Refusing
 pub mod Sheets
-pub mod Staged
 pub mod Standing
 pub mod Stored
 pub mod StoredCells

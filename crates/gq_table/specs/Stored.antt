@@ -4,19 +4,19 @@ use Rattle.gq_row.specs.declared.value.Value.{Value}
 use Rattle.gq_row.specs.Headings.{Heading}
 use Rattle.gq_table.specs.declared.rows.Storage.{Storage}
 use Rattle.gq_table.specs.declared.rows.Storage.TheVariants.{Keyed, Listed}
-use Rattle.gq_table.specs.Keyed.{OwnKeys, rows_in, by_key}
+use Rattle.gq_table.specs.Keyed.{OwnKeys}
 use Rattle.gq_table.specs.Standing.{IsStanding}
 
--- the rows: those of the slots in their order, or the list's
+-- the rows: those under keys in the order of the index, or the list's
 abbrev pub rows_of : {H : Type 0} → Storage H → List (List Value)
-rows_of (Keyed m) = rows_in m
+rows_of (Keyed m) = m.rows
 rows_of (Listed rows) = rows
 
--- with key columns the rows are in a map, each under its own key, and without in a list
+-- with key columns the rows stand under their own keys, and without in a list
 abbrev pub ArePlaced : {H : Type 0} → List ℕ → Storage H → Type 0
 ArePlaced [] (Keyed m) = ⊥
 ArePlaced [] (Listed rows) = Unit {0}
-ArePlaced (column ∷ columns) (Keyed m) = OwnKeys (column ∷ columns) (by_key m)
+ArePlaced (column ∷ columns) (Keyed m) = OwnKeys (column ∷ columns) m
 ArePlaced (column ∷ columns) (Listed rows) = ⊥
 
 pub record IsStored {H : Type 0} (heading : Heading) (rows : Storage H) : Type 0 where

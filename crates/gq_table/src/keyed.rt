@@ -1,155 +1,187 @@
-//! Rows in a map under their keys.
-ghost use Rattle.std.specs.Prelude.{◌≡◌, ◌<◌, ◌≤◌, ◌∷◌, All, OnOk, OnErr, IfErr, IsPermutation, length};
-ghost use Rattle.std.specs.FinMap.{get};
+//! Rows under their keys.
+ghost use Rattle.std.specs.Prelude.{◌≡◌, ◌<◌, ◌≤◌, ◌++◌, ◌∷◌, [], All, IsTrue, OnOk, OnErr, IfErr, IsPermutation, length, slice_index_or};
 ghost use Rattle.sw_table.specs.LaidOut.{hash_by};
-ghost use Rattle.sw_table.specs.View.{IsFull, entry_at};
-ghost use Rattle.sw_flat.specs.Vacancies.{IsVacancy};
+ghost use Rattle.sw_index.specs.Index.{IsAbsence};
 ghost use Rattle.gq_row.specs.Classes.{class_of, bytes_of};
 ghost use Rattle.gq_row.specs.Rows.{key_of};
-ghost use Rattle.gq_row.specs.Tables.{delete, has_row};
+ghost use Rattle.gq_row.specs.Tables.{put_by_key, delete, has_row};
 ghost use Rattle.gq_table.specs.Changes.{named_key};
-ghost use Rattle.gq_table.specs.Keyed.{OwnKeys, rows_in, by_key};
+ghost use Rattle.gq_table.specs.Keyed.{OwnKeys, AreApart};
 ghost use Rattle.gq_table.specs.Refusing.{rows_with, WhyNotKeyed};
 
 use crate::refusal::TableRefusal;
+use crate::sheet::Sheet;
 use gq_row::{Key, KeyCells, KeyRef, Row, Value};
 use std::alloc::{AllocError, Global};
-use std::mem;
-use sw_flat::{Entry, FlatMap, SlotNo, Vacancy};
+use sw_index::{Absence, Found, Index};
 use sw_probe::KeyHash;
 
-// Puts a row under its own key, where no more than `most` rows then stand there. One look-up, by
-// one hash, tells where it goes. It takes no memory where the row replaces another, which is then
-// left in its place.
-pub(crate) fn put_keyed<H: KeyHash<Key>>(
-    alloc: Global,
-    map: &mut FlatMap<Key, Row, H>,
-    positions: &[usize],
-    row: &mut Row,
-    most: usize,
-) -> Result<(), TableRefusal>
-    requires columns { All (λ position. position < length row.old) positions.now }
-    requires own { OwnKeys positions.now (by_key map.old) }
-    ensures own { OwnKeys positions.now (by_key map.new) }
-    ensures ok { OnOk result (IsPermutation (row.old ∷ delete positions.now (rows_in map.old)
-        (key_of positions.now row.old)) (rows_in map.new)) }
-    ensures few { OnOk result (rows_with positions.now (rows_in map.old) row.old ≤ most) }
-    ensures err { OnErr result (map.new ≡ map.old) }
-    ensures why { IfErr result (WhyNotKeyed most positions.now (rows_in map.old) row.old) }
-{
-    match map.entry(&KeyRef::new(row.cells(), positions)) {
-        Entry::Occupied(slot) => {
-            return replace_keyed(map, positions, slot, row, most);
-        }
-        Entry::Vacant(vacancy) => {
-            return add_keyed(alloc, map, positions, vacancy, row, most);
+/// Rows in one list, and the index of their keys, in the same order: the number of a key tells where its row stands.
+#[derive(Drop)]
+pub struct KeyedRows<H: KeyHash<Key>> {
+    pub(crate) index: Index<Key, H>,
+    pub(crate) rows: Sheet,
+}
+
+impl<H: KeyHash<Key>> KeyedRows<H> {
+    // No row. It takes no memory.
+    pub(crate) fn new(alloc: Global, hasher: H) -> KeyedRows<H>
+        ensures rows { result.rows ≡ [] }
+        ensures keys { result.index.keys ≡ [] }
+    {
+        KeyedRows {
+            index: Index::new(alloc, hasher),
+            rows: Sheet::new(alloc),
         }
     }
-}
 
-// Exchanges a row with the one that has its key, in a slot.
-fn replace_keyed<H: KeyHash<Key>>(
-    map: &mut FlatMap<Key, Row, H>,
-    positions: &[usize],
-    slot: SlotNo,
-    row: &mut Row,
-    most: usize,
-) -> Result<(), TableRefusal>
-    requires own { OwnKeys positions.now (by_key map.old) }
-    requires full { IsFull map.old slot.index }
-    requires found { get (by_key map.old) (class_of (key_of positions.now row.old)) ≡
-        entry_at map.old slot.index }
-    ensures own { OwnKeys positions.now (by_key map.new) }
-    ensures ok { OnOk result (IsPermutation (row.old ∷ delete positions.now (rows_in map.old)
-        (key_of positions.now row.old)) (rows_in map.new)) }
-    ensures few { OnOk result (rows_with positions.now (rows_in map.old) row.old ≤ most) }
-    ensures err { OnErr result (map.new ≡ map.old) }
-    ensures why { IfErr result (WhyNotKeyed most positions.now (rows_in map.old) row.old) }
-{
-    let _ = positions;
-    let _ = map.iter();
-    if most < map.len() {
-        return Err(TableRefusal::Limit);
+    // The number of rows.
+    pub(crate) fn len(&self) -> usize
+        ensures { result ≡ length self.now.rows }
+    {
+        self.rows.len()
     }
-    mem::swap(map.value_mut(slot), row);
-    let _ = map.iter();
-    Ok(())
-}
 
-// Adds a row under its own key, which no row has.
-fn add_keyed<H: KeyHash<Key>>(
-    alloc: Global,
-    map: &mut FlatMap<Key, Row, H>,
-    positions: &[usize],
-    vacancy: Vacancy,
-    row: &mut Row,
-    most: usize,
-) -> Result<(), TableRefusal>
-    requires columns { All (λ position. position < length row.old) positions.now }
-    requires own { OwnKeys positions.now (by_key map.old) }
-    requires vacant { IsVacancy class_of (hash_by H.hash_of bytes_of map.old.hasher) map.old
-        (class_of (key_of positions.now row.old)) vacancy }
-    ensures own { OwnKeys positions.now (by_key map.new) }
-    ensures ok { OnOk result (IsPermutation (row.old ∷ delete positions.now (rows_in map.old)
-        (key_of positions.now row.old)) (rows_in map.new)) }
-    ensures few { OnOk result (rows_with positions.now (rows_in map.old) row.old ≤ most) }
-    ensures err { OnErr result (map.new ≡ map.old) }
-    ensures why { IfErr result (WhyNotKeyed most positions.now (rows_in map.old) row.old) }
-{
-    let _ = map.iter();
-    if most <= map.len() {
-        return Err(TableRefusal::Limit);
+    // Makes room for so many rows in all.
+    pub(crate) fn reserve(&mut self, rows: usize) -> Result<(), AllocError>
+        ensures { self.new ≡ self.old }
+    {
+        self.index.make_room(rows);
+        self.rows.reserve(rows.saturating_sub(self.rows.len()))
     }
-    let Ok(key) = Key::of(alloc, row.cells(), positions) else {
-        return Err(TableRefusal::Memory);
-    };
-    let Ok(_) = map.fill(vacancy, key, row_out(alloc, row)) else {
-        return Err(TableRefusal::Memory);
-    };
-    let _ = map.iter();
-    Ok(())
-}
 
-// The row, in whose place one without values is left.
-pub(crate) fn row_out(alloc: Global, row: &mut Row) -> Row
-    ensures { result ≡ row.old }
-{
-    mem::replace(row, Row::new(Vec::new(alloc)))
-}
+    // Puts a row in the place of the one that has its key, or behind the others, where no more than `most`
+    // then stand there. One look-up, by one hash, tells where it goes. It takes no memory where the row
+    // replaces another, whose values are then left in its place.
+    pub(crate) fn put(
+        &mut self,
+        alloc: Global,
+        positions: &[usize],
+        row: &mut Row,
+        most: usize,
+    ) -> Result<(), TableRefusal>
+        requires columns { All (λ position. position < length row.old) positions.now }
+        requires even { All (λ other. length other ≡ length row.old) self.old.rows }
+        requires own { OwnKeys positions.now self.old }
+        requires apart { IsTrue (AreApart positions.now self.old.rows) }
+        ensures own { OwnKeys positions.now self.new }
+        ensures ok { OnOk result (self.new.rows ≡ put_by_key positions.now self.old.rows row.old) }
+        ensures few { OnOk result (rows_with positions.now self.old.rows row.old ≤ most) }
+        ensures err { OnErr result (self.new ≡ self.old) }
+        ensures why { IfErr result (WhyNotKeyed most positions.now self.old.rows row.old) }
+    {
+        match self.index.find(&KeyRef::new(row.cells(), positions)) {
+            Found::At(number) => {
+                return self.replace(positions, number, row, most);
+            }
+            Found::Absent(absence) => {
+                return self.add(alloc, positions, absence, row, most);
+            }
+        }
+    }
 
-// Makes room for so many rows. Their order may change.
-pub(crate) fn reserve_keyed<H: KeyHash<Key>>(
-    map: &mut FlatMap<Key, Row, H>,
-    positions: &[usize],
-    rows: usize,
-) -> Result<(), AllocError>
-    requires own { OwnKeys positions.now (by_key map.old) }
-    ensures own { OwnKeys positions.now (by_key map.new) }
-    ensures rows { IsPermutation (rows_in map.old) (rows_in map.new) }
-{
-    let _ = positions;
-    let _ = map.iter();
-    let outcome = map.reserve(rows);
-    let _ = map.iter();
-    outcome.map_err(|_| AllocError)
-}
+    // Exchanges the values of a row with those of the one that has its key, at a position.
+    fn replace(
+        &mut self,
+        positions: &[usize],
+        position: usize,
+        row: &mut Row,
+        most: usize,
+    ) -> Result<(), TableRefusal>
+        requires even { All (λ other. length other ≡ length row.old) self.old.rows }
+        requires own { OwnKeys positions.now self.old }
+        requires apart { IsTrue (AreApart positions.now self.old.rows) }
+        requires within { position < length self.old.rows }
+        requires found { key_of positions.now (slice_index_or self.old.rows position []) ≡
+            key_of positions.now row.old }
+        ensures own { OwnKeys positions.now self.new }
+        ensures ok { OnOk result (self.new.rows ≡ put_by_key positions.now self.old.rows row.old) }
+        ensures few { OnOk result (rows_with positions.now self.old.rows row.old ≤ most) }
+        ensures err { OnErr result (self.new ≡ self.old) }
+        ensures why { IfErr result (WhyNotKeyed most positions.now self.old.rows row.old) }
+    {
+        let _ = positions;
+        if most < self.rows.len() {
+            return Err(TableRefusal::Limit);
+        }
+        self.rows.exchange(position, row.cells_mut());
+        Ok(())
+    }
 
-// Takes the row of the key that some values name out of the map, and tells whether there was one. It
-// takes no memory.
-pub(crate) fn delete_keyed<H: KeyHash<Key>>(
-    map: &mut FlatMap<Key, Row, H>,
-    positions: &[usize],
-    key: &[Value],
-) -> bool
-    requires own { OwnKeys positions.now (by_key map.old) }
-    ensures own { OwnKeys positions.now (by_key map.new) }
-    ensures answer { result ≡ has_row positions.now (rows_in map.old) (named_key key.now) }
-    ensures rows { IsPermutation (delete positions.now (rows_in map.old) (named_key key.now))
-        (rows_in map.new) }
-{
-    let _ = positions;
-    let _ = map.iter();
-    let found = map.erase(&KeyCells(key));
-    let _ = map.iter();
-    found
+    // Adds a row whose key no other has. Its values move, and its memory is left for another row.
+    fn add(
+        &mut self,
+        alloc: Global,
+        positions: &[usize],
+        absence: Absence,
+        row: &mut Row,
+        most: usize,
+    ) -> Result<(), TableRefusal>
+        requires columns { All (λ position. position < length row.old) positions.now }
+        requires even { All (λ other. length other ≡ length row.old) self.old.rows }
+        requires own { OwnKeys positions.now self.old }
+        requires absent { IsAbsence class_of (hash_by H.hash_of bytes_of self.old.index.hasher)
+            self.old.index.keys (class_of (key_of positions.now row.old)) absence }
+        ensures own { OwnKeys positions.now self.new }
+        ensures ok { OnOk result (self.new.rows ≡ put_by_key positions.now self.old.rows row.old) }
+        ensures few { OnOk result (rows_with positions.now self.old.rows row.old ≤ most) }
+        ensures err { OnErr result (self.new ≡ self.old) }
+        ensures why { IfErr result (WhyNotKeyed most positions.now self.old.rows row.old) }
+    {
+        if most <= self.rows.len() {
+            return Err(TableRefusal::Limit);
+        }
+        let Ok(key) = Key::of(alloc, row.cells(), positions) else {
+            return Err(TableRefusal::Memory);
+        };
+        match self.push(absence, key, row.cells_mut()) {
+            Ok(()) => Ok(()),
+            Err(_) => Err(TableRefusal::Memory),
+        }
+    }
+
+    // Puts a row and its key, which no other has, behind the others. Its values move.
+    pub(crate) fn push(
+        &mut self,
+        absence: Absence,
+        key: Key,
+        cells: &mut [Value],
+    ) -> Result<(), AllocError>
+        requires even { All (λ other. length other ≡ length cells.old) self.old.rows }
+        requires absent { IsAbsence class_of (hash_by H.hash_of bytes_of self.old.index.hasher)
+            self.old.index.keys (class_of key) absence }
+        ensures rows { OnOk result (self.new.rows ≡ self.old.rows ++ cells.old ∷ []) }
+        ensures keys { OnOk result (self.new.index.keys ≡ self.old.index.keys ++ key ∷ []) }
+        ensures hasher { self.new.index.hasher ≡ self.old.index.hasher }
+        ensures unchanged { OnErr result (self.new ≡ self.old) }
+    {
+        let rows = self.rows.len();
+        self.rows.push(cells)?;
+        if self.index.add(absence, key).is_err() {
+            self.rows.truncate(rows);
+            return Err(AllocError);
+        }
+        Ok(())
+    }
+
+    // Takes the row of the key that some values name away, and tells whether there was one. The last row
+    // goes to its place. It takes no memory.
+    pub(crate) fn delete(&mut self, positions: &[usize], key: &[Value]) -> bool
+        requires own { OwnKeys positions.now self.old }
+        requires apart { IsTrue (AreApart positions.now self.old.rows) }
+        ensures own { OwnKeys positions.now self.new }
+        ensures answer { result ≡ has_row positions.now self.old.rows (named_key key.now) }
+        ensures rows { IsPermutation (delete positions.now self.old.rows (named_key key.now))
+            self.new.rows }
+    {
+        let _ = positions;
+        match self.index.find(&KeyCells(key)) {
+            Found::At(number) => {
+                let _ = self.index.swap_remove(number);
+                self.rows.swap_remove(number);
+                true
+            }
+            Found::Absent(_) => false,
+        }
+    }
 }

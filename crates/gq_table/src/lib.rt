@@ -1,7 +1,7 @@
 //! Tables of rows, with or without a key.
 //!
-//! A [`Table`] has a schema and rows. Where the schema has key columns the rows stand in a flat
-//! map under their keys and nowhere else, so that a row is found by one look-up; else their cells
+//! A [`Table`] has a schema and rows. Where the schema has key columns the rows stand in one list beside
+//! an index of their keys, so that a row is found by one look-up; else their cells
 //! stand by columns. A row that is put replaces the row of the same key, spelling and all, or is added; a load
 //! puts many, all or none. A [`RowCursor`] walks over the rows.
 //!

@@ -1,99 +1,189 @@
-//! The rows of one map put into another, all or none.
-ghost use Rattle.std.specs.Prelude.{◌≡◌, ◌<◌, ◌≤◌, ◌⊎◌, OnOk, OnErr, IfErr, IsTrue, IsPermutation, not, length, count_by};
-ghost use Rattle.std.specs.FinMap.{insert, len, contains_key};
-ghost use Rattle.sw_table.specs.View.{slot_count};
-ghost use Rattle.sw_table.specs.Sizes.{room_of};
-ghost use Rattle.gq_row.specs.Classes.{class_of};
-ghost use Rattle.gq_row.specs.Tables.{put_all, keys_differ};
-ghost use Rattle.gq_table.specs.Keyed.{OwnKeys, rows_in, by_key};
-ghost use Rattle.gq_table.specs.Staged.{laid_over};
+//! The rows of one list put into another by their keys, all or none.
+ghost use Rattle.std.specs.Prelude.{◌≡◌, ◌+◌, ◌<◌, ◌≤◌, ◌⊎◌, ◌++◌, All, IsTrue, IfOk, IfErr, OnOk, OnErr, length, take, count_by, fold};
+ghost use Rattle.sw_table.specs.LaidOut.{hash_by};
+ghost use Rattle.gq_row.specs.Classes.{bytes_of};
+ghost use Rattle.gq_row.specs.Tables.{put_by_key};
+ghost use Rattle.gq_table.specs.Keyed.{OwnKeys, AreApart};
+ghost use Rattle.gq_table.specs.Places.{AreEven, ArePlaces, AreStillThere, AreThere, is_absent, without_place, with_placed};
 ghost use Rattle.gq_table.specs.declared.refusal.TableRefusal.TheVariants.{Limit, Memory};
 
+use crate::keyed::KeyedRows;
 use crate::refusal::TableRefusal;
-use gq_row::{Key, Row};
-use sw_flat::FlatMap;
+use crate::sheet::Sheet;
+use gq_row::Key;
+use std::alloc::{AllocError, Global};
+use sw_index::Found;
 use sw_probe::KeyHash;
 
-// Puts rows that stand in a map of their own, where no more than `most` then stand there: all or
-// none. What is wanting shows before a row moves.
-pub(crate) fn load_keyed<H: KeyHash<Key> + Copy>(
-    map: &mut FlatMap<Key, Row, H>,
-    positions: &[usize],
-    staged: FlatMap<Key, Row, H>,
-    most: usize,
-) -> Result<(), TableRefusal>
-    requires keyed { 0 < length positions.now }
-    requires own { OwnKeys positions.now (by_key map.old) }
-    requires mine { OwnKeys positions.now (by_key staged) }
-    requires differ { IsTrue (keys_differ positions.now (rows_in map.old)) }
-    requires few { most ≤ 16777216 }
-    ensures own { OwnKeys positions.now (by_key map.new) }
-    ensures ok { OnOk result (IsPermutation
-        (put_all positions.now (rows_in map.old) (rows_in staged)) (rows_in map.new)) }
-    ensures few { OnOk result
-        (length (put_all positions.now (rows_in map.old) (rows_in staged)) ≤ most) }
-    ensures err { OnErr result (map.new ≡ map.old) }
-    ensures why { IfErr result (λ why. ((why ≡ Limit)
-        × (most < length (put_all positions.now (rows_in map.old) (rows_in staged))))
-        ⊎ (why ≡ Memory)) }
-{
-    let _ = positions;
-    let _ = map.iter();
-    let _ = staged.iter();
-    if map.is_empty() {
-        if most < staged.len() {
+impl<H: KeyHash<Key> + Copy> KeyedRows<H> {
+    // Puts rows that stand under keys of their own, where no more than `most` then stand there: all or none.
+    // Each key is looked up once. Those that are absent are added first, since only that may be refused.
+    pub(crate) fn load(
+        &mut self,
+        alloc: Global,
+        positions: &[usize],
+        staged: KeyedRows<H>,
+        most: usize,
+    ) -> Result<(), TableRefusal>
+        requires columns { All (λ row. All (λ position. position < length row) positions.now)
+            staged.rows }
+        requires even { AreEven self.old.rows staged.rows }
+        requires own { OwnKeys positions.now self.old }
+        requires mine { OwnKeys positions.now staged }
+        requires apart { IsTrue (AreApart positions.now self.old.rows) }
+        requires all_apart { IsTrue (AreApart positions.now staged.rows) }
+        requires few { most ≤ 16777216 }
+        ensures own { OwnKeys positions.now self.new }
+        ensures ok { OnOk result (self.new.rows ≡
+            fold (put_by_key positions.now) self.old.rows staged.rows) }
+        ensures few { OnOk result
+            (length (fold (put_by_key positions.now) self.old.rows staged.rows) ≤ most) }
+        ensures err { OnErr result (self.new ≡ self.old) }
+        ensures why { IfErr result (λ why. ((why ≡ Limit)
+            × (most < length (fold (put_by_key positions.now) self.old.rows staged.rows)))
+            ⊎ (why ≡ Memory)) }
+    {
+        if self.rows.is_empty() {
+            if most < staged.len() {
+                return Err(TableRefusal::Limit);
+            }
+            *self = staged;
+            return Ok(());
+        }
+        let Ok(places) = self.places_of(alloc, positions, &staged) else {
+            return Err(TableRefusal::Memory);
+        };
+        let new = count_absent(places.as_slice());
+        if most < self.len().saturating_add(new) {
             return Err(TableRefusal::Limit);
         }
-        *map = staged;
-        let _ = map.iter();
-        return Ok(());
+        let KeyedRows { rows, .. } = staged;
+        let mut rows = rows;
+        let Ok(()) = self.add_absent(alloc, positions, places.as_slice(), &mut rows) else {
+            return Err(TableRefusal::Memory);
+        };
+        self.place_found(positions, places.as_slice(), &mut rows);
+        Ok(())
     }
-    let Ok(entries) = staged.into_list() else {
-        return Err(TableRefusal::Memory);
-    };
-    let total = map
-        .len()
-        .saturating_add(count_lacking(map, entries.as_slice()));
-    if most < total {
-        return Err(TableRefusal::Limit);
+
+    // Where each row's key stands here, or that it is absent.
+    fn places_of(
+        &self,
+        alloc: Global,
+        positions: &[usize],
+        staged: &KeyedRows<H>,
+    ) -> Result<Vec<Found>, AllocError>
+        requires own { OwnKeys positions.now self.now }
+        requires mine { OwnKeys positions.now staged.now }
+        ensures { IfOk result (λ places. ArePlaces positions.now
+            (hash_by H.hash_of bytes_of self.now.index.hasher) self.now.rows staged.now.rows
+            places.items) }
+    {
+        let _ = positions;
+        let keys = staged.index.keys();
+        let mut places = Vec::with_capacity(alloc, keys.len())?;
+        for i in 0..keys.len() {
+            places.push(self.index.find(&keys[i]))?;
+        }
+        Ok(places)
     }
-    let Ok(()) = map.reserve(total) else {
-        return Err(TableRefusal::Memory);
-    };
-    commit(map, entries);
-    let _ = map.iter();
-    Ok(())
+
+    // Adds the rows that have no place, whose values move. Refused, none is added.
+    fn add_absent(
+        &mut self,
+        alloc: Global,
+        positions: &[usize],
+        places: &[Found],
+        staged: &mut Sheet,
+    ) -> Result<(), AllocError>
+        requires columns { All (λ row. All (λ position. position < length row) positions.now)
+            staged.old }
+        requires even { AreEven self.old.rows staged.old }
+        requires own { OwnKeys positions.now self.old }
+        requires apart { IsTrue (AreApart positions.now staged.old) }
+        requires places { ArePlaces positions.now
+            (hash_by H.hash_of bytes_of self.old.index.hasher) self.old.rows staged.old places.now }
+        ensures rows { OnOk result (self.new.rows ≡
+            self.old.rows ++ without_place staged.old places.now) }
+        ensures own { OwnKeys positions.now self.new }
+        ensures there { OnOk result (AreStillThere staged.new staged.old places.now) }
+        ensures err { OnErr result (self.new ≡ self.old) }
+    {
+        let rows = self.len();
+        match self.add_each(alloc, positions, places, staged) {
+            Ok(()) => Ok(()),
+            Err(e) => {
+                self.leave(rows);
+                Err(e)
+            }
+        }
+    }
+
+    // Adds them one by one. Those that were there stay, whatever the outcome.
+    fn add_each(
+        &mut self,
+        alloc: Global,
+        positions: &[usize],
+        places: &[Found],
+        staged: &mut Sheet,
+    ) -> Result<(), AllocError>
+        requires columns { All (λ row. All (λ position. position < length row) positions.now)
+            staged.old }
+        requires even { AreEven self.old.rows staged.old }
+        requires own { OwnKeys positions.now self.old }
+        requires apart { IsTrue (AreApart positions.now staged.old) }
+        requires places { ArePlaces positions.now
+            (hash_by H.hash_of bytes_of self.old.index.hasher) self.old.rows staged.old places.now }
+        ensures rows { OnOk result (self.new.rows ≡
+            self.old.rows ++ without_place staged.old places.now) }
+        ensures own { OwnKeys positions.now self.new }
+        ensures there { OnOk result (AreStillThere staged.new staged.old places.now) }
+        ensures kept { take (length self.old.rows) self.new.rows ≡ self.old.rows }
+        ensures hasher { self.new.index.hasher ≡ self.old.index.hasher }
+    {
+        'rows: for i in 0..places.len() {
+            if let Found::Absent(absence) = places[i] {
+                let key = Key::of(alloc, staged.row(i), positions)?;
+                self.push(absence, key, staged.row_mut(i))?;
+            }
+        }
+        Ok(())
+    }
+
+    // Leaves so many rows, from the first on.
+    #[cold]
+    fn leave(&mut self, rows: usize)
+        ensures rows { self.new.rows ≡ take rows self.old.rows }
+        ensures keys { self.new.index.keys ≡ take rows self.old.index.keys }
+        ensures hasher { self.new.index.hasher ≡ self.old.index.hasher }
+    {
+        self.rows.truncate(rows);
+        self.index.truncate(rows);
+    }
+
+    // Exchanges each row that has a place with the one that stands there.
+    fn place_found(&mut self, positions: &[usize], places: &[Found], staged: &mut Sheet)
+        requires even { AreEven self.old.rows staged.old }
+        requires own { OwnKeys positions.now self.old }
+        requires there { AreThere positions.now self.old.rows staged.old places.now }
+        ensures rows { self.new.rows ≡ with_placed self.old.rows staged.old places.now }
+        ensures own { OwnKeys positions.now self.new }
+    {
+        let _ = positions;
+        'rows: for i in 0..places.len() {
+            if let Found::At(number) = places[i] {
+                self.rows.exchange(number, staged.row_mut(i));
+            }
+        }
+    }
 }
 
-// How many of these entries have keys that the map lacks.
-fn count_lacking<H: KeyHash<Key>>(map: &FlatMap<Key, Row, H>, entries: &[(Key, Row)]) -> usize
-    ensures { result ≡ count_by (λ entry. not (contains_key (by_key map.now) (class_of entry.0)))
-        entries.now }
+// How many have no place.
+fn count_absent(places: &[Found]) -> usize
+    ensures { result ≡ count_by is_absent places.now }
 {
-    entries
+    places
         .iter()
-        .filter(|entry| !map.contains(&entry.0))
+        .filter(|place| matches!(place, Found::Absent(_)))
         .count()
-}
-
-// Moves the entries into the map, in place of those of the same keys. There is room for all of
-// them, so this can't fail.
-fn commit<H: KeyHash<Key>>(map: &mut FlatMap<Key, Row, H>, mut entries: Vec<(Key, Row)>)
-    requires { len (laid_over (by_key map.old) entries.items) ≤ room_of (slot_count map.old) }
-    ensures { by_key map.new ≡ laid_over (by_key map.old) entries.items }
-{
-    while let Some((key, row)) = entries.pop() {
-        commit_entry(map, key, row);
-    }
-}
-
-fn commit_entry<H: KeyHash<Key>>(map: &mut FlatMap<Key, Row, H>, key: Key, row: Row)
-    requires { len (insert (by_key map.old) (class_of key) (key, row)) ≤ room_of (slot_count map.old) }
-    ensures entries { by_key map.new ≡ insert (by_key map.old) (class_of key) (key, row) }
-    ensures slots { slot_count map.new ≡ slot_count map.old }
-{
-    let _ = map.len();
-    let Ok(_) = map.insert_or_assign(key, row) else {
-        unreachable!()
-    };
 }

@@ -4,87 +4,87 @@ ghost use Rattle.gq_row.specs.Rows.{cells_in};
 ghost use Rattle.gq_row.specs.Written.{IsInPlace};
 
 use crate::grid::Grid;
+use crate::keyed::KeyedRows;
+use crate::sheet::Sheet;
 use gq_row::{Key, Row, Value};
 use std::alloc::{AllocError, Global};
 use std::marker::Model;
 use std::mem;
-use sw_flat::{FlatMap, Iter};
 use sw_probe::KeyHash;
 
-/// The rows of a table with key columns stand in a map under their keys, those of one without by columns.
+/// The rows of a table with key columns stand row by row, under their keys, those of one without by columns.
 #[derive(Drop)]
 pub enum Storage<H: KeyHash<Key>> {
-    Keyed(FlatMap<Key, Row, H>),
+    Keyed(KeyedRows<H>),
     Listed(Grid),
 }
 
-/// What is still to come of them: entries of the map, or the list from a place on.
-#[derive(Drop)]
-pub enum Rest<'a, H: KeyHash<Key>> {
-    Entries(Iter<'a, Key, Row, H>),
-    Places(&'a Grid, usize),
+/// How the rows that are gone over stand: row by row, or by columns.
+#[derive(Clone, Copy)]
+pub enum Standing<'a> {
+    Rows(&'a Sheet),
+    Columns(&'a Grid),
 }
 
-/// A walk over the rows of a table: at one of them, and before those that are still to come. A row of the map
-/// can be read where it stands; one of the list, which stands by columns, is first written out by
-/// [`RowCursor::read`].
+/// A walk over the rows of a table: at one of them, and before those that are still to come. A row of a table
+/// with a key can be read where it stands; one of a table without, which stands by columns, is first written out
+/// by [`RowCursor::read`].
 #[derive(Drop)]
-pub struct RowCursor<'a, H: KeyHash<Key>> {
+pub struct RowCursor<'a> {
     alloc: Global,
-    rest: Rest<'a, H>,
-    // The row of the map where it stands, if it was begun.
-    entry: Option<&'a Row>,
-    // A row of the list that was written out.
+    rows: Standing<'a>,
+    // How many rows were begun.
+    from: usize,
+    // A row that stood by columns and was written out.
     copy: Vec<Value>,
 }
 
-impl<'a, H: KeyHash<Key>> Model for RowCursor<'a, H> {
+impl<'a> Model for RowCursor<'a> {
     ghost use Rattle.gq_table.specs.Walking.{Walk, row_of, read_of, rest_of};
 
     ghost Value = { Walk };
 
-    ghost view = { λ w. record { row = row_of w.rest w.entry; read = read_of w.rest w.entry w.copy.items; rest = rest_of w.rest } };
+    ghost view = { λ w. record { row = row_of w.rows w.from; read = read_of w.rows w.from w.copy.items; rest = rest_of w.rows w.from } };
 }
 
-impl<'a, H: KeyHash<Key>> RowCursor<'a, H> {
+impl<'a> Standing<'a> {
+    ghost use Rattle.gq_table.specs.Walking.{standing};
+
+    #[inline]
+    fn len(&self) -> usize
+        ensures { result ≡ length (standing self.now) }
+    {
+        match self {
+            Standing::Rows(rows) => rows.len(),
+            Standing::Columns(rows) => rows.len(),
+        }
+    }
+}
+
+impl<'a> RowCursor<'a> {
     ghost use Rattle.gq_table.specs.Stored.{rows_of};
+
+    /// Before all of the rows.
+    pub(crate) fn new<H: KeyHash<Key>>(alloc: Global, rows: &'a Storage<H>) -> RowCursor<'a>
+        ensures { result.rest ≡ rows_of rows.now }
+    {
+        let rows = match rows {
+            Storage::Keyed(keyed) => Standing::Rows(&keyed.rows),
+            Storage::Listed(rows) => Standing::Columns(rows),
+        };
+        RowCursor {
+            alloc,
+            rows,
+            from: 0,
+            copy: Vec::new(alloc),
+        }
+    }
 
     /// How many rows are still to come.
     pub fn len(&self) -> usize
         ensures { result ≡ length self.now.rest }
     {
-        match &self.rest {
-            Rest::Entries(entries) => {
-                return entries.len();
-            }
-            Rest::Places(rows, from) => {
-                return rows.len().saturating_sub(*from);
-            }
-        }
-    }
-
-    /// Before all of the rows: those of a map in the order of its slots.
-    pub(crate) fn new(alloc: Global, rows: &'a Storage<H>) -> RowCursor<'a, H>
-        ensures { result.rest ≡ rows_of rows.now }
-    {
-        match rows {
-            Storage::Keyed(map) => {
-                return RowCursor {
-                    alloc,
-                    rest: Rest::Entries(map.iter()),
-                    entry: None,
-                    copy: Vec::new(alloc),
-                };
-            }
-            Storage::Listed(rows) => {
-                return RowCursor {
-                    alloc,
-                    rest: Rest::Places(rows, 0),
-                    entry: None,
-                    copy: Vec::new(alloc),
-                };
-            }
-        }
+        self.rows.len().saturating_sub(self.from)
     }
 
     /// Goes on to the next row, and tells whether there is one.
@@ -93,45 +93,30 @@ impl<'a, H: KeyHash<Key>> RowCursor<'a, H> {
         ensures next { result ≡ true → self.old.rest ≡ self.new.row ∷ self.new.rest }
         ensures end { result ≡ false → (self.old.rest ≡ []) × (self.new.rest ≡ []) }
     {
-        match &mut self.rest {
-            Rest::Entries(entries) => {
-                let Some((_, row)) = entries.next() else {
-                    return false;
-                };
-                self.entry = Some(row);
-                return true;
-            }
-            Rest::Places(rows, from) => {
-                if rows.len() <= *from {
-                    return false;
-                }
-                *from += 1;
-                return true;
-            }
+        if self.rows.len() <= self.from {
+            return false;
         }
+        self.from += 1;
+        true
     }
 
-    /// Makes the row where it stands the one that is lent. That of a list is written over the one before, and
-    /// asks for memory where it is the first, and for texts of more than 22 bytes.
+    /// Makes the row where it stands the one that is lent. One that stands by columns is written over the one
+    /// before, and asks for memory where it is the first, and for texts of more than 22 bytes.
     #[inline]
     pub fn read(&mut self) -> Result<(), AllocError>
         ensures read { OnOk result (self.new.read ≡ self.old.row) }
         ensures row { self.new.row ≡ self.old.row }
         ensures rest { self.new.rest ≡ self.old.rest }
     {
-        match &self.rest {
-            Rest::Entries(_) => {
-                return Ok(());
-            }
-            Rest::Places(rows, from) => {
-                let place = from.saturating_sub(1);
-                if place < rows.len() {
-                    return rows.copy_row(self.alloc, place, &mut self.copy);
-                }
-                self.copy.clear();
-                return Ok(());
-            }
+        let Standing::Columns(rows) = self.rows else {
+            return Ok(());
+        };
+        let place = self.from.saturating_sub(1);
+        if place < rows.len() {
+            return rows.copy_row(self.alloc, place, &mut self.copy);
         }
+        self.copy.clear();
+        Ok(())
     }
 
     /// The row that was read last.
@@ -139,17 +124,14 @@ impl<'a, H: KeyHash<Key>> RowCursor<'a, H> {
     pub fn row(&self) -> &[Value]
         ensures { result.now ≡ self.now.read }
     {
-        match &self.rest {
-            Rest::Entries(_) => {
-                let Some(row) = self.entry else {
-                    return &[];
-                };
-                return row.cells();
-            }
-            Rest::Places(_, _) => {
-                return self.copy.as_slice();
-            }
+        let Standing::Rows(rows) = self.rows else {
+            return self.copy.as_slice();
+        };
+        let place = self.from.saturating_sub(1);
+        if place < rows.len() {
+            return rows.row(place);
         }
+        &[]
     }
 
     /// Writes the values in some columns of the row where it stands over another row. Nothing else of it is
@@ -178,12 +160,10 @@ impl<'a, H: KeyHash<Key>> RowCursor<'a, H> {
         ensures copied { OnOk result (cells.new ≡ cells_in columns.now self.now.row) }
         ensures in_place { All IsInPlace (cells_in columns.now self.now.row) → IsOk result }
     {
-        match &self.rest {
-            Rest::Entries(_) => {
-                return write_cells(self.alloc, cells, self.row(), columns);
-            }
-            Rest::Places(rows, from) => {
-                return rows.copy_cells(self.alloc, from.saturating_sub(1), columns, cells);
+        match self.rows {
+            Standing::Rows(_) => write_cells(self.alloc, cells, self.row(), columns),
+            Standing::Columns(rows) => {
+                rows.copy_cells(self.alloc, self.from.saturating_sub(1), columns, cells)
             }
         }
     }

@@ -114,7 +114,7 @@ impl Sheet {
         ensures put { self.new ≡ slice_set self.old position row.old }
         ensures taken { row.new ≡ slice_index_or self.old position [] }
     {
-        self.row_mut(position).swap_with_slice(row);
+        exchange_values(self.row_mut(position), row);
     }
 
     /// Leaves out the row at a position. The last takes its place.
@@ -140,6 +140,31 @@ impl Sheet {
             self.rows = rows;
         }
     }
+}
+
+// Lets as many values change places.
+#[inline]
+fn exchange_values(values: &mut [Value], others: &mut [Value])
+    requires { length values.old ≡ length others.old }
+    ensures values { values.new ≡ others.old }
+    ensures others { others.new ≡ values.old }
+{
+    for i in 0..values.len() {
+        exchange_value(&mut values[i], &mut others[i]);
+    }
+}
+
+// Lets two values change places. Numbers go by themselves: of a value that was just written they are in a register still.
+#[inline]
+fn exchange_value(value: &mut Value, other: &mut Value)
+    ensures value { value.new ≡ other.old }
+    ensures other { other.new ≡ value.old }
+{
+    if let (Value::Int(a), Value::Int(b)) = (&mut *value, &mut *other) {
+        mem::swap(a, b);
+        return;
+    }
+    mem::swap(value, other);
 }
 
 // Lets the last cells, from an end on, change places with as many others before it.

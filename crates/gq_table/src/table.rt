@@ -3,28 +3,24 @@ ghost use Rattle.std.specs.Prelude.{◌≡◌, ◌+◌, ◌<◌, All, ◌≤◌,
 ghost use Rattle.gq_row.specs.Fitting.{fits_columns, has_null};
 ghost use Rattle.gq_row.specs.Tables.{has_row};
 ghost use Rattle.gq_table.specs.Changes.{IsPut, IsLoaded, IsDeleted, named_key};
-ghost use Rattle.gq_table.specs.Keyed.{rows_in};
 ghost use Rattle.gq_table.specs.Refusing.{row_refusal, load_refusal, WhyNotPut, WhyNotLoaded};
 ghost use Rattle.gq_table.specs.Standing.{IsStanding};
 ghost use Rattle.gq_table.specs.Stored.{IsStored, rows_of};
 ghost use Rattle.gq_table.specs.declared.refusal.TableRefusal.TheVariants.{Limit, Memory};
 
 use crate::grid::Grid;
-use crate::keyed::{delete_keyed, put_keyed, reserve_keyed, row_out};
-use crate::load::load_keyed;
+use crate::keyed::KeyedRows;
 use crate::refusal::TableRefusal;
 use crate::rows::{RowCursor, Storage};
 use gq_row::{Key, Limits, Row, Schema, Value};
 use std::alloc::{AllocError, Global};
 use std::marker::Model;
-use sw_flat::FlatMap;
 use sw_probe::KeyHash;
 
 /// A table: its schema, and its rows, under their keys where there are key columns. Each row fits
 /// the columns, no two rows have the same key, and there are at most 2^24 of them.
 ///
-/// Contracts see its heading and the list of its rows: those under keys in the order of the slots,
-/// which any change may turn into another.
+/// Contracts see its heading and the list of its rows, in an order that any change may turn into another.
 #[derive(Drop)]
 pub struct Table<H: KeyHash<Key>> {
     alloc: Global,
@@ -61,7 +57,7 @@ impl<H: KeyHash<Key> + Copy> Table<H> {
             alloc,
             schema,
             hasher,
-            rows: Storage::Keyed(FlatMap::new(alloc, hasher)),
+            rows: Storage::Keyed(KeyedRows::new(alloc, hasher)),
         }
     }
 
@@ -87,8 +83,8 @@ impl<H: KeyHash<Key> + Copy> Table<H> {
         ensures standing { IsStanding self.now }
     {
         match &self.rows {
-            Storage::Keyed(map) => {
-                return count_keyed(map);
+            Storage::Keyed(rows) => {
+                return rows.len();
             }
             Storage::Listed(rows) => {
                 return rows.len();
@@ -97,14 +93,14 @@ impl<H: KeyHash<Key> + Copy> Table<H> {
     }
 
     /// Makes room for so many rows in all, so that what is put up to that number asks for no more
-    /// slots. Only the order of the rows may change, also where it is refused for want of memory.
+    /// memory but for long texts. Only the order of the rows may change, also where it is refused for want of memory.
     pub fn reserve(&mut self, rows: usize) -> Result<(), AllocError>
         ensures heading { self.new.heading ≡ self.old.heading }
         ensures rows { IsPermutation self.old.rows self.new.rows }
     {
         match &mut self.rows {
-            Storage::Keyed(map) => {
-                return reserve_keyed(map, self.schema.key(), rows);
+            Storage::Keyed(keyed) => {
+                return keyed.reserve(rows);
             }
             Storage::Listed(list) => {
                 return list.reserve(rows.saturating_sub(list.len()));
@@ -112,8 +108,8 @@ impl<H: KeyHash<Key> + Copy> Table<H> {
         }
     }
 
-    /// The rows, each once; those under keys in the order of the slots.
-    pub fn rows(&self) -> RowCursor<'_, H>
+    /// The rows, each once.
+    pub fn rows(&self) -> RowCursor<'_>
         ensures rows { result.rest ≡ self.now.rows }
         ensures standing { IsStanding self.now }
     {
@@ -154,8 +150,8 @@ impl<H: KeyHash<Key> + Copy> Table<H> {
     {
         let most = limits.bounds.rows;
         match &mut self.rows {
-            Storage::Keyed(map) => {
-                return put_keyed(self.alloc, map, self.schema.key(), row, most);
+            Storage::Keyed(rows) => {
+                return rows.put(self.alloc, self.schema.key(), row, most);
             }
             Storage::Listed(rows) => {
                 return put_listed(self.alloc, rows, row, most);
@@ -176,11 +172,11 @@ impl<H: KeyHash<Key> + Copy> Table<H> {
         let rows = staged.into_rows();
         let most = limits.bounds.rows;
         match &mut self.rows {
-            Storage::Keyed(map) => {
+            Storage::Keyed(keyed) => {
                 let Storage::Keyed(staged) = rows else {
                     unreachable!()
                 };
-                return load_keyed(map, self.schema.key(), staged, most);
+                return keyed.load(self.alloc, self.schema.key(), staged, most);
             }
             Storage::Listed(list) => {
                 let Storage::Listed(staged) = rows else {
@@ -207,17 +203,10 @@ impl<H: KeyHash<Key> + Copy> Table<H> {
         ensures answer { result ≡ has_row self.old.heading.key self.old.rows (named_key key.now) }
     {
         match &mut self.rows {
-            Storage::Keyed(map) => delete_keyed(map, self.schema.key(), key),
+            Storage::Keyed(rows) => rows.delete(self.schema.key(), key),
             Storage::Listed(_) => unreachable!(),
         }
     }
-}
-
-fn count_keyed<H: KeyHash<Key>>(map: &FlatMap<Key, Row, H>) -> usize
-    ensures { result ≡ length (rows_in map.now) }
-{
-    let _ = map.iter();
-    map.len()
 }
 
 // Puts a row at the end of a list, where no more than `most` rows then stand there. Its texts move, and
@@ -238,10 +227,7 @@ fn put_listed(
     if most <= rows.len() {
         return Err(TableRefusal::Limit);
     }
-    let mut cells = row_out(alloc, row).into_cells();
-    let pushed = rows.push(alloc, cells.as_mut_slice());
-    *row = Row::new(cells);
-    match pushed {
+    match rows.push(alloc, row.cells_mut()) {
         Ok(()) => Ok(()),
         Err(_) => Err(TableRefusal::Memory),
     }

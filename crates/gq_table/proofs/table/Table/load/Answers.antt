@@ -1,34 +1,39 @@
-use Rattle.std.proofs.Common.{◌≡◌, ◌<◌, IsTrue, length, refl, sym, ap, subst, ◌∙◌, None}
+use Rattle.std.proofs.Common.{◌≡◌, ◌<◌, All, IsTrue, length, refl, sym, ap, subst, ◌∙◌, None}
 use Rattle.std.specs.Prelude.{OnOk, OnErr, IfErr}
-use Rattle.gq_row.specs.Headings.{Heading}
-use Rattle.gq_row.specs.Tables.{PlainTable, keys_differ}
-use Rattle.gq_row.proofs.FittingLemmas.{each_as_long}
+use Rattle.gq_row.specs.Tables.{PlainTable}
+use Rattle.gq_row.proofs.FittingLemmas.{all_as_long, each_as_long}
 use Rattle.gq_table.specs.Changes.{IsLoaded}
-use Rattle.gq_table.specs.Keyed.{OwnKeys, by_key, rows_in}
+use Rattle.gq_table.specs.Keyed.{OwnKeys, AreApart}
 use Rattle.gq_table.specs.Refusing.{load_refusal, WhyNotLoaded}
 use Rattle.gq_table.specs.Stored.{IsStored, rows_of}
-use Rattle.gq_table.specs.declared.rows.Storage.TheVariants.{Listed}
-use Rattle.gq_table.proofs.StandingLemmas.{table, rows_limit}
-use Rattle.gq_table.proofs.StoredLemmas.{loaded_keyed, loaded_listed, keyed_own, keyed_some, staged_fit, IsListed, LoadKeyed, LoadListed}
+use Rattle.gq_table.specs.declared.rows.Storage.TheVariants.{Keyed, Listed}
+use Rattle.gq_table.proofs.StandingLemmas.{table, keys_in_range, rows_limit}
+use Rattle.gq_table.proofs.StoredLemmas.{apart_of, loaded_keyed, loaded_listed, keyed_own, keyed_some, staged_fit, IsListed, LoadKeyed, LoadListed}
 use Rattle.gq_table.proofs.table.Table.load.Goals as goal
 
-pub load_keyed-requires : goal.load_keyed-requires
-load_keyed-requires g c =
-    let stored = (subst (IsStored c.self.inside.schema) c.in-Keyed.is c.self.invariant) in
+pub load-requires : goal.load-requires
+load-requires g c =
+    let stored = subst (IsStored c.self.inside.schema) c.in-Keyed.is c.self.invariant in
+    let staged = subst (IsStored c.args.staged.heading) c.in-Keyed-rows.is c.into_rows-rows.ensures.stored in
+    let same : c.args.staged.heading ≡ c.self.inside.schema = c.requires ∙ sym (ap (λ (t : PlainTable). t.heading) c.self.view_is) in
+    let mine : IsStored c.self.inside.schema (Keyed c.in-Keyed-rows.staged) = subst (λ h. IsStored h (Keyed c.in-Keyed-rows.staged)) same staged in
+    let key = c.self.inside.schema.key in
+    let some = keyed_some key c.in-Keyed.keyed stored.placed in
     record {
-      keyed = subst (λ k. 0 < length k) (sym c.key.ensures.positions) (keyed_some c.self.inside.schema.key c.in-Keyed.map stored.placed);
-      own = subst (λ k. OwnKeys k (by_key c.in-Keyed.map)) (sym c.key.ensures.positions) (keyed_own c.self.inside.schema.key c.in-Keyed.map stored.placed);
-      mine = subst (λ k. OwnKeys k (by_key c.in-Keyed-rows.staged)) (ap (λ (h : Heading). h.key) (c.requires ∙ sym (ap (λ (t : PlainTable). t.heading) c.self.view_is)) ∙ sym c.key.ensures.positions)
-          (keyed_own c.args.staged.heading.key c.in-Keyed-rows.staged (subst (IsStored c.args.staged.heading) c.in-Keyed-rows.is c.into_rows-rows.ensures.stored).placed);
-      differ = subst (λ k. IsTrue (keys_differ k (rows_in c.in-Keyed.map))) (sym c.key.ensures.positions) stored.standing.keyed;
+      columns = subst (λ k. All (λ row. All (λ position. position < length row) k) c.in-Keyed-rows.staged.rows) (sym c.key.ensures.positions) (keys_in_range c.self.inside.schema c.in-Keyed-rows.staged.rows c.key.ensures.heading mine.standing.fitting);
+      even = (length c.self.inside.schema.columns, all_as_long c.self.inside.schema.columns c.in-Keyed.keyed.rows (length c.self.inside.schema.columns) stored.standing.fitting refl, all_as_long c.self.inside.schema.columns c.in-Keyed-rows.staged.rows (length c.self.inside.schema.columns) mine.standing.fitting refl);
+      own = subst (λ k. OwnKeys k c.in-Keyed.keyed) (sym c.key.ensures.positions) (keyed_own key c.in-Keyed.keyed stored.placed);
+      mine = subst (λ k. OwnKeys k c.in-Keyed-rows.staged) (sym c.key.ensures.positions) (keyed_own key c.in-Keyed-rows.staged mine.placed);
+      apart = subst (λ k. IsTrue (AreApart k c.in-Keyed.keyed.rows)) (sym c.key.ensures.positions) (apart_of key c.in-Keyed.keyed.rows some stored.standing.keyed);
+      all_apart = subst (λ k. IsTrue (AreApart k c.in-Keyed-rows.staged.rows)) (sym c.key.ensures.positions) (apart_of key c.in-Keyed-rows.staged.rows some mine.standing.keyed);
       few = rows_limit c.args.limits.now.bounds c.args.limits.now.in_range;
     }
 
 pub invariant_of-self : goal.invariant_of-self
 invariant_of-self g c =
     (loaded_keyed c.args.limits.now.bounds c.args.limits.now.in_range c.self.inside.schema c.args.staged.rows (staged_fit c.self.inside.schema c.args.staged.heading c.into_rows-rows.result c.args.staged.rows (c.requires ∙ sym (ap (λ (t : PlainTable). t.heading) c.self.view_is)) c.into_rows-rows.ensures.stored c.into_rows-rows.ensures.rows)
-    c.in-Keyed.map c.load_keyed.new.map c.load_keyed.result c.key.result.now c.key.ensures.positions (subst (IsStored c.self.inside.schema) c.in-Keyed.is c.self.invariant)
-    (subst (λ l. LoadKeyed c.args.limits.now.bounds.rows l c.in-Keyed.map c.load_keyed.new.map c.load_keyed.result c.key.result.now) (ap rows_of (sym c.in-Keyed-rows.is) ∙ c.into_rows-rows.ensures.rows) (record { own = c.load_keyed.ensures.own; ok = c.load_keyed.ensures.ok; few = c.load_keyed.ensures.few; err = c.load_keyed.ensures.err; why = c.load_keyed.ensures.why }))).stored
+    c.in-Keyed.keyed c.load.new.self c.load.result c.key.result.now c.key.ensures.positions (subst (IsStored c.self.inside.schema) c.in-Keyed.is c.self.invariant)
+    (subst (λ l. LoadKeyed c.args.limits.now.bounds.rows l c.in-Keyed.keyed c.load.new.self c.load.result c.key.result.now) (ap rows_of (sym c.in-Keyed-rows.is) ∙ c.into_rows-rows.ensures.rows) (record { own = c.load.ensures.own; ok = c.load.ensures.ok; few = c.load.ensures.few; err = c.load.ensures.err; why = c.load.ensures.why }))).stored
 
 pub invariant_of-self-in-Listed : goal.invariant_of-self-in-Listed
 invariant_of-self-in-Listed g c =
@@ -40,31 +45,31 @@ invariant_of-self-in-Listed g c =
 
 pub returns-in-Keyed-clause-ok : goal.returns-in-Keyed-clause-ok
 returns-in-Keyed-clause-ok g c =
-    subst (λ t. OnOk c.load_keyed.result (IsLoaded t c.args.staged.rows (table c.self.inside.schema (rows_in c.load_keyed.new.map)))) (ap (λ r. table c.self.inside.schema (rows_of r)) (sym c.in-Keyed.is) ∙ c.self.view_is)
+    subst (λ t. OnOk c.load.result (IsLoaded t c.args.staged.rows (table c.self.inside.schema c.load.new.self.rows))) (ap (λ r. table c.self.inside.schema (rows_of r)) (sym c.in-Keyed.is) ∙ c.self.view_is)
     (loaded_keyed c.args.limits.now.bounds c.args.limits.now.in_range c.self.inside.schema c.args.staged.rows (staged_fit c.self.inside.schema c.args.staged.heading c.into_rows-rows.result c.args.staged.rows (c.requires ∙ sym (ap (λ (t : PlainTable). t.heading) c.self.view_is)) c.into_rows-rows.ensures.stored c.into_rows-rows.ensures.rows)
-    c.in-Keyed.map c.load_keyed.new.map c.load_keyed.result c.key.result.now c.key.ensures.positions (subst (IsStored c.self.inside.schema) c.in-Keyed.is c.self.invariant)
-    (subst (λ l. LoadKeyed c.args.limits.now.bounds.rows l c.in-Keyed.map c.load_keyed.new.map c.load_keyed.result c.key.result.now) (ap rows_of (sym c.in-Keyed-rows.is) ∙ c.into_rows-rows.ensures.rows) (record { own = c.load_keyed.ensures.own; ok = c.load_keyed.ensures.ok; few = c.load_keyed.ensures.few; err = c.load_keyed.ensures.err; why = c.load_keyed.ensures.why }))).ok
+    c.in-Keyed.keyed c.load.new.self c.load.result c.key.result.now c.key.ensures.positions (subst (IsStored c.self.inside.schema) c.in-Keyed.is c.self.invariant)
+    (subst (λ l. LoadKeyed c.args.limits.now.bounds.rows l c.in-Keyed.keyed c.load.new.self c.load.result c.key.result.now) (ap rows_of (sym c.in-Keyed-rows.is) ∙ c.into_rows-rows.ensures.rows) (record { own = c.load.ensures.own; ok = c.load.ensures.ok; few = c.load.ensures.few; err = c.load.ensures.err; why = c.load.ensures.why }))).ok
 
 pub returns-in-Keyed-clause-taken : goal.returns-in-Keyed-clause-taken
 returns-in-Keyed-clause-taken g c =
-    subst (λ t. OnOk c.load_keyed.result (load_refusal c.args.limits.now.bounds t c.args.staged.rows ≡ None)) (ap (λ r. table c.self.inside.schema (rows_of r)) (sym c.in-Keyed.is) ∙ c.self.view_is)
+    subst (λ t. OnOk c.load.result (load_refusal c.args.limits.now.bounds t c.args.staged.rows ≡ None)) (ap (λ r. table c.self.inside.schema (rows_of r)) (sym c.in-Keyed.is) ∙ c.self.view_is)
     (loaded_keyed c.args.limits.now.bounds c.args.limits.now.in_range c.self.inside.schema c.args.staged.rows (staged_fit c.self.inside.schema c.args.staged.heading c.into_rows-rows.result c.args.staged.rows (c.requires ∙ sym (ap (λ (t : PlainTable). t.heading) c.self.view_is)) c.into_rows-rows.ensures.stored c.into_rows-rows.ensures.rows)
-    c.in-Keyed.map c.load_keyed.new.map c.load_keyed.result c.key.result.now c.key.ensures.positions (subst (IsStored c.self.inside.schema) c.in-Keyed.is c.self.invariant)
-    (subst (λ l. LoadKeyed c.args.limits.now.bounds.rows l c.in-Keyed.map c.load_keyed.new.map c.load_keyed.result c.key.result.now) (ap rows_of (sym c.in-Keyed-rows.is) ∙ c.into_rows-rows.ensures.rows) (record { own = c.load_keyed.ensures.own; ok = c.load_keyed.ensures.ok; few = c.load_keyed.ensures.few; err = c.load_keyed.ensures.err; why = c.load_keyed.ensures.why }))).taken
+    c.in-Keyed.keyed c.load.new.self c.load.result c.key.result.now c.key.ensures.positions (subst (IsStored c.self.inside.schema) c.in-Keyed.is c.self.invariant)
+    (subst (λ l. LoadKeyed c.args.limits.now.bounds.rows l c.in-Keyed.keyed c.load.new.self c.load.result c.key.result.now) (ap rows_of (sym c.in-Keyed-rows.is) ∙ c.into_rows-rows.ensures.rows) (record { own = c.load.ensures.own; ok = c.load.ensures.ok; few = c.load.ensures.few; err = c.load.ensures.err; why = c.load.ensures.why }))).taken
 
 pub returns-in-Keyed-clause-refused : goal.returns-in-Keyed-clause-refused
 returns-in-Keyed-clause-refused g c =
-    subst (λ t. IfErr c.load_keyed.result (WhyNotLoaded c.args.limits.now.bounds t c.args.staged.rows)) (ap (λ r. table c.self.inside.schema (rows_of r)) (sym c.in-Keyed.is) ∙ c.self.view_is)
+    subst (λ t. IfErr c.load.result (WhyNotLoaded c.args.limits.now.bounds t c.args.staged.rows)) (ap (λ r. table c.self.inside.schema (rows_of r)) (sym c.in-Keyed.is) ∙ c.self.view_is)
     (loaded_keyed c.args.limits.now.bounds c.args.limits.now.in_range c.self.inside.schema c.args.staged.rows (staged_fit c.self.inside.schema c.args.staged.heading c.into_rows-rows.result c.args.staged.rows (c.requires ∙ sym (ap (λ (t : PlainTable). t.heading) c.self.view_is)) c.into_rows-rows.ensures.stored c.into_rows-rows.ensures.rows)
-    c.in-Keyed.map c.load_keyed.new.map c.load_keyed.result c.key.result.now c.key.ensures.positions (subst (IsStored c.self.inside.schema) c.in-Keyed.is c.self.invariant)
-    (subst (λ l. LoadKeyed c.args.limits.now.bounds.rows l c.in-Keyed.map c.load_keyed.new.map c.load_keyed.result c.key.result.now) (ap rows_of (sym c.in-Keyed-rows.is) ∙ c.into_rows-rows.ensures.rows) (record { own = c.load_keyed.ensures.own; ok = c.load_keyed.ensures.ok; few = c.load_keyed.ensures.few; err = c.load_keyed.ensures.err; why = c.load_keyed.ensures.why }))).refused
+    c.in-Keyed.keyed c.load.new.self c.load.result c.key.result.now c.key.ensures.positions (subst (IsStored c.self.inside.schema) c.in-Keyed.is c.self.invariant)
+    (subst (λ l. LoadKeyed c.args.limits.now.bounds.rows l c.in-Keyed.keyed c.load.new.self c.load.result c.key.result.now) (ap rows_of (sym c.in-Keyed-rows.is) ∙ c.into_rows-rows.ensures.rows) (record { own = c.load.ensures.own; ok = c.load.ensures.ok; few = c.load.ensures.few; err = c.load.ensures.err; why = c.load.ensures.why }))).refused
 
 pub returns-in-Keyed-clause-unchanged : goal.returns-in-Keyed-clause-unchanged
 returns-in-Keyed-clause-unchanged g c =
-    subst (λ t. OnErr c.load_keyed.result ((table c.self.inside.schema (rows_in c.load_keyed.new.map)) ≡ t)) (ap (λ r. table c.self.inside.schema (rows_of r)) (sym c.in-Keyed.is) ∙ c.self.view_is)
+    subst (λ t. OnErr c.load.result ((table c.self.inside.schema c.load.new.self.rows) ≡ t)) (ap (λ r. table c.self.inside.schema (rows_of r)) (sym c.in-Keyed.is) ∙ c.self.view_is)
     (loaded_keyed c.args.limits.now.bounds c.args.limits.now.in_range c.self.inside.schema c.args.staged.rows (staged_fit c.self.inside.schema c.args.staged.heading c.into_rows-rows.result c.args.staged.rows (c.requires ∙ sym (ap (λ (t : PlainTable). t.heading) c.self.view_is)) c.into_rows-rows.ensures.stored c.into_rows-rows.ensures.rows)
-    c.in-Keyed.map c.load_keyed.new.map c.load_keyed.result c.key.result.now c.key.ensures.positions (subst (IsStored c.self.inside.schema) c.in-Keyed.is c.self.invariant)
-    (subst (λ l. LoadKeyed c.args.limits.now.bounds.rows l c.in-Keyed.map c.load_keyed.new.map c.load_keyed.result c.key.result.now) (ap rows_of (sym c.in-Keyed-rows.is) ∙ c.into_rows-rows.ensures.rows) (record { own = c.load_keyed.ensures.own; ok = c.load_keyed.ensures.ok; few = c.load_keyed.ensures.few; err = c.load_keyed.ensures.err; why = c.load_keyed.ensures.why }))).unchanged
+    c.in-Keyed.keyed c.load.new.self c.load.result c.key.result.now c.key.ensures.positions (subst (IsStored c.self.inside.schema) c.in-Keyed.is c.self.invariant)
+    (subst (λ l. LoadKeyed c.args.limits.now.bounds.rows l c.in-Keyed.keyed c.load.new.self c.load.result c.key.result.now) (ap rows_of (sym c.in-Keyed-rows.is) ∙ c.into_rows-rows.ensures.rows) (record { own = c.load.ensures.own; ok = c.load.ensures.ok; few = c.load.ensures.few; err = c.load.ensures.err; why = c.load.ensures.why }))).unchanged
 
 pub returns-in-Listed-clause-ok : goal.returns-in-Listed-clause-ok
 returns-in-Listed-clause-ok g c =

@@ -1,23 +1,26 @@
-use Rattle.std.proofs.Common.{◌≡◌, ◌<◌, All, length, true, false, sym, ap, subst, ◌∙◌, None, arith}
+use Rattle.std.proofs.Common.{◌≡◌, ◌<◌, All, IsTrue, length, true, false, sym, ap, subst, ◌∙◌, None, arith}
 use Rattle.std.specs.Prelude.{OnOk, OnErr, IfErr}
 use Rattle.std.proofs.lemmas.Grind.{common_steps}
 use Rattle.gq_row.specs.Fitting.{fits_columns, has_null}
 use Rattle.gq_row.proofs.FittingLemmas.{all_as_long, as_long}
 use Rattle.gq_table.specs.Changes.{IsPut}
-use Rattle.gq_table.specs.Keyed.{OwnKeys, by_key, rows_in}
+use Rattle.gq_table.specs.Keyed.{OwnKeys, AreApart}
 use Rattle.gq_table.specs.Refusing.{row_refusal, WhyNotPut}
 use Rattle.gq_table.specs.Stored.{IsStored, rows_of}
 use Rattle.gq_table.specs.declared.rows.Storage.TheVariants.{Listed}
 use Rattle.gq_table.proofs.StandingLemmas.{table, key_in_range}
-use Rattle.gq_table.proofs.StoredLemmas.{upserted_keyed, upserted_listed, keyed_own, IsListed, PutListed}
+use Rattle.gq_table.proofs.StoredLemmas.{apart_of, upserted_keyed, upserted_listed, keyed_own, keyed_some, IsListed, PutListed}
 use Rattle.gq_table.proofs.table.Table.put.Goals as goal
 
-pub put_keyed-requires : goal.put_keyed-requires
-put_keyed-requires g c =
+pub put-requires : goal.put-requires
+put-requires g c =
     let stored = (subst (IsStored c.self.inside.schema) c.in-Keyed.is c.self.invariant) in
+    let fits = subst (λ t. fits_columns t.heading.columns c.args.row.now ≡ true) (sym c.self.view_is) c.requires.fits in
     record {
-      columns = subst (All (λ position. position < length c.args.row.now)) (sym c.key.ensures.positions) (key_in_range c.self.inside.schema c.args.row.now c.key.ensures.heading (subst (λ t. fits_columns t.heading.columns c.args.row.now ≡ true) (sym c.self.view_is) c.requires.fits));
-      own = subst (λ k. OwnKeys k (by_key c.in-Keyed.map)) (sym c.key.ensures.positions) (keyed_own c.self.inside.schema.key c.in-Keyed.map stored.placed);
+      columns = subst (All (λ position. position < length c.args.row.now)) (sym c.key.ensures.positions) (key_in_range c.self.inside.schema c.args.row.now c.key.ensures.heading fits);
+      even = all_as_long c.self.inside.schema.columns c.in-Keyed.rows.rows (length c.args.row.now) stored.standing.fitting (as_long c.self.inside.schema.columns c.args.row.now fits);
+      own = subst (λ k. OwnKeys k c.in-Keyed.rows) (sym c.key.ensures.positions) (keyed_own c.self.inside.schema.key c.in-Keyed.rows stored.placed);
+      apart = subst (λ k. IsTrue (AreApart k c.in-Keyed.rows.rows)) (sym c.key.ensures.positions) (apart_of c.self.inside.schema.key c.in-Keyed.rows.rows (keyed_some c.self.inside.schema.key c.in-Keyed.rows stored.placed) stored.standing.keyed);
     }
 
 pub put_listed-requires : goal.put_listed-requires
@@ -29,8 +32,8 @@ put_listed-requires g c =
 pub invariant_of-self : goal.invariant_of-self
 invariant_of-self g c =
     (upserted_keyed c.args.limits.now.bounds c.args.limits.now.in_range c.self.inside.schema c.args.row.now (subst (λ t. fits_columns t.heading.columns c.args.row.now ≡ true) (sym c.self.view_is) c.requires.fits) (subst (λ t. has_null t.heading.key c.args.row.now ≡ false) (sym c.self.view_is) c.requires.keyed)
-    c.in-Keyed.map c.put_keyed.new.map c.put_keyed.result c.key.result.now c.key.ensures.positions (subst (IsStored c.self.inside.schema) c.in-Keyed.is c.self.invariant)
-    (record { own = c.put_keyed.ensures.own; ok = c.put_keyed.ensures.ok; few = c.put_keyed.ensures.few; err = c.put_keyed.ensures.err; why = c.put_keyed.ensures.why })).stored
+    c.in-Keyed.rows c.put.new.self c.put.result c.key.result.now c.key.ensures.positions (subst (IsStored c.self.inside.schema) c.in-Keyed.is c.self.invariant)
+    (record { own = c.put.ensures.own; ok = c.put.ensures.ok; few = c.put.ensures.few; err = c.put.ensures.err; why = c.put.ensures.why })).stored
 
 pub invariant_of-self-in-Listed : goal.invariant_of-self-in-Listed
 invariant_of-self-in-Listed g c =
@@ -41,31 +44,31 @@ invariant_of-self-in-Listed g c =
 
 pub returns-in-Keyed-clause-ok : goal.returns-in-Keyed-clause-ok
 returns-in-Keyed-clause-ok g c =
-    subst (λ t. OnOk c.put_keyed.result (IsPut t c.args.row.now (table c.self.inside.schema (rows_in c.put_keyed.new.map)))) (ap (λ r. table c.self.inside.schema (rows_of r)) (sym c.in-Keyed.is) ∙ c.self.view_is)
+    subst (λ t. OnOk c.put.result (IsPut t c.args.row.now (table c.self.inside.schema c.put.new.self.rows))) (ap (λ r. table c.self.inside.schema (rows_of r)) (sym c.in-Keyed.is) ∙ c.self.view_is)
     (upserted_keyed c.args.limits.now.bounds c.args.limits.now.in_range c.self.inside.schema c.args.row.now (subst (λ t. fits_columns t.heading.columns c.args.row.now ≡ true) (sym c.self.view_is) c.requires.fits) (subst (λ t. has_null t.heading.key c.args.row.now ≡ false) (sym c.self.view_is) c.requires.keyed)
-    c.in-Keyed.map c.put_keyed.new.map c.put_keyed.result c.key.result.now c.key.ensures.positions (subst (IsStored c.self.inside.schema) c.in-Keyed.is c.self.invariant)
-    (record { own = c.put_keyed.ensures.own; ok = c.put_keyed.ensures.ok; few = c.put_keyed.ensures.few; err = c.put_keyed.ensures.err; why = c.put_keyed.ensures.why })).ok
+    c.in-Keyed.rows c.put.new.self c.put.result c.key.result.now c.key.ensures.positions (subst (IsStored c.self.inside.schema) c.in-Keyed.is c.self.invariant)
+    (record { own = c.put.ensures.own; ok = c.put.ensures.ok; few = c.put.ensures.few; err = c.put.ensures.err; why = c.put.ensures.why })).ok
 
 pub returns-in-Keyed-clause-taken : goal.returns-in-Keyed-clause-taken
 returns-in-Keyed-clause-taken g c =
-    subst (λ t. OnOk c.put_keyed.result (row_refusal c.args.limits.now.bounds t c.args.row.now ≡ None)) (ap (λ r. table c.self.inside.schema (rows_of r)) (sym c.in-Keyed.is) ∙ c.self.view_is)
+    subst (λ t. OnOk c.put.result (row_refusal c.args.limits.now.bounds t c.args.row.now ≡ None)) (ap (λ r. table c.self.inside.schema (rows_of r)) (sym c.in-Keyed.is) ∙ c.self.view_is)
     (upserted_keyed c.args.limits.now.bounds c.args.limits.now.in_range c.self.inside.schema c.args.row.now (subst (λ t. fits_columns t.heading.columns c.args.row.now ≡ true) (sym c.self.view_is) c.requires.fits) (subst (λ t. has_null t.heading.key c.args.row.now ≡ false) (sym c.self.view_is) c.requires.keyed)
-    c.in-Keyed.map c.put_keyed.new.map c.put_keyed.result c.key.result.now c.key.ensures.positions (subst (IsStored c.self.inside.schema) c.in-Keyed.is c.self.invariant)
-    (record { own = c.put_keyed.ensures.own; ok = c.put_keyed.ensures.ok; few = c.put_keyed.ensures.few; err = c.put_keyed.ensures.err; why = c.put_keyed.ensures.why })).taken
+    c.in-Keyed.rows c.put.new.self c.put.result c.key.result.now c.key.ensures.positions (subst (IsStored c.self.inside.schema) c.in-Keyed.is c.self.invariant)
+    (record { own = c.put.ensures.own; ok = c.put.ensures.ok; few = c.put.ensures.few; err = c.put.ensures.err; why = c.put.ensures.why })).taken
 
 pub returns-in-Keyed-clause-refused : goal.returns-in-Keyed-clause-refused
 returns-in-Keyed-clause-refused g c =
-    subst (λ t. IfErr c.put_keyed.result (WhyNotPut c.args.limits.now.bounds t c.args.row.now)) (ap (λ r. table c.self.inside.schema (rows_of r)) (sym c.in-Keyed.is) ∙ c.self.view_is)
+    subst (λ t. IfErr c.put.result (WhyNotPut c.args.limits.now.bounds t c.args.row.now)) (ap (λ r. table c.self.inside.schema (rows_of r)) (sym c.in-Keyed.is) ∙ c.self.view_is)
     (upserted_keyed c.args.limits.now.bounds c.args.limits.now.in_range c.self.inside.schema c.args.row.now (subst (λ t. fits_columns t.heading.columns c.args.row.now ≡ true) (sym c.self.view_is) c.requires.fits) (subst (λ t. has_null t.heading.key c.args.row.now ≡ false) (sym c.self.view_is) c.requires.keyed)
-    c.in-Keyed.map c.put_keyed.new.map c.put_keyed.result c.key.result.now c.key.ensures.positions (subst (IsStored c.self.inside.schema) c.in-Keyed.is c.self.invariant)
-    (record { own = c.put_keyed.ensures.own; ok = c.put_keyed.ensures.ok; few = c.put_keyed.ensures.few; err = c.put_keyed.ensures.err; why = c.put_keyed.ensures.why })).refused
+    c.in-Keyed.rows c.put.new.self c.put.result c.key.result.now c.key.ensures.positions (subst (IsStored c.self.inside.schema) c.in-Keyed.is c.self.invariant)
+    (record { own = c.put.ensures.own; ok = c.put.ensures.ok; few = c.put.ensures.few; err = c.put.ensures.err; why = c.put.ensures.why })).refused
 
 pub returns-in-Keyed-clause-unchanged : goal.returns-in-Keyed-clause-unchanged
 returns-in-Keyed-clause-unchanged g c =
-    subst (λ t. OnErr c.put_keyed.result ((table c.self.inside.schema (rows_in c.put_keyed.new.map)) ≡ t)) (ap (λ r. table c.self.inside.schema (rows_of r)) (sym c.in-Keyed.is) ∙ c.self.view_is)
+    subst (λ t. OnErr c.put.result ((table c.self.inside.schema c.put.new.self.rows) ≡ t)) (ap (λ r. table c.self.inside.schema (rows_of r)) (sym c.in-Keyed.is) ∙ c.self.view_is)
     (upserted_keyed c.args.limits.now.bounds c.args.limits.now.in_range c.self.inside.schema c.args.row.now (subst (λ t. fits_columns t.heading.columns c.args.row.now ≡ true) (sym c.self.view_is) c.requires.fits) (subst (λ t. has_null t.heading.key c.args.row.now ≡ false) (sym c.self.view_is) c.requires.keyed)
-    c.in-Keyed.map c.put_keyed.new.map c.put_keyed.result c.key.result.now c.key.ensures.positions (subst (IsStored c.self.inside.schema) c.in-Keyed.is c.self.invariant)
-    (record { own = c.put_keyed.ensures.own; ok = c.put_keyed.ensures.ok; few = c.put_keyed.ensures.few; err = c.put_keyed.ensures.err; why = c.put_keyed.ensures.why })).unchanged
+    c.in-Keyed.rows c.put.new.self c.put.result c.key.result.now c.key.ensures.positions (subst (IsStored c.self.inside.schema) c.in-Keyed.is c.self.invariant)
+    (record { own = c.put.ensures.own; ok = c.put.ensures.ok; few = c.put.ensures.few; err = c.put.ensures.err; why = c.put.ensures.why })).unchanged
 
 pub returns-in-Listed-clause-taken : goal.returns-in-Listed-clause-taken
 returns-in-Listed-clause-taken g c = grind (arith, common_steps)
