@@ -1,4 +1,4 @@
-use Rattle.std.proofs.Common.{ℕ, Bool, List, [], ◌∷◌, ◌++◌, Option, Result, Ok, Err, refl, subst, sym}
+use Rattle.std.proofs.Common.{Bool, [], ◌∷◌, ◌++◌, Option, Result, Ok, Err, refl, subst, sym}
 use Rattle.std.proofs.lemmas.Bool.{true≢false}
 use Rattle.std.specs.Prelude.{IfSome, IsErr}
 use Rattle.gq_row.specs.Limits.{GREATEST}
