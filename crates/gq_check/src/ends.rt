@@ -113,13 +113,21 @@ const FORMS: [(&[&str], &[&str]); 5] = [
     (&["group"], &OF_GROUP),
 ];
 
+/// Whether a word is one of these keywords, in whatever case.
+fn is_one_of(word: &[u8], keywords: &[&str]) -> bool {
+    for keyword in keywords {
+        if word.eq_ignore_ascii_case(keyword.as_bytes()) {
+            return true;
+        }
+    }
+    false
+}
+
 /// The ends of the fronts of the form that begins with this word; none where no form does.
 pub fn ends_of(first: &[u8]) -> &'static [&'static str] {
-    for (words, ends) in &FORMS {
-        for word in *words {
-            if first.eq_ignore_ascii_case(word.as_bytes()) {
-                return ends;
-            }
+    for (keywords, ends) in &FORMS {
+        if is_one_of(first, keywords) {
+            return ends;
         }
     }
     &[]

@@ -2,8 +2,8 @@
 use Rattle.std.proofs.Common.{◌≡◌, ℕ, zero, suc, ◌+◌, ◌<◌, true, false, cond, not, List, [], ◌∷◌, ◌++◌, length, map, fold, refl, sym, ap, subst, ◌∙◌, arith, true≢false, take, drop, drop-cons, All, add-one, drop-drop, drop-set-lt, take_all, drop_of_length-le, ◌≤◌, append_assoc, append-nil, count_by, length-append, length-set}
 use Rattle.std.specs.Prelude.{slice_set, slice_index_or, if◌then◌else◌}
 use Rattle.std.specs.List.{list_any}
-use Rattle.std.proofs.lemmas.Bool.{not-true, and_parts, or_parts, or_from}
-use Rattle.std.proofs.lemmas.List.{get_or_append_left, length-map, set-append_left}
+use Rattle.std.proofs.lemmas.Bool.{not-true, and_parts, and_from, or_parts, or_from}
+use Rattle.std.proofs.lemmas.List.{get_or_append_left, length-map}
 use Rattle.std.proofs.lemmas.List.Elements.{All-append, All-cons, All-head, All-nil, All-set, All-tail, All-take}
 use Rattle.std.proofs.lemmas.List.Folds.{list_any-append}
 use Rattle.std.proofs.lemmas.List.Sums.{sum_by-cons}
@@ -18,7 +18,7 @@ use Rattle.gq_row.specs.Repeats.{no_repeats}
 use Rattle.gq_row.specs.Rows.{key_of}
 use Rattle.gq_row.specs.Tables.{put_by_key, has_row}
 use Rattle.gq_row.specs.Classes.{class_of}
-use Rattle.gq_table.specs.Places.{AreEven, IsPlace, ArePlaces, IsThere, AreThere, AreStillThere, is_absent, with_place, without_place, with_placed}
+use Rattle.gq_table.specs.Places.{AreEven, IsPlace, ArePlaces, IsThere, AreThere, AreStillThere, is_absent, with_place, without_place}
 use Rattle.gq_table.proofs.GridLemmas.{left_next, left_there, one_more}
 use Rattle.gq_table.proofs.KeyedLemmas.{absent_lacked, any_at_none, found_there, has_at, has_keys, key_there, lacks_absent, length-keys, mapped_any, put_among, put_at, put_new, read_mapped, set_again}
 
@@ -52,45 +52,58 @@ module _ (key : List ℕ) where
       (list_any-append (λ r. same_key (key_of key r) (key_of key other)) rows (row ∷ []) ∙ or_from _ _ none.0 (or_from _ _ parts.0 refl), none_has_more rows more row none.1 parts.1)
 
   module _ (hash : List ℕ → ℕ) (rows : List Row) (differ : AreApart rows) where
+    -- a row that has a place goes there, whatever was added
+    put_there : (own more : List Row) (row : Row) (n : ℕ) → keys own ≡ keys rows → IsPlace key hash rows row (At n)
+        → (put_by_key key (own ++ more) row ≡ slice_set own n row ++ more) × (keys (slice_set own n row) ≡ keys rows)
+    put_there own more row n same is =
+        let long : length own ≡ length rows = length-keys key own ∙ ap length same ∙ sym (length-keys key rows) in
+        let within : n < length own = subst (λ m. n < m) (sym long) is.0 in
+        let there : key_of key (slice_index_or own n []) ≡ key_of key row = key_there key own rows n same ∙ is.1 in (
+          put_among key own more row (has_at key own (key_of key row) n within there) ∙ ap (λ l. l ++ more) (put_at key own row n within there (ap (no_repeats same_key) same ∙ differ)),
+          set_again (key_of key) own n row [] there ∙ same,
+        )
+
     placed_from : (own added new : List Row) (places : List Found) → keys own ≡ keys rows → NoneHas added new → AreApart new → ArePlaces key hash rows new places
-        → fold (put_by_key key) (own ++ added) new ≡ with_placed (own ++ (added ++ without_place new places)) new places
+        → fold (put_by_key key) (own ++ added) new ≡ fold (put_by_key key) (own ++ (added ++ without_place new places)) (with_place new places)
     unfolding NoneHas
     placed_from own added [] [] same none apart are = ap (λ l. own ++ l) (sym (append-nil added))
     placed_from own added [] (place ∷ places) same none apart are = absurd are
     placed_from own added (row ∷ new) [] same none apart are = absurd are
     placed_from own added (row ∷ new) (At n ∷ places) same none apart are =
-        let long : length own ≡ length rows = length-keys key own ∙ ap length same ∙ sym (length-keys key rows) in
-        let within : n < length own = subst (λ m. n < m) (sym long) are.0.0 in
-        let there : key_of key (slice_index_or own n []) ≡ key_of key row = key_there key own rows n same ∙ are.0.1 in
         let parts = and_parts (not (list_any (same_key (key_of key row)) (keys new))) (no_repeats same_key (keys new)) apart in
-        let placed = put_at key own row n within there (ap (no_repeats same_key) same ∙ differ) in
-        ap (λ l. fold (put_by_key key) l new) (put_among key own added row (has_at key own (key_of key row) n within there) ∙ ap (λ l. l ++ added) placed)
-        ∙ placed_from (slice_set own n row) added new places (set_again (key_of key) own n row [] there ∙ same) none.1 parts.1 are.1
-        ∙ ap (λ l. with_placed l new places) (sym (set-append_left own (added ++ without_place new places) n row within))
+        let put = put_there own added row n same are.0 in
+        ap (λ l. fold (put_by_key key) l new) put.0
+        ∙ placed_from (slice_set own n row) added new places put.1 none.1 parts.1 are.1
+        ∙ ap (λ l. fold (put_by_key key) l (with_place new places)) (sym (put_there own (added ++ without_place new places) row n same are.0).0)
     placed_from own added (row ∷ new) (Absent absence ∷ places) same none apart are =
         let parts = and_parts (not (list_any (same_key (key_of key row)) (keys new))) (no_repeats same_key (keys new)) apart in
         let lacks : has_row key own (key_of key row) ≡ false = has_keys key own (key_of key row) ∙ ap (list_any (λ l. same_key l (key_of key row))) same ∙ sym (has_keys key rows (key_of key row)) ∙ are.0.0 in
         ap (λ l. fold (put_by_key key) l new) (put_new key (own ++ added) row (list_any-append (λ r. same_key (key_of key r) (key_of key row)) own added ∙ or_from _ _ lacks none.0) ∙ append_assoc own added (row ∷ []))
         ∙ placed_from own (added ++ row ∷ []) new places same (none_has_more added new row none.1 (not-true _ parts.0)) parts.1 are.1
-        ∙ ap (λ l. with_placed (own ++ l) new places) (append_assoc added (row ∷ []) (without_place new places))
+        ∙ ap (λ l. fold (put_by_key key) (own ++ l) (with_place new places)) (append_assoc added (row ∷ []) (without_place new places))
 
-    -- rows that are put one after the other are those that have a place, each in its own, and the others behind all
+    -- rows may be put one after the other, or first those that have no place and then those that have one
     pub placed : (new : List Row) (places : List Found) → AreApart new → ArePlaces key hash rows new places
-        → fold (put_by_key key) rows new ≡ with_placed (rows ++ without_place new places) new places
+        → fold (put_by_key key) rows new ≡ fold (put_by_key key) (rows ++ without_place new places) (with_place new places)
     placed new places apart are = ap (λ l. fold (put_by_key key) l new) (sym (append-nil rows)) ∙ placed_from rows [] new places refl (none_has new) apart are
+
+    -- those that have a place add none
+    length-there : (own more new : List Row) (places : List Found) → keys own ≡ keys rows → ArePlaces key hash rows new places
+        → length (fold (put_by_key key) (own ++ more) (with_place new places)) ≡ length own + length more
+    length-there own more [] [] same are = length-append own more
+    length-there own more [] (place ∷ places) same are = absurd are
+    length-there own more (row ∷ new) [] same are = absurd are
+    length-there own more (row ∷ new) (At n ∷ places) same are =
+        let put = put_there own more row n same are.0 in
+        ap (λ (l : List Row). length (fold (put_by_key key) l (with_place new places))) put.0 ∙ length-there (slice_set own n row) more new places put.1 are.1 ∙ ap (λ m. m + length more) (length-set own n row)
+    length-there own more (row ∷ new) (Absent absence ∷ places) same are = length-there own more new places same are.1
 
     pub length-placed : (new : List Row) (places : List Found) → AreApart new → ArePlaces key hash rows new places
         → length (fold (put_by_key key) rows new) ≡ length rows + count_by is_absent places
-    length-placed new places apart are = ap length (placed new places apart are) ∙ length-with (rows ++ without_place new places) new places ∙ length-append rows (without_place new places) ∙ ap (λ n. length rows + n) (length-without new places are)
+    length-placed new places apart are = ap length (placed new places apart are) ∙ length-there rows (without_place new places) new places refl are ∙ ap (λ n. length rows + n) (length-without new places are)
       where
         counted : (p : Found) (ps : List Found) → count_by is_absent (p ∷ ps) ≡ cond (is_absent p) 1 0 + count_by is_absent ps
         counted p ps = sum_by-cons (λ q. cond (is_absent q) 1 0) p ps
-
-        length-with : (l more : List Row) (ps : List Found) → length (with_placed l more ps) ≡ length l
-        length-with l [] ps = refl
-        length-with l (x ∷ more) [] = refl
-        length-with l (x ∷ more) (At n ∷ ps) = length-with (slice_set l n x) more ps ∙ length-set l n x
-        length-with l (x ∷ more) (Absent a ∷ ps) = length-with l more ps
 
         length-without : (more : List Row) (ps : List Found) → ArePlaces key hash rows more ps → length (without_place more ps) ≡ count_by is_absent ps
         length-without [] [] h = refl
@@ -98,6 +111,36 @@ module _ (key : List ℕ) where
         length-without (x ∷ more) [] h = absurd h
         length-without (x ∷ more) (At n ∷ ps) h = (let again = length-without more ps h.1 in let more_counted : count_by is_absent (At n ∷ ps) ≡ 0 + count_by is_absent ps = counted (At n) ps in omega arith)
         length-without (x ∷ more) (Absent a ∷ ps) h = (let again = length-without more ps h.1 in let more_counted : count_by is_absent (Absent a ∷ ps) ≡ 1 + count_by is_absent ps = counted (Absent a) ps in omega arith)
+
+    -- a row with a key of its own
+    apart_more : (own : List Row) (row : Row) → AreApart own → has_row key own (key_of key row) ≡ false → AreApart (own ++ row ∷ [])
+    apart_more [] row apart lacks = refl
+    apart_more (old ∷ own) row apart lacks =
+        let parts = and_parts (not (list_any (same_key (key_of key old)) (keys own))) (no_repeats same_key (keys own)) apart in
+        let others = or_parts (same_key (key_of key old) (key_of key row)) (has_row key own (key_of key row)) lacks in
+        let none : list_any (same_key (key_of key old)) (keys (own ++ row ∷ [])) ≡ false =
+        mapped_any (key_of key) (same_key (key_of key old)) (own ++ row ∷ []) ∙ list_any-append (λ r. same_key (key_of key old) (key_of key r)) own (row ∷ [])
+        ∙ or_from _ _ (sym (mapped_any (key_of key) (same_key (key_of key old)) own) ∙ not-true _ parts.0) (or_from _ _ others.0 refl) in
+        and_from (not (list_any (same_key (key_of key old)) (keys (own ++ row ∷ [])))) (no_repeats same_key (keys (own ++ row ∷ []))) (ap not none) (apart_more own row parts.1 others.1)
+
+    added_apart_from : (added new : List Row) (places : List Found) → AreApart (rows ++ added) → NoneHas added new → AreApart new → ArePlaces key hash rows new places → AreApart (rows ++ (added ++ without_place new places))
+    unfolding NoneHas
+    added_apart_from added [] [] own none apart are = ap (λ (l : List Row). no_repeats same_key (keys (rows ++ l))) (append-nil added) ∙ own
+    added_apart_from added [] (place ∷ places) own none apart are = absurd are
+    added_apart_from added (row ∷ new) [] own none apart are = absurd are
+    added_apart_from added (row ∷ new) (At n ∷ places) own none apart are =
+        let parts = and_parts (not (list_any (same_key (key_of key row)) (keys new))) (no_repeats same_key (keys new)) apart in
+        added_apart_from added new places own none.1 parts.1 are.1
+    added_apart_from added (row ∷ new) (Absent absence ∷ places) own none apart are =
+        let parts = and_parts (not (list_any (same_key (key_of key row)) (keys new))) (no_repeats same_key (keys new)) apart in
+        let lacks = list_any-append (λ r. same_key (key_of key r) (key_of key row)) rows added ∙ or_from _ _ are.0.0 none.0 in
+        let more = ap (λ (l : List Row). no_repeats same_key (keys l)) (sym (append_assoc rows added (row ∷ []))) ∙ apart_more (rows ++ added) row own lacks in
+        ap (λ (l : List Row). no_repeats same_key (keys (rows ++ l))) (sym (append_assoc added (row ∷ []) (without_place new places)))
+        ∙ added_apart_from (added ++ row ∷ []) new places more (none_has_more added new row none.1 (not-true _ parts.0)) parts.1 are.1
+
+    -- the rows with those that have no place have keys of their own
+    pub added_apart : (new : List Row) (places : List Found) → AreApart new → ArePlaces key hash rows new places → AreApart (rows ++ without_place new places)
+    added_apart new places apart are = added_apart_from [] new places (ap (λ (l : List Row). no_repeats same_key (keys l)) (append-nil rows) ∙ differ) (none_has new) apart are
 
 -- ---- places, one by one
 
@@ -189,17 +232,6 @@ list_first x y xs ys e = ap (λ l. slice_index_or l 0 x) e
 list_rest : {X : Type 0} (x y : X) (xs ys : List X) → x ∷ xs ≡ y ∷ ys → xs ≡ ys
 list_rest x y xs ys e = ap (drop 1) e
 
--- only the rows that have a place come into it
-pub placed_still : (rows now old : List Row) (places : List Found) → AreStillThere now old places → with_placed rows now places ≡ with_placed rows old places
-placed_still rows [] [] places h = refl
-placed_still rows [] (row ∷ old) places h = absurd (let e = ap (λ (l : List ℕ). length l) h.0 in omega arith)
-placed_still rows (now ∷ more) [] places h = absurd (let e = ap (λ (l : List ℕ). length l) h.0 in omega arith)
-placed_still rows (now ∷ more) (row ∷ old) [] h = refl
-placed_still rows (now ∷ more) (row ∷ old) (At n ∷ places) h =
-    ap (λ r. with_placed (slice_set rows n r) more places) (list_first now row (with_place more places) (with_place old places) h.1)
-    ∙ placed_still (slice_set rows n row) more old places (ap (drop 1) h.0, list_rest now row (with_place more places) (with_place old places) h.1)
-placed_still rows (now ∷ more) (row ∷ old) (Absent a ∷ places) h = placed_still rows more old places (ap (drop 1) h.0, h.1)
-
 -- where rows were placed among some, those stand among these and more
 pub there_still : (key : List ℕ) (hash : List ℕ → ℕ) (rows more now old : List Row) (places : List Found) → AreStillThere now old places → ArePlaces key hash rows old places → AreThere key (rows ++ more) now places
 there_still key hash rows more [] [] [] h are = tt
@@ -260,29 +292,34 @@ lacked_yet hash key rows new places i absence e within apart are is =
     let yet = none_yet hash key rows new places i [] (let h = within in omega arith) apart in
     (list_any-append (λ r. same_key (key_of key r) (key_of key (slice_index_or new i []))) rows (without_place (take i new) (take i places)) ∙ or_from _ _ place.0 yet, place.1)
 
--- where a row has a place, it goes there
-pub placed_next : (rows new : List Row) (places : List Found) (i n : ℕ) (e : Found) → i < length new → i < length places → slice_index_or places i e ≡ At n
-    → with_placed rows (drop i new) (drop i places) ≡ with_placed (slice_set rows n (slice_index_or new i [])) (drop (i + 1) new) (drop (i + 1) places)
-placed_next rows new places i n e in_new in_places is =
-    (λ z. with_placed rows (drop-cons new i [] in_new z) (drop-cons places i e in_places z))
-    ∙ ap (λ p. with_placed rows (slice_index_or new i [] ∷ drop (suc i) new) (p ∷ drop (suc i) places)) is
-    ∙ ap (λ m. with_placed (slice_set rows n (slice_index_or new i [])) (drop m new) (drop m places)) (sym (add-one i))
-
-pub placed_past : (rows new : List Row) (places : List Found) (i : ℕ) (e : Found) → i < length new → i < length places → is_absent (slice_index_or places i e) ≡ true
-    → with_placed rows (drop i new) (drop i places) ≡ with_placed rows (drop (i + 1) new) (drop (i + 1) places)
-placed_past rows new places i e in_new in_places is =
-    (λ z. with_placed rows (drop-cons new i [] in_new z) (drop-cons places i e in_places z))
-    ∙ past (slice_index_or places i e) is
-    ∙ ap (λ m. with_placed rows (drop m new) (drop m places)) (sym (add-one i))
+-- what is left of the rows that have a place
+left_to_place : (new : List Row) (places : List Found) (i : ℕ) (e : Found) → i < length new → i < length places
+    → with_place (drop i new) (drop i places) ≡ (if is_absent (slice_index_or places i e) then [] else slice_index_or new i [] ∷ []) ++ with_place (drop (i + 1) new) (drop (i + 1) places)
+left_to_place new places i e in_new in_places =
+    (λ z. with_place (drop-cons new i [] in_new z) (drop-cons places i e in_places z))
+    ∙ first (slice_index_or places i e)
+    ∙ ap (λ m. (if is_absent (slice_index_or places i e) then [] else slice_index_or new i [] ∷ []) ++ with_place (drop m new) (drop m places)) (sym (add-one i))
   where
-    past : (p : Found) → is_absent p ≡ true → with_placed rows (slice_index_or new i [] ∷ drop (suc i) new) (p ∷ drop (suc i) places) ≡ with_placed rows (drop (suc i) new) (drop (suc i) places)
-    past (At n) h = absurd (true≢false (sym h))
-    past (Absent a) h = refl
+    first : (p : Found) → with_place (slice_index_or new i [] ∷ drop (suc i) new) (p ∷ drop (suc i) places) ≡ (if is_absent p then [] else slice_index_or new i [] ∷ []) ++ with_place (drop (suc i) new) (drop (suc i) places)
+    first (At n) = refl
+    first (Absent a) = refl
 
-pub placed_all : (rows new : List Row) (places : List Found) (i : ℕ) → length places ≤ i → with_placed rows (drop i new) (drop i places) ≡ rows
-placed_all rows new places i over = ap (with_placed rows (drop i new)) (drop_of_length-le places over) ∙ ended (drop i new)
+-- the next has a place
+pub place_next : (new : List Row) (places : List Found) (i : ℕ) (e : Found) → i < length new → i < length places → is_absent (slice_index_or places i e) ≡ false
+    → with_place (drop i new) (drop i places) ≡ slice_index_or new i [] ∷ with_place (drop (i + 1) new) (drop (i + 1) places)
+place_next new places i e in_new in_places is =
+    left_to_place new places i e in_new in_places ∙ ap (λ b. (if b then [] else slice_index_or new i [] ∷ []) ++ with_place (drop (i + 1) new) (drop (i + 1) places)) is
+
+-- the next has none
+pub place_past : (new : List Row) (places : List Found) (i : ℕ) (e : Found) → i < length new → i < length places → is_absent (slice_index_or places i e) ≡ true
+    → with_place (drop i new) (drop i places) ≡ with_place (drop (i + 1) new) (drop (i + 1) places)
+place_past new places i e in_new in_places is =
+    left_to_place new places i e in_new in_places ∙ ap (λ b. (if b then [] else slice_index_or new i [] ∷ []) ++ with_place (drop (i + 1) new) (drop (i + 1) places)) is
+
+pub place_none : (new : List Row) (places : List Found) (i : ℕ) → length places ≤ i → with_place (drop i new) (drop i places) ≡ []
+place_none new places i over = ap (with_place (drop i new)) (drop_of_length-le places over) ∙ ended (drop i new)
   where
-    ended : (l : List Row) → with_placed rows l [] ≡ rows
+    ended : (l : List Row) → with_place l [] ≡ []
     ended [] = refl
     ended (x ∷ l) = refl
 
@@ -299,9 +336,9 @@ there_long key rows new places are = AllZip-long (IsThere key rows) new places a
 
 -- ---- rows that go to their places, one by one
 
--- after so many: what is left to place makes of these rows what all make of the first ones
+-- after so many: what is left to put makes of these rows what all make of the first ones
 pub record Placing (key : List ℕ) (first new : List Row) (places : List Found) (i : ℕ) (rows staged : List Row) : Type 0 where
-  pub placed : with_placed rows (drop i staged) (drop i places) ≡ with_placed first new places
+  pub put : fold (put_by_key key) rows (with_place (drop i staged) (drop i places)) ≡ fold (put_by_key key) first (with_place new places)
   pub keys : map (key_of key) rows ≡ map (key_of key) first
   pub left : drop i staged ≡ drop i new
   pub long : length staged ≡ length new
@@ -320,13 +357,14 @@ module _ (key : List ℕ) (first new : List Row) (places : List Found) (there : 
   pub as_long_there : (n : ℕ) (e : Found) → slice_index_or places i e ≡ At n → length (slice_index_or staged i []) ≡ length (slice_index_or rows n [])
   as_long_there n e is = so_far.even.2 i [] in_staged ∙ sym (so_far.even.1 n [] (found_in n e is).0)
 
-  pub placing_found : (n : ℕ) (e : Found) → slice_index_or places i e ≡ At n → Placing key first new places (i + 1) (slice_set rows n (slice_index_or staged i [])) (slice_set staged i (slice_index_or rows n []))
-  placing_found n e is =
+  pub placing_found : no_repeats same_key (map (key_of key) first) ≡ true → (n : ℕ) (e : Found) → slice_index_or places i e ≡ At n → Placing key first new places (i + 1) (slice_set rows n (slice_index_or staged i [])) (slice_set staged i (slice_index_or rows n []))
+  placing_found apart n e is =
       let found = found_in n e is in
       record {
-        placed =
-            ap (λ l. with_placed (slice_set rows n (slice_index_or staged i [])) l (drop (i + 1) places)) (drop-set-lt (i + 1) staged i (slice_index_or rows n []) (omega arith))
-            ∙ sym (placed_next rows staged places i n e in_staged within is) ∙ so_far.placed;
+        put =
+            ap (λ l. fold (put_by_key key) (slice_set rows n (slice_index_or staged i [])) (with_place l (drop (i + 1) places))) (drop-set-lt (i + 1) staged i (slice_index_or rows n []) (omega arith))
+            ∙ ap (λ l. fold (put_by_key key) l (with_place (drop (i + 1) staged) (drop (i + 1) places))) (sym (put_at key rows (slice_index_or staged i []) n found.0 found.1 (ap (no_repeats same_key) so_far.keys ∙ apart)))
+            ∙ ap (fold (put_by_key key) rows) (sym (place_next staged places i e in_staged within (ap is_absent is))) ∙ so_far.put;
         keys = set_again (key_of key) rows n (slice_index_or staged i []) [] found.1 ∙ so_far.keys;
         left = left_next staged new i (slice_index_or rows n []) so_far.left;
         long = length-set staged i (slice_index_or rows n []) ∙ so_far.long;
@@ -339,7 +377,7 @@ module _ (key : List ℕ) (first new : List Row) (places : List Found) (there : 
 
   pub placing_past : (e : Found) → is_absent (slice_index_or places i e) ≡ true → Placing key first new places (i + 1) rows staged
   placing_past e is = record {
-    placed = sym (placed_past rows staged places i e in_staged within is) ∙ so_far.placed;
+    put = ap (fold (put_by_key key) rows) (sym (place_past staged places i e in_staged within is)) ∙ so_far.put;
     keys = so_far.keys;
     left = left_on staged new i so_far.left;
     long = so_far.long;

@@ -1,5 +1,5 @@
 -- Where rows go among others: in the place of the row that has their key, or behind all.
-use Rattle.std.specs.Prelude.{◌≡◌, ◌<◌, ℕ, Bool, false, true, List, [], ◌∷◌, length, map, slice_index_or, slice_set, All}
+use Rattle.std.specs.Prelude.{◌≡◌, ◌<◌, ℕ, Bool, false, true, not, List, [], length, map, filter, zip, slice_index_or, All}
 use Rattle.std.specs.List.{AllZip}
 use Rattle.sw_index.specs.declared.found.Found.{Found}
 use Rattle.sw_index.specs.declared.found.Found.TheVariants.{At, Absent}
@@ -24,28 +24,15 @@ is_absent (Absent absence) = true
 
 -- the rows that have no place
 abbrev pub without_place : List (List Value) → List Found → List (List Value)
-without_place [] places = []
-without_place (row ∷ rows) [] = []
-without_place (row ∷ rows) (At number ∷ places) = without_place rows places
-without_place (row ∷ rows) (Absent absence ∷ places) = row ∷ without_place rows places
+without_place rows places = map (λ (placed : List Value × Found). placed.0) (filter (λ (placed : List Value × Found). is_absent placed.1) (zip rows places))
 
--- rows, with new ones in their places
-abbrev pub with_placed : List (List Value) → List (List Value) → List Found → List (List Value)
-with_placed rows [] places = rows
-with_placed rows (new ∷ more) [] = rows
-with_placed rows (new ∷ more) (At number ∷ places) = with_placed (slice_set rows number new) more places
-with_placed rows (new ∷ more) (Absent absence ∷ places) = with_placed rows more places
+-- the rows that have a place
+abbrev pub with_place : List (List Value) → List Found → List (List Value)
+with_place rows places = map (λ (placed : List Value × Found). placed.0) (filter (λ (placed : List Value × Found). not (is_absent placed.1)) (zip rows places))
 
 -- the rows of two lists are all of one length
 abbrev pub AreEven : List (List Value) → List (List Value) → Type 0
 AreEven rows more = (width : ℕ) × All (λ row. length row ≡ width) rows × All (λ row. length row ≡ width) more
-
--- the rows that have a place
-abbrev pub with_place : List (List Value) → List Found → List (List Value)
-with_place [] places = []
-with_place (row ∷ rows) [] = []
-with_place (row ∷ rows) (At number ∷ places) = row ∷ with_place rows places
-with_place (row ∷ rows) (Absent absence ∷ places) = with_place rows places
 
 -- each row is as long as it was, and those that have a place are what they were
 abbrev pub AreStillThere : List (List Value) → List (List Value) → List Found → Type 0

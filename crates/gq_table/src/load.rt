@@ -4,7 +4,7 @@ ghost use Rattle.sw_table.specs.LaidOut.{hash_by};
 ghost use Rattle.gq_row.specs.Classes.{bytes_of};
 ghost use Rattle.gq_row.specs.Tables.{put_by_key};
 ghost use Rattle.gq_table.specs.Keyed.{OwnKeys, AreApart};
-ghost use Rattle.gq_table.specs.Places.{AreEven, ArePlaces, AreStillThere, AreThere, is_absent, without_place, with_placed};
+ghost use Rattle.gq_table.specs.Places.{AreEven, ArePlaces, AreStillThere, AreThere, is_absent, with_place, without_place};
 ghost use Rattle.gq_table.specs.declared.refusal.TableRefusal.TheVariants.{Limit, Memory};
 
 use crate::keyed::KeyedRows;
@@ -161,12 +161,14 @@ impl<H: KeyHash<Key> + Copy> KeyedRows<H> {
         self.index.truncate(rows);
     }
 
-    // Exchanges each row that has a place with the one that stands there.
+    // Puts the rows that have a place: each is exchanged with the one that stands there.
     fn place_found(&mut self, positions: &[usize], places: &[Found], staged: &mut Sheet)
         requires even { AreEven self.old.rows staged.old }
         requires own { OwnKeys positions.now self.old }
+        requires apart { IsTrue (AreApart positions.now self.old.rows) }
         requires there { AreThere positions.now self.old.rows staged.old places.now }
-        ensures rows { self.new.rows ≡ with_placed self.old.rows staged.old places.now }
+        ensures rows { self.new.rows ≡
+            fold (put_by_key positions.now) self.old.rows (with_place staged.old places.now) }
         ensures own { OwnKeys positions.now self.new }
     {
         let _ = positions;

@@ -92,8 +92,9 @@ impl<H: KeyHash<Key> + Copy> Table<H> {
         }
     }
 
-    /// Makes room for so many rows in all, so that what is put up to that number asks for no more
-    /// memory but for long texts. Only the order of the rows may change, also where it is refused for want of memory.
+    /// Makes room for so many rows in all, as far as there is a row already that says how long they are:
+    /// a table that expects many asks for memory once. Only speed rests on it. Only the order of the rows may
+    /// change, also where it is refused for want of memory.
     pub fn reserve(&mut self, rows: usize) -> Result<(), AllocError>
         ensures heading { self.new.heading ≡ self.old.heading }
         ensures rows { IsPermutation self.old.rows self.new.rows }

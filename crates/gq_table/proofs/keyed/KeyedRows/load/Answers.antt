@@ -1,11 +1,15 @@
-use Rattle.std.proofs.Common.{◌≡◌, ◌<◌, ◌≤◌, List, inl, refl, length, count_by, ap, sym, subst, ◌∙◌, arith, All}
+use Rattle.std.proofs.Common.{◌≡◌, ◌<◌, ◌≤◌, List, inl, refl, length, map, fold, count_by, ap, sym, subst, ◌∙◌, arith, All}
 use Rattle.std.proofs.lemmas.Bool.Decides.{nat_tests}
 use Rattle.std.proofs.lemmas.List.Elements.{All-append}
 use Rattle.sw_table.specs.LaidOut.{hash_by}
 use Rattle.gq_row.specs.declared.value.Value.{Value}
 use Rattle.gq_row.specs.Classes.{bytes_of}
-use Rattle.gq_table.specs.Places.{ArePlaces, AreThere, is_absent, with_placed, without_place}
-use Rattle.gq_table.proofs.PlaceLemmas.{all_without, even_still, length-placed, placed, placed_still, put_apart, there_still}
+use Rattle.gq_row.specs.Order.{same_key}
+use Rattle.gq_row.specs.Repeats.{no_repeats}
+use Rattle.gq_row.specs.Rows.{key_of}
+use Rattle.gq_row.specs.Tables.{put_by_key}
+use Rattle.gq_table.specs.Places.{ArePlaces, AreThere, is_absent, with_place, without_place}
+use Rattle.gq_table.proofs.PlaceLemmas.{added_apart, all_without, even_still, length-placed, placed, put_apart, there_still}
 use Rattle.gq_table.proofs.keyed.KeyedRows.load.Goals as goal
 
 pub returns-then-most-len-clause-why : goal.returns-then-most-len-clause-why
@@ -43,6 +47,13 @@ place_found-requires-clause-even g c =
       even_still width c.add_absent.new.staged c.args.staged.rows c.in-Ok-add_absent.ensures.there.0 c.requires.even.2,
     )
 
+pub place_found-requires-clause-apart : goal.place_found-requires-clause-apart
+place_found-requires-clause-apart g c =
+    let hash = hash_by g.H.KeyHash.hash_of bytes_of c.args.self.now.index.hasher in
+    let are = subst (ArePlaces c.args.positions.now hash c.args.self.now.rows c.args.staged.rows) (sym c.as_slice-2.ensures.value) c.in-Ok.ensures in
+    ap (λ (rows : List (List Value)). no_repeats same_key (map (key_of c.args.positions.now) rows)) c.in-Ok-add_absent.ensures.rows
+    ∙ added_apart c.args.positions.now hash c.args.self.now.rows c.requires.apart c.args.staged.rows c.as_slice-2.result.now c.requires.all_apart are
+
 pub place_found-requires-clause-there : goal.place_found-requires-clause-there
 place_found-requires-clause-there g c =
     let hash = hash_by g.H.KeyHash.hash_of bytes_of c.args.self.now.index.hasher in
@@ -58,9 +69,10 @@ returns-clause-ok g c =
     let places = c.as_slice-2.result.now in
     let same : c.as_slice-3.result.now ≡ places = c.as_slice-3.ensures.value ∙ sym c.as_slice-2.ensures.value in
     let are = subst (ArePlaces c.args.positions.now hash c.args.self.now.rows c.args.staged.rows) (sym c.as_slice-2.ensures.value) c.in-Ok.ensures in
-    c.place_found.ensures.rows ∙ ap (with_placed c.add_absent.new.self.rows c.add_absent.new.staged) same
-    ∙ placed_still c.add_absent.new.self.rows c.add_absent.new.staged c.args.staged.rows places c.in-Ok-add_absent.ensures.there
-    ∙ ap (λ rows. with_placed rows c.args.staged.rows places) c.in-Ok-add_absent.ensures.rows
+    let put = fold (put_by_key c.args.positions.now) in
+    c.place_found.ensures.rows ∙ ap (λ l. put c.add_absent.new.self.rows (with_place c.add_absent.new.staged l)) same
+    ∙ ap (put c.add_absent.new.self.rows) c.in-Ok-add_absent.ensures.there.1
+    ∙ ap (λ rows. put rows (with_place c.args.staged.rows places)) c.in-Ok-add_absent.ensures.rows
     ∙ sym (placed c.args.positions.now hash c.args.self.now.rows c.requires.apart c.args.staged.rows places c.requires.all_apart are)
 
 pub returns-clause-few : goal.returns-clause-few

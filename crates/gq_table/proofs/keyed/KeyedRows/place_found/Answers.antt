@@ -1,15 +1,16 @@
-use Rattle.std.proofs.Common.{◌≡◌, ◌+◌, [], List, length, refl, ap, sym, subst, ◌∙◌}
+use Rattle.std.proofs.Common.{◌≡◌, ◌+◌, [], List, length, fold, refl, ap, sym, subst, ◌∙◌}
 use Rattle.std.specs.Prelude.{slice_index_or, slice_set}
 use Rattle.gq_row.specs.declared.value.Value.{Value}
+use Rattle.gq_row.specs.Tables.{put_by_key}
 use Rattle.gq_table.specs.Places.{is_absent}
 use Rattle.gq_table.specs.Sheets.{with_row}
-use Rattle.gq_table.proofs.PlaceLemmas.{Placing, as_long_there, found_in, in_staged, placed_all, placing_found, placing_past}
+use Rattle.gq_table.proofs.PlaceLemmas.{Placing, as_long_there, found_in, in_staged, place_none, placing_found, placing_past}
 use Rattle.gq_table.proofs.keyed.KeyedRows.place_found.Goals as goal
 use Rattle.gq_table.proofs.keyed.KeyedRows.place_found.Goals.{in-At, in_default}
 
 pub rows-init : goal.rows-init
 rows-init g c = record {
-  placing = record { placed = refl; keys = refl; left = refl; long = refl; even = c.requires.even };
+  placing = record { put = refl; keys = refl; left = refl; long = refl; even = c.requires.even };
   index = refl;
 }
 
@@ -30,7 +31,7 @@ pub rows-preserved : goal.rows-preserved
 rows-preserved g c = elim c.match-places-i.branch [
   | in-At w ↦ record {
     placing =
-        let so_far = placing_found c.args.positions.now c.args.self.now.rows c.args.staged.now c.args.places.now c.requires.there c.rows.i c.rows-test.true c.rows.self.rows c.rows.staged c.rows.invariant.placing w.in-At.number _ w.in-At.is in
+        let so_far = placing_found c.args.positions.now c.args.self.now.rows c.args.staged.now c.args.places.now c.requires.there c.rows.i c.rows-test.true c.rows.self.rows c.rows.staged c.rows.invariant.placing c.requires.apart w.in-At.number _ w.in-At.is in
         let rows : c.match-places-i.self.rows ≡ slice_set c.rows.self.rows w.in-At.number (slice_index_or c.rows.staged c.rows.i []) =
         ap (λ s. s.rows) w.self-is ∙ w.exchange.ensures.put ∙ ap (slice_set c.rows.self.rows w.in-At.number) w.row_mut.ensures.value in
         let staged : c.match-places-i.staged ≡ slice_set c.rows.staged c.rows.i (slice_index_or c.rows.self.rows w.in-At.number []) =
@@ -52,4 +53,4 @@ rows-preserved g c = elim c.match-places-i.branch [
 
 pub returns-clause-rows : goal.returns-clause-rows
 returns-clause-rows g c =
-    sym (placed_all c.rows.self.rows c.rows.staged c.args.places.now c.rows.i c.rows-test.false) ∙ c.rows.invariant.placing.placed
+    ap (fold (put_by_key c.args.positions.now) c.rows.self.rows) (sym (place_none c.rows.staged c.args.places.now c.rows.i c.rows-test.false)) ∙ c.rows.invariant.placing.put
