@@ -70,13 +70,6 @@ onward heading staged new count left others all row h e p = record {
       (subst (λ (g : Heading). IsPermutation (put g.key staged.rows row) new.rows) h.same p.rows));
 }
 
--- the order of the rows doesn't matter to what is put
-pub put_moved : (old mid new : PlainTable) (row : List Value) → IsPut old row mid → new.heading ≡ mid.heading → IsPermutation mid.rows new.rows → IsPut old row new
-put_moved old mid new row p e moved = record {
-  heading = e ∙ p.heading;
-  rows = IsPermutation-trans _ _ _ p.rows moved;
-}
-
 pub ended : (heading : Heading) (staged : PlainTable) (count : ℕ) (left all : Result Rows LoadRefusal) → SoFar heading staged count left all → left ≡ Ok [] → HasStaged (refused_by all) heading staged count
 ended heading staged count left all h e = record {
   rows = h.front;

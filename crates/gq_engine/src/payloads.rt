@@ -1,6 +1,6 @@
 //! The rows that a load's payload gives, in a table of their own, or the refusal that its first
 //! fault is.
-ghost use Rattle.std.specs.Prelude.{◌≡◌, ◌⊎◌, [], Err, IfOk, IfErr, OnOk, IsTrue, IsPermutation, false};
+ghost use Rattle.std.specs.Prelude.{◌≡◌, ◌⊎◌, [], Err, IfOk, IfErr, OnOk, IsTrue, false};
 ghost use Rattle.gq_row.specs.Fitting.{fits_columns, has_null};
 ghost use Rattle.gq_table.specs.Changes.{IsPut};
 ghost use Rattle.gq_table.specs.Refusing.{WhyNotPut};
@@ -107,8 +107,7 @@ fn stage_all<H: KeyHash<Key> + Copy>(
 // Where there is no memory for that the table goes on growing.
 #[cold]
 fn make_room<H: KeyHash<Key> + Copy>(staged: &mut Table<H>, count: u64, lines: usize)
-    ensures heading { staged.new.heading ≡ staged.old.heading }
-    ensures rows { IsPermutation staged.old.rows staged.new.rows }
+    ensures { staged.new ≡ staged.old }
 {
     let differ = count - count / 64 <= staged.len() as u64;
     if differ && 4_096 <= count && lines as u64 / 8 <= count {

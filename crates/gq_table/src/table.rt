@@ -1,5 +1,5 @@
 //! One table: its schema, and its rows.
-ghost use Rattle.std.specs.Prelude.{◌≡◌, ◌+◌, ◌<◌, All, ◌≤◌, ◌⊎◌, ◌++◌, ◌∷◌, [], IsTrue, IfOk, IfErr, OnOk, OnErr, None, false, length, IsPermutation};
+ghost use Rattle.std.specs.Prelude.{◌≡◌, ◌+◌, ◌<◌, All, ◌≤◌, ◌⊎◌, ◌++◌, ◌∷◌, [], IsTrue, IfOk, IfErr, OnOk, OnErr, None, false, length};
 ghost use Rattle.gq_row.specs.Fitting.{fits_columns, has_null};
 ghost use Rattle.gq_row.specs.Tables.{has_row};
 ghost use Rattle.gq_table.specs.Changes.{IsPut, IsLoaded, IsDeleted, named_key};
@@ -93,11 +93,10 @@ impl<H: KeyHash<Key> + Copy> Table<H> {
     }
 
     /// Makes room for so many rows in all, as far as there is a row already that says how long they are:
-    /// a table that expects many asks for memory once. Only speed rests on it. Only the order of the rows may
-    /// change, also where it is refused for want of memory.
+    /// a table that expects many asks for memory once. Only speed rests on it: the table is what it was, also where it
+    /// is refused for want of memory.
     pub fn reserve(&mut self, rows: usize) -> Result<(), AllocError>
-        ensures heading { self.new.heading ≡ self.old.heading }
-        ensures rows { IsPermutation self.old.rows self.new.rows }
+        ensures { self.new ≡ self.old }
     {
         match &mut self.rows {
             Storage::Keyed(keyed) => {
