@@ -1,6 +1,6 @@
 -- Groups in one list of cells.
 use Rattle.std.proofs.Common.{◌≡◌, ◌<◌, ◌≤◌, ◌+◌, ◌-◌, ℕ, true, List, [], ◌∷◌, ◌++◌, length, map, take, drop, get_or, All, Ordering, Less, Equal, Greater, refl, sym, ap, subst, ◌∙◌, arith}
-use Rattle.std.specs.Prelude.{nat_le, ◌&&◌, if◌then◌else◌}
+use Rattle.std.specs.Prelude.{nat_le, if◌then◌else◌}
 use denote.Param.Members.{Mut}
 use denote.Ref.{Bor}
 use Rattle.std.specs.Cmp.{IsTotalOrder}
@@ -24,7 +24,7 @@ use Rattle.gq_group.specs.Groups.{Group}
 use Rattle.gq_query.specs.declared.front.Front.{Front}
 use Rattle.gq_query.specs.declared.group_list.GroupSpan.{GroupSpan}
 use Rattle.gq_query.specs.Fronts.{IsFrontOf}
-use Rattle.gq_query.specs.GroupSpans.{IsGroupAt, IsLonger, group_at, key_in, compare_at}
+use Rattle.gq_query.specs.GroupSpans.{IsGroupAt, IsLonger, IsSpan, group_at, key_in, compare_at, middle_of, end_of}
 use Rattle.gq_query.specs.Joining.{row_of}
 use Rattle.gq_query.proofs.FrontLemmas.{compare_fronts, told}
 
@@ -32,10 +32,8 @@ use Rattle.gq_query.proofs.FrontLemmas.{compare_fronts, told}
 
 kept_at : (xs ys : List Value) (s : GroupSpan) → IsGroupAt xs s → IsGroupAt (xs ++ ys) s
 kept_at xs ys s h = record {
-  keyed = h.keyed;
-  valued = h.valued;
   within = omega (arith, h.within, length-append xs ys);
-  fronted = subst (λ key. IsFrontOf key s.front) (sym (part_kept xs ys s.start s.middle h.keyed (omega (arith, h.valued, h.within)))) h.fronted;
+  fronted = subst (λ key. IsFrontOf key s.front) (sym (part_kept xs ys s.start (middle_of s) (omega arith) (omega (arith, h.within)))) h.fronted;
 }
 
 all_kept : (xs ys : List Value) (spans : List GroupSpan) → All (IsGroupAt xs) spans → All (IsGroupAt (xs ++ ys)) spans
@@ -45,7 +43,7 @@ groups_kept : (xs ys : List Value) (spans : List GroupSpan) → All (IsGroupAt x
 groups_kept xs ys [] h = refl
 groups_kept xs ys (s ∷ spans) h =
     let first = All-head (IsGroupAt xs) s spans h in
-    λ i. (part_kept xs ys s.start s.middle first.keyed (omega (arith, first.valued, first.within)) i, part_kept xs ys s.middle s.end first.valued first.within i)
+    λ i. (part_kept xs ys s.start (middle_of s) (omega arith) (omega (arith, first.within)) i, part_kept xs ys (middle_of s) (end_of s) (omega arith) first.within i)
     ∷ groups_kept xs ys spans (All-tail (IsGroupAt xs) s spans h) i
 
 -- a list that is longer has the same groups
@@ -59,22 +57,39 @@ longer_by old more new is = is ∙ ap (λ l. old ++ l) (sym (drop-append_seam ol
 -- the cells of a group stand behind those of the others
 pub record IsNext (xs key values cells : List Value) (s : GroupSpan) : Type 0 where
   pub start : s.start ≡ length xs
-  pub middle : s.middle ≡ length (xs ++ key)
-  pub end : s.end ≡ length cells
+  pub keyed : s.key ≡ length key
+  pub valued : s.values ≡ length values
   pub whole : cells ≡ (xs ++ key) ++ values
   pub fronted : IsFrontOf key s.front
 
-key_next : (xs key values : List Value) (s : GroupSpan) → s.start ≡ length xs → s.middle ≡ length (xs ++ key) → part ((xs ++ key) ++ values) s.start s.middle ≡ key
-key_next xs key values s low high =
-    part_kept (xs ++ key) values s.start s.middle (omega (arith, low, high, length-append xs key)) (omega (arith, high)) ∙ last_part xs key s.start s.middle low high
+-- a span of so many cells as the key and the values have
+pub next_by : (xs key values cells : List Value) (front : Front) (s : GroupSpan) → IsSpan front (length xs) (length key) (length values) s → IsFrontOf key front → cells ≡ (xs ++ key) ++ values
+    → IsNext xs key values cells s
+next_by xs key values cells front s span fronted whole = record {
+  start = span.begins;
+  keyed = span.keyed;
+  valued = span.valued;
+  whole = whole;
+  fronted = subst (IsFrontOf key) (sym span.fronted) fronted;
+}
+
+middle_next : (xs key values cells : List Value) (s : GroupSpan) → IsNext xs key values cells s → middle_of s ≡ length (xs ++ key)
+middle_next xs key values cells s next = omega (arith, next.start, next.keyed, length-append xs key)
+
+end_next : (xs key values cells : List Value) (s : GroupSpan) → IsNext xs key values cells s → end_of s ≡ length ((xs ++ key) ++ values)
+end_next xs key values cells s next = omega (arith, middle_next xs key values cells s next, next.valued, length-append (xs ++ key) values)
+
+key_next : (xs key values cells : List Value) (s : GroupSpan) → IsNext xs key values cells s → part ((xs ++ key) ++ values) s.start (middle_of s) ≡ key
+key_next xs key values cells s next =
+    let high = middle_next xs key values cells s next in
+    part_kept (xs ++ key) values s.start (middle_of s) (omega arith) (omega (arith, high)) ∙ last_part xs key s.start (middle_of s) next.start high
 
 pub group_pushed : (xs key values cells : List Value) (spans : List GroupSpan) (s : GroupSpan) → IsNext xs key values cells s → All (IsGroupAt xs) spans
     → map (group_at cells) (spans ++ s ∷ []) ≡ map (group_at xs) spans ++ (key, values) ∷ []
 group_pushed xs key values cells spans s next h =
-    let more = length-append xs key in
     (λ i. map (group_at (next.whole i)) (spans ++ s ∷ []))
     ∙ map-append (group_at ((xs ++ key) ++ values)) spans (s ∷ [])
-    ∙ (λ i. (map (group_at (append_assoc xs key values i)) spans) ++ (key_next xs key values s next.start next.middle i, last_part (xs ++ key) values s.middle s.end next.middle (next.end ∙ ap length next.whole) i) ∷ [])
+    ∙ (λ i. (map (group_at (append_assoc xs key values i)) spans) ++ (key_next xs key values cells s next i, last_part (xs ++ key) values (middle_of s) (end_of s) (middle_next xs key values cells s next) (end_next xs key values cells s next) i) ∷ [])
     ∙ (λ i. groups_kept xs (key ++ values) spans h i ++ (key, values) ∷ [])
 
 pub span_pushed : (xs key values cells : List Value) (spans : List GroupSpan) (s : GroupSpan) → IsNext xs key values cells s → All (IsGroupAt xs) spans
@@ -82,10 +97,8 @@ pub span_pushed : (xs key values cells : List Value) (spans : List GroupSpan) (s
 span_pushed xs key values cells spans s next h =
     let others : All (IsGroupAt ((xs ++ key) ++ values)) spans = subst (λ l. All (IsGroupAt l) spans) (sym (append_assoc xs key values)) (all_kept xs (key ++ values) spans h) in
     let one : IsGroupAt ((xs ++ key) ++ values) s = record {
-      keyed = omega (arith, next.start, next.middle, length-append xs key);
-      valued = omega (arith, next.middle, next.end, ap length next.whole, length-append (xs ++ key) values);
-      within = omega (arith, next.end, ap length next.whole);
-      fronted = subst (λ k. IsFrontOf k s.front) (sym (key_next xs key values s next.start next.middle)) next.fronted;
+      within = omega (arith, end_next xs key values cells s next);
+      fronted = subst (λ k. IsFrontOf k s.front) (sym (key_next xs key values cells s next)) next.fronted;
     } in
     subst (λ l. All (IsGroupAt l) (spans ++ s ∷ [])) (sym next.whole) (All-push (IsGroupAt ((xs ++ key) ++ values)) spans s others one)
 
@@ -103,28 +116,28 @@ sorted_at {g = g} {f = f} cells spans up h =
     up (λ x y. is_lt (compare_at cells x y)) (ranks_by (spans_total cells) (λ s. s))
     (always_returns_same g (λ a r. is_lt r ≡ is_lt (compare_at cells a.0.now a.1.0.now)) f (λ a r f' k. (ap is_lt (h a r f' k).0, (h a r f' k).1)))
 
-pub key_there : (cells : List Value) (s : GroupSpan) → IsGroupAt cells s → key_in cells s ≡ part cells s.start s.middle
+pub key_there : (cells : List Value) (s : GroupSpan) → IsGroupAt cells s → key_in cells s ≡ part cells s.start (middle_of s)
 key_there cells s h =
-    let low : nat_le s.start s.middle ≡ true = grind (arith, nat_tests, h.keyed) in
-    let high : nat_le s.middle (length cells) ≡ true = grind (arith, nat_tests, h.valued, h.within) in
-    λ i. if low i && high i then part cells s.start s.middle else []
+    let within : middle_of s ≤ length cells = omega (arith, h.within) in
+    let high : nat_le (middle_of s) (length cells) ≡ true = grind (arith, nat_tests, within) in
+    λ i. if high i then part cells s.start (middle_of s) else []
 
 -- so they are in the order of the keys
 order_is : (cells : List Value) (a b : GroupSpan) → IsGroupAt cells a → IsGroupAt cells b
-    → compare_at cells a b ≡ compare_keys (part cells a.start a.middle) (part cells b.start b.middle)
+    → compare_at cells a b ≡ compare_keys (part cells a.start (middle_of a)) (part cells b.start (middle_of b))
 order_is cells a b p q =
     (λ i. ordering_then (compare_fronts a.front b.front) (compare_keys (key_there cells a p i) (key_there cells b q i)))
     ∙ decided (compare_fronts a.front b.front) refl
   where
-    decided : (o : Ordering) → o ≡ compare_fronts a.front b.front → ordering_then o (compare_keys (part cells a.start a.middle) (part cells b.start b.middle)) ≡ compare_keys (part cells a.start a.middle) (part cells b.start b.middle)
+    decided : (o : Ordering) → o ≡ compare_fronts a.front b.front → ordering_then o (compare_keys (part cells a.start (middle_of a)) (part cells b.start (middle_of b))) ≡ compare_keys (part cells a.start (middle_of a)) (part cells b.start (middle_of b))
     decided Equal e = refl
-    decided Less e = told (part cells a.start a.middle) (part cells b.start b.middle) a.front b.front Less p.fronted q.fronted e (λ no. let none : ⊥ = cc in none)
-    decided Greater e = told (part cells a.start a.middle) (part cells b.start b.middle) a.front b.front Greater p.fronted q.fronted e (λ no. let none : ⊥ = cc in none)
+    decided Less e = told (part cells a.start (middle_of a)) (part cells b.start (middle_of b)) a.front b.front Less p.fronted q.fronted e (λ no. let none : ⊥ = cc in none)
+    decided Greater e = told (part cells a.start (middle_of a)) (part cells b.start (middle_of b)) a.front b.front Greater p.fronted q.fronted e (λ no. let none : ⊥ = cc in none)
 
 pub groups_sorted : (cells : List Value) (spans : List GroupSpan) → All (IsGroupAt cells) spans → IsSorted (compare_at cells) spans
     → IsSortedByKey (λ (g : Group). g.0) compare_keys (map (group_at cells) spans)
 groups_sorted cells spans h up = λ k d low high.
-    let none : GroupSpan = record { front = record { high = 0; low = 0 }; start = 0; middle = 0; end = 0 } in
+    let none : GroupSpan = record { front = record { high = 0; low = 0 }; start = 0; key = 0; values = 0 } in
     let within : k + 1 < length spans = omega (arith, high, length-map spans (group_at cells)) in
     let before : k < length spans = omega (arith, within) in
     rw (get_or-map (group_at cells) spans (k + 1) none d within, get_or-map (group_at cells) spans k none d before)
@@ -142,27 +155,26 @@ part_whole {X = X} xs start middle end a b =
     behind = grind (arith, common_steps)
 
 pub rows_are : (cells : List Value) (spans : List GroupSpan) → All (IsGroupAt cells) spans
-    → map (row_at cells) (map (λ (s : GroupSpan). record { start = s.start; end = s.end }) spans) ≡ map row_of (map (group_at cells) spans)
+    → map (row_at cells) (map (λ (s : GroupSpan). record { start = s.start; end = end_of s }) spans) ≡ map row_of (map (group_at cells) spans)
 rows_are cells [] h = refl
 rows_are cells (s ∷ spans) h =
-    let first = All-head (IsGroupAt cells) s spans h in
-    λ i. part_whole cells s.start s.middle s.end first.keyed first.valued i ∷ rows_are cells spans (All-tail (IsGroupAt cells) s spans h) i
+    λ i. part_whole cells s.start (middle_of s) (end_of s) (omega arith) (omega arith) i ∷ rows_are cells spans (All-tail (IsGroupAt cells) s spans h) i
 
-pub rows_within : (cells : List Value) (spans : List GroupSpan) → All (IsGroupAt cells) spans → All (IsPart cells) (map (λ (s : GroupSpan). record { start = s.start; end = s.end }) spans)
+pub rows_within : (cells : List Value) (spans : List GroupSpan) → All (IsGroupAt cells) spans → All (IsPart cells) (map (λ (s : GroupSpan). record { start = s.start; end = end_of s }) spans)
 rows_within cells [] h = All-nil (IsPart cells)
 rows_within cells (s ∷ spans) h =
     let first = All-head (IsGroupAt cells) s spans h in
-    All-cons (IsPart cells) (record { start = s.start; end = s.end }) (map (λ (s : GroupSpan). record { start = s.start; end = s.end }) spans)
-    (omega (arith, first.keyed, first.valued), first.within) (rows_within cells spans (All-tail (IsGroupAt cells) s spans h))
+    All-cons (IsPart cells) (record { start = s.start; end = end_of s }) (map (λ (s : GroupSpan). record { start = s.start; end = end_of s }) spans)
+    (omega arith, first.within) (rows_within cells spans (All-tail (IsGroupAt cells) s spans h))
 
 pub values_are : (cells : List Value) (spans : List GroupSpan)
-    → map (row_at cells) (map (λ (s : GroupSpan). record { start = s.middle; end = s.end }) spans) ≡ map (λ (g : Group). g.1) (map (group_at cells) spans)
+    → map (row_at cells) (map (λ (s : GroupSpan). record { start = middle_of s; end = end_of s }) spans) ≡ map (λ (g : Group). g.1) (map (group_at cells) spans)
 values_are cells [] = refl
-values_are cells (s ∷ spans) = ap (λ l. part cells s.middle s.end ∷ l) (values_are cells spans)
+values_are cells (s ∷ spans) = ap (λ l. part cells (middle_of s) (end_of s) ∷ l) (values_are cells spans)
 
-pub values_within : (cells : List Value) (spans : List GroupSpan) → All (IsGroupAt cells) spans → All (IsPart cells) (map (λ (s : GroupSpan). record { start = s.middle; end = s.end }) spans)
+pub values_within : (cells : List Value) (spans : List GroupSpan) → All (IsGroupAt cells) spans → All (IsPart cells) (map (λ (s : GroupSpan). record { start = middle_of s; end = end_of s }) spans)
 values_within cells [] h = All-nil (IsPart cells)
 values_within cells (s ∷ spans) h =
     let first = All-head (IsGroupAt cells) s spans h in
-    All-cons (IsPart cells) (record { start = s.middle; end = s.end }) (map (λ (s : GroupSpan). record { start = s.middle; end = s.end }) spans)
-    (first.valued, first.within) (values_within cells spans (All-tail (IsGroupAt cells) s spans h))
+    All-cons (IsPart cells) (record { start = middle_of s; end = end_of s }) (map (λ (s : GroupSpan). record { start = middle_of s; end = end_of s }) spans)
+    (omega arith, first.within) (values_within cells spans (All-tail (IsGroupAt cells) s spans h))

@@ -1,11 +1,12 @@
 -- Groups in one list of cells.
-use Rattle.std.specs.Prelude.{◌≡◌, ◌≤◌, ◌++◌, List, [], length, drop, nat_le, ◌&&◌, if◌then◌else◌}
+use Rattle.std.specs.Prelude.{◌≡◌, ◌≤◌, ◌+◌, ◌++◌, ℕ, List, [], length, drop, nat_le, if◌then◌else◌}
 use Rattle.std.specs.Ordering.{nat_cmp, ordering_then}
 use Rattle.std.specs.declared.cmp.Ordering.{Ordering}
 use Rattle.gq_row.specs.declared.value.Value.{Value}
 use Rattle.gq_row.specs.Lists.{part}
 use Rattle.gq_row.specs.Order.{compare_keys}
 use Rattle.gq_group.specs.Groups.{Group}
+use Rattle.gq_query.specs.declared.front.Front.{Front}
 use Rattle.gq_query.specs.declared.group_list.GroupSpan.{GroupSpan}
 use Rattle.gq_query.specs.Fronts.{IsFrontOf}
 
@@ -13,20 +14,33 @@ use Rattle.gq_query.specs.Fronts.{IsFrontOf}
 abbrev pub IsLonger : List Value → List Value → Type 0
 IsLonger old new = new ≡ old ++ drop (length old) new
 
+-- where the key of a span ends
+abbrev pub middle_of : GroupSpan → ℕ
+middle_of span = span.start + span.key
+
+-- and where what stands behind it ends
+abbrev pub end_of : GroupSpan → ℕ
+end_of span = middle_of span + span.values
+
+-- a span that begins at a place, of so many cells for its key, and so many behind these
+pub record IsSpan (front : Front) (start key values : ℕ) (span : GroupSpan) : Type 0 where
+  pub fronted : span.front ≡ front
+  pub begins : span.start ≡ start
+  pub keyed : span.key ≡ key
+  pub valued : span.values ≡ values
+
 -- the group that stands at a span: its key, and what stands behind it
 abbrev pub group_at : List Value → GroupSpan → Group
-group_at cells span = (part cells span.start span.middle, part cells span.middle span.end)
+group_at cells span = (part cells span.start (middle_of span), part cells (middle_of span) (end_of span))
 
 -- a span lies within a list, and its front is that of the key there
 pub record IsGroupAt (cells : List Value) (span : GroupSpan) : Type 0 where
-  pub keyed : span.start ≤ span.middle
-  pub valued : span.middle ≤ span.end
-  pub within : span.end ≤ length cells
-  pub fronted : IsFrontOf (part cells span.start span.middle) span.front
+  pub within : end_of span ≤ length cells
+  pub fronted : IsFrontOf (part cells span.start (middle_of span)) span.front
 
--- the key that stands at a span, or none where the span does not lie within the list
+-- the key that stands at a span, or none where it does not lie within the list
 abbrev pub key_in : List Value → GroupSpan → List Value
-key_in cells span = if nat_le span.start span.middle && nat_le span.middle (length cells) then part cells span.start span.middle else []
+key_in cells span = if nat_le (middle_of span) (length cells) then part cells span.start (middle_of span) else []
 
 -- spans are compared by the two words of their fronts, and by their keys where these tie
 abbrev pub compare_at : List Value → GroupSpan → GroupSpan → Ordering

@@ -6,7 +6,7 @@ ghost use Rattle.std.specs.Prelude.{◌≡◌, ◌<◌, ◌++◌, ◌∷◌, [],
 ghost use Rattle.std.specs.List.Sorted.{IsSortedByKey};
 ghost use Rattle.gq_row.specs.Order.{compare_keys};
 ghost use Rattle.gq_group.specs.Groups.{Group};
-ghost use Rattle.gq_query.specs.GroupSpans.{IsLonger, compare_at, key_in};
+ghost use Rattle.gq_query.specs.GroupSpans.{IsLonger, IsSpan, compare_at, end_of, key_in, middle_of};
 ghost use Rattle.gq_query.specs.Joining.{row_of};
 
 use crate::front::{Front, front_in};
@@ -17,14 +17,60 @@ use std::alloc::{AllocError, Global};
 use std::cmp::Ordering;
 use std::marker::Model;
 
-/// Where a group stands in a list of cells, and the front of its key: the key stands from `start` up to
-/// `middle`, its values from there up to `end`.
+/// Where a group stands in a list of cells, and the front of its key: so many cells from `start` on are the
+/// key, and so many behind these its values. It has 24 bytes, as each group has one, and sorts move it.
 #[derive(Clone, Copy)]
 pub struct GroupSpan {
     front: Front,
-    start: usize,
-    middle: usize,
-    end: usize,
+    start: u32,
+    key: u16,
+    values: u16,
+}
+
+impl GroupSpan {
+    // A group in a list of 2^32 cells, which take 128 GiB, and one of 2^16 cells count as too large for memory.
+    #[inline]
+    fn new(front: Front, start: usize, key: usize, values: usize) -> Result<GroupSpan, AllocError>
+        ensures { IfOk result (IsSpan front start key values) }
+    {
+        match (
+            u32::try_from(start),
+            u16::try_from(key),
+            u16::try_from(values),
+        ) {
+            (Ok(start), Ok(key), Ok(values)) => Ok(GroupSpan {
+                front,
+                start,
+                key,
+                values,
+            }),
+            _ => Err(AllocError),
+        }
+    }
+
+    // Where the cells of the key begin.
+    #[inline]
+    fn start(&self) -> usize
+        ensures { result ≡ self.now.start }
+    {
+        self.start as usize
+    }
+
+    // Where they end.
+    #[inline]
+    fn middle(&self) -> usize
+        ensures { result ≡ middle_of self.now }
+    {
+        self.start as usize + self.key as usize
+    }
+
+    // Where the cells behind them end.
+    #[inline]
+    fn end(&self) -> usize
+        ensures { result ≡ end_of self.now }
+    {
+        self.start as usize + self.key as usize + self.values as usize
+    }
 }
 
 /// The groups that were pushed, in that order: of each the key, and what is shown of the rows that
@@ -85,17 +131,10 @@ impl GroupList {
     {
         self.make_room(key.len() + values.len());
         let front = front_in(&[], key.cells());
-        let start = self.cells.len();
+        let span = GroupSpan::new(front, self.cells.len(), key.len(), values.len())?;
         move_cells(&mut self.cells, key)?;
-        let middle = self.cells.len();
         self.cells.append(values)?;
-        let end = self.cells.len();
-        self.groups.push(GroupSpan {
-            front,
-            start,
-            middle,
-            end,
-        })?;
+        self.groups.push(span)?;
         Ok(())
     }
 
@@ -105,7 +144,7 @@ impl GroupList {
         ensures { result.now ≡ (slice_index_or self.now group ([], [])).0 }
     {
         let span = self.groups[group];
-        &self.cells[span.start..span.middle]
+        &self.cells[span.start()..span.middle()]
     }
 
     /// What is shown of a group.
@@ -114,7 +153,7 @@ impl GroupList {
         ensures { result.now ≡ (slice_index_or self.now group ([], [])).1 }
     {
         let span = self.groups[group];
-        &self.cells[span.middle..span.end]
+        &self.cells[span.middle()..span.end()]
     }
 
     /// Puts the group of a key behind the others, of which the key is a copy. The values move out of
@@ -129,17 +168,10 @@ impl GroupList {
         ensures moved { OnOk result (values.new.items ≡ []) }
     {
         let front = front_in(&[], key);
-        let start = self.cells.len();
+        let span = GroupSpan::new(front, self.cells.len(), key.len(), values.len())?;
         copy_cells(alloc, &mut self.cells, key)?;
-        let middle = self.cells.len();
         self.cells.append(values)?;
-        let end = self.cells.len();
-        self.groups.push(GroupSpan {
-            front,
-            start,
-            middle,
-            end,
-        })?;
+        self.groups.push(span)?;
         Ok(())
     }
 
@@ -160,8 +192,8 @@ impl GroupList {
         let mut spans = Vec::with_capacity(alloc, self.groups.len())?;
         for group in &self.groups {
             spans.push(Span {
-                start: group.start,
-                end: group.end,
+                start: group.start(),
+                end: group.end(),
             })?;
         }
         Ok(Rows::of(self.cells, spans))
@@ -174,8 +206,8 @@ impl GroupList {
         let mut spans = Vec::with_capacity(alloc, self.groups.len())?;
         for group in &self.groups {
             spans.push(Span {
-                start: group.middle,
-                end: group.end,
+                start: group.middle(),
+                end: group.end(),
             })?;
         }
         Ok(Rows::of(self.cells, spans))
@@ -213,8 +245,8 @@ pub(crate) fn copy_cells(
 fn key_in<'a>(cells: &'a [Value], span: &GroupSpan) -> &'a [Value]
     ensures { result.now ≡ key_in cells.now span.now }
 {
-    if span.start <= span.middle && span.middle <= cells.len() {
-        &cells[span.start..span.middle]
+    if span.middle() <= cells.len() {
+        &cells[span.start()..span.middle()]
     } else {
         &[]
     }

@@ -1,7 +1,6 @@
 use Rattle.std.proofs.Common.{◌≡◌, ◌++◌, ◌∷◌, ◌∙◌, [], All, map, refl, sym, ap, subst, append_assoc, rules}
-use Rattle.gq_query.specs.declared.group_list.GroupSpan.{GroupSpan}
 use Rattle.gq_query.specs.GroupSpans.{IsGroupAt, IsLonger, group_at}
-use Rattle.gq_query.proofs.GroupSpanLemmas.{IsNext, group_pushed, kept_on, longer_by, span_pushed}
+use Rattle.gq_query.proofs.GroupSpanLemmas.{IsNext, group_pushed, kept_on, longer_by, next_by, span_pushed}
 use Rattle.gq_query.proofs.group_list.GroupList.add.Goals as goal
 
 pub invariant_of-self-in_err-append : goal.invariant_of-self-in_err-append
@@ -26,9 +25,9 @@ invariant_of-self-2 c =
     let key = c.args.key in
     let values = c.args.values.now.items in
     let whole : c.append.new.self.items ≡ (xs ++ key) ++ values = search rules in
-    let span : GroupSpan = record { front = c.front_in-front.result; start = c.len-start.result; middle = c.len-middle.result; end = c.len-end.result } in
+    let span = c.in_ok-span.span in
     let spans : c.push.new.self.items ≡ c.self.inside.groups.items ++ span ∷ [] = search rules in
-    let next : IsNext xs key values c.append.new.self.items span = record { start = search rules; middle = search rules; end = search rules; whole = whole; fronted = search rules } in
+    let next : IsNext xs key values c.append.new.self.items span = next_by xs key values c.append.new.self.items c.front_in-front.result span (search rules) (search rules) whole in
     subst (All (IsGroupAt c.append.new.self.items)) (sym spans) (span_pushed xs key values c.append.new.self.items c.self.inside.groups.items span next c.self.invariant)
 
 pub returns : goal.returns
@@ -37,9 +36,9 @@ returns c =
     let key = c.args.key in
     let values = c.args.values.now.items in
     let whole : c.append.new.self.items ≡ (xs ++ key) ++ values = search rules in
-    let span : GroupSpan = record { front = c.front_in-front.result; start = c.len-start.result; middle = c.len-middle.result; end = c.len-end.result } in
+    let span = c.in_ok-span.span in
     let spans : c.push.new.self.items ≡ c.self.inside.groups.items ++ span ∷ [] = search rules in
-    let next : IsNext xs key values c.append.new.self.items span = record { start = search rules; middle = search rules; end = search rules; whole = whole; fronted = search rules } in
+    let next : IsNext xs key values c.append.new.self.items span = next_by xs key values c.append.new.self.items c.front_in-front.result span (search rules) (search rules) whole in
     ap (map (group_at c.append.new.self.items)) spans
     ∙ group_pushed xs key values c.append.new.self.items c.self.inside.groups.items span next c.self.invariant
     ∙ ap (λ l. l ++ (key, values) ∷ []) (c.self.view_is ∙ c.make_room.ensures)
