@@ -220,7 +220,10 @@ fn move_cells(cells: &mut Vec<Value>, key: Key) -> Result<(), AllocError>
     ensures kept { IsLonger cells.old.items cells.new.items }
 {
     for value in key.into_cells() {
-        cells.push(value)?;
+        match value {
+            Value::Int(n) => cells.push(Value::Int(n))?,
+            value => cells.push(value)?,
+        }
     }
     Ok(())
 }

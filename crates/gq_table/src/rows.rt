@@ -143,13 +143,10 @@ impl<'a> RowCursor<'a> {
         ensures in_place { length row.old ≡ length columns.now →
             All IsInPlace (cells_in columns.now self.now.row) → IsOk result }
     {
-        let mut cells = mem::replace(row, Row::new(Vec::new(self.alloc))).into_cells();
-        if cells.len() != columns.len() {
-            cells.resize_with(columns.len(), || Value::Null)?;
+        if row.len() != columns.len() {
+            fit(self.alloc, row, columns.len())?;
         }
-        self.write_values(columns, cells.as_mut_slice())?;
-        *row = Row::new(cells);
-        Ok(())
+        self.write_values(columns, row.cells_mut())
     }
 
     // Writes them over as many values.
@@ -167,6 +164,17 @@ impl<'a> RowCursor<'a> {
             }
         }
     }
+}
+
+// Makes a row so long, whatever its values.
+#[cold]
+fn fit(alloc: Global, row: &mut Row, width: usize) -> Result<(), AllocError>
+    ensures { OnOk result (length row.new ≡ width) }
+{
+    let mut cells = mem::replace(row, Row::new(Vec::new(alloc))).into_cells();
+    cells.resize_with(width, || Value::Null)?;
+    *row = Row::new(cells);
+    Ok(())
 }
 
 // Writes a row's values in some columns over as many others.

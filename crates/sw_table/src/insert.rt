@@ -23,7 +23,7 @@ impl<K: Keyed, V, H: KeyHash<K>> Table<K, V, H> {
     /// and then it succeeds. Else the capacity doubles, or the call refuses: with `Limit` where the
     /// capacity is 2^28, which cannot grow, else with `Memory`. The pair is then handed back, and
     /// the table is as it was.
-    #[inline]
+    #[inline(always)]
     pub fn place(&mut self, key: K, value: V) -> Result<SlotNo, Refused<K, V>>
         requires absent { get (entries K.class self.old) (K.class key) ≡ None }
         ensures full { IfOk result (λ s. IsFull self.new s.index) }
