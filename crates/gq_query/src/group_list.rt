@@ -2,7 +2,7 @@
 //!
 //! The cells of all groups stand in one list, those of a group one behind the other: its key, and then
 //! what is shown of its rows. What sorts groups moves where they stand, and no cell.
-ghost use Rattle.std.specs.Prelude.{◌≡◌, ◌<◌, ◌++◌, ◌∷◌, [], IfOk, IsPermutation, OnOk, length, map, slice_index_or};
+ghost use Rattle.std.specs.Prelude.{◌≡◌, ◌<◌, ◌^◌, ◌++◌, ◌∷◌, [], IfOk, IsOk, IsPermutation, OnOk, length, map, slice_index_or};
 ghost use Rattle.std.specs.List.Sorted.{IsSortedByKey};
 ghost use Rattle.gq_row.specs.Order.{compare_keys};
 ghost use Rattle.gq_group.specs.Groups.{Group};
@@ -31,7 +31,8 @@ impl GroupSpan {
     // A group in a list of 2^32 cells, which take 128 GiB, and one of 2^16 cells count as too large for memory.
     #[inline]
     fn new(front: Front, start: usize, key: usize, values: usize) -> Result<GroupSpan, AllocError>
-        ensures { IfOk result (IsSpan front start key values) }
+        ensures made { IfOk result (IsSpan front start key values) }
+        ensures fits { start < 2 ^ 32 → key < 2 ^ 16 → values < 2 ^ 16 → IsOk result }
     {
         match (
             u32::try_from(start),
