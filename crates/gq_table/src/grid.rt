@@ -200,7 +200,7 @@ fn reserve_cells(columns: &mut [ColumnCells], cells: usize) -> Result<(), AllocE
 
 // Makes a row so long, whatever its values.
 #[cold]
-fn fit(row: &mut Vec<Value>, width: usize) -> Result<(), AllocError>
+pub(crate) fn fit(row: &mut Vec<Value>, width: usize) -> Result<(), AllocError>
     ensures { OnOk result (length row.new.items ≡ width) }
 {
     row.resize_with(width, || Value::Null)

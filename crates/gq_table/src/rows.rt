@@ -3,7 +3,7 @@ ghost use Rattle.std.specs.Prelude.{◌≡◌, ◌<◌, ◌∷◌, [], true, fal
 ghost use Rattle.gq_row.specs.Rows.{cells_in};
 ghost use Rattle.gq_row.specs.Written.{IsInPlace};
 
-use crate::grid::Grid;
+use crate::grid::{Grid, fit};
 use crate::keyed::KeyedRows;
 use crate::sheet::Sheet;
 use gq_row::{Key, Row, Value};
@@ -144,7 +144,7 @@ impl<'a> RowCursor<'a> {
             All IsInPlace (cells_in columns.now self.now.row) → IsOk result }
     {
         if row.len() != columns.len() {
-            fit(self.alloc, row, columns.len())?;
+            fit_row(self.alloc, row, columns.len())?;
         }
         self.write_values(columns, row.cells_mut())
     }
@@ -168,11 +168,11 @@ impl<'a> RowCursor<'a> {
 
 // Makes a row so long, whatever its values.
 #[cold]
-fn fit(alloc: Global, row: &mut Row, width: usize) -> Result<(), AllocError>
+fn fit_row(alloc: Global, row: &mut Row, width: usize) -> Result<(), AllocError>
     ensures { OnOk result (length row.new ≡ width) }
 {
     let mut cells = mem::replace(row, Row::new(Vec::new(alloc))).into_cells();
-    cells.resize_with(width, || Value::Null)?;
+    fit(&mut cells, width)?;
     *row = Row::new(cells);
     Ok(())
 }
