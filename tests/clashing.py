@@ -2,43 +2,42 @@
 
     clashing.py ROWS
 
-The hash is FNV-1a, of which the lowest bits of a state tell those of the next: so the fronts and the backs of texts are joined
-where their states meet. All texts have eight letters, and the lowest 20 bits of their hashes are alike.
+The hash takes in the length of a text, its first eight bytes and its last eight, each by an xor and a multiplication. So of
+sixteen bytes the last eight can make up for whatever the first eight did: where they are the state that these leave, the next
+one is 0, and so is the hash. Of one front in some four hundred they are bytes that a field of CSV can have as they stand.
 """
 import itertools
 import string
 import sys
 
-LOW = 2**20 - 1
-PRIME = 0x100000001B3
-BACK = pow(PRIME, -1, 2**20)
+START = 0xCBF29CE484222325
+APART = 0x9E3779B97F4A7C15
+WORD = 2**64 - 1
+HIGH = 0x8080808080808080
+PLAIN = bytes(set(range(1, 128)) - set(b'\n\r,"\\'))
 
 
-def pieces():
-    return ("".join(letters) for letters in itertools.product(string.ascii_lowercase, repeat=4))
+def step(state, word):
+    product = (state ^ word) * APART
+    return product & WORD ^ product >> 64
 
 
-def behind(state, data):
-    for byte in data:
-        state = (state ^ byte) * PRIME & LOW
-    return state
-
-
-def before(state, data):
-    for byte in reversed(data):
-        state = state * BACK & LOW ^ byte
-    return state
+def texts():
+    length = step(START, 16)
+    for letters in itertools.product(string.ascii_lowercase, repeat=8):
+        front = "".join(reversed(letters)).encode()
+        back = step(length, int.from_bytes(front, "little"))
+        if not back & HIGH:
+            data = back.to_bytes(8, "little")
+            if not data.translate(None, PLAIN):
+                yield front + data
 
 
 def main(rows):
-    start = behind(0xCBF29CE484222325 & LOW, b"\x02\x00\x00\x00\x08")
-    fronts = {}
-    for piece in pieces():
-        fronts.setdefault(behind(start, piece.encode()), []).append(piece)
-    texts = (front + back for back in pieces() for front in fronts.get(before(0, back.encode()), ()))
-    print("create t (a text, key (a))\nload t\na")
-    print(*itertools.islice(texts, rows), sep="\n")
-    print("\\.\ngroup t show count(*), min(a), max(a)")
+    out = sys.stdout.buffer
+    out.write(b"create t (a text, key (a))\nload t\na\n")
+    out.writelines(text + b"\n" for text in itertools.islice(texts(), rows))
+    out.write(b"\\.\ngroup t show count(*), min(a), max(a)\n")
 
 
 main(int(sys.argv[1]))

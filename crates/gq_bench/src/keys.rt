@@ -6,7 +6,7 @@ use std::alloc::{AllocError, Global};
 use std::io;
 use std::time::Instant;
 use sw_flat::FlatMap;
-use sw_probe::Fnv1a;
+use sw_probe::WordHash;
 
 /// One look-up for each row in a map of all keys.
 pub(crate) fn time_find(rt: &HostRuntime, shape: Shape, rows: usize) -> io::Result<Timing> {
@@ -31,12 +31,12 @@ pub(crate) fn time_insert(rt: &HostRuntime, shape: Shape, rows: usize) -> io::Re
     })
 }
 
-fn has_key(map: &FlatMap<Key, u64, Fnv1a>, row: &Row) -> bool {
+fn has_key(map: &FlatMap<Key, u64, WordHash>, row: &Row) -> bool {
     !row.is_empty() && map.contains(&KeyRef::new(row.cells(), &[0]))
 }
 
-fn map_of(alloc: Global, rows: &[Row]) -> Result<FlatMap<Key, u64, Fnv1a>, AllocError> {
-    let mut map = FlatMap::new(alloc, Fnv1a { seed: 0 });
+fn map_of(alloc: Global, rows: &[Row]) -> Result<FlatMap<Key, u64, WordHash>, AllocError> {
+    let mut map = FlatMap::new(alloc, WordHash { seed: 0 });
     for row in rows {
         if !row.is_empty() {
             let Ok(_) = map.insert_or_assign(Key::of(alloc, row.cells(), &[0])?, 0) else {

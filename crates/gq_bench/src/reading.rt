@@ -7,7 +7,7 @@ use std::alloc::{AllocError, Global};
 use std::io;
 use std::time::Instant;
 use sw_flat::FlatMap;
-use sw_probe::Fnv1a;
+use sw_probe::WordHash;
 
 /// The csv crate alone.
 pub(crate) fn time_csv(rt: &HostRuntime, shape: Shape, rows: usize) -> io::Result<Timing> {
@@ -59,7 +59,7 @@ fn fill_map(alloc: Global, payload: &[u8], rows: usize) -> Result<usize, AllocEr
         .trim(Trim::None)
         .from_reader(alloc, payload);
     let mut record = ByteRecord::new(alloc);
-    let Ok(mut map) = FlatMap::with_room(alloc, Fnv1a { seed: 0 }, rows) else {
+    let Ok(mut map) = FlatMap::with_room(alloc, WordHash { seed: 0 }, rows) else {
         return Err(AllocError);
     };
     for _ in 0..usize::MAX {

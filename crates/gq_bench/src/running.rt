@@ -9,7 +9,7 @@ use gq_engine::{Budget, Engine, MemStore, RunStore};
 use gq_row::Limits;
 use std::time::Instant;
 use std::{fs, io};
-use sw_probe::Fnv1a;
+use sw_probe::WordHash;
 
 /// A task for an engine with the greatest budget, and with its runs in memory.
 pub(crate) fn time_task(
@@ -58,7 +58,7 @@ fn time_scripts<S: RunStore + Drop>(
     let Some(budget) = Budget::new(groups) else {
         return Err(io::Error::from(io::ErrorKind::InvalidInput));
     };
-    let hasher = Fnv1a { seed: 0 };
+    let hasher = WordHash { seed: 0 };
     let mut engine = Engine::new(rt.alloc(), hasher, store, budget, Limits::greatest());
     let is_made = answer(
         &mut engine,
@@ -80,7 +80,7 @@ fn time_scripts<S: RunStore + Drop>(
 
 // Runs a script, and tells whether none of its commands was refused.
 fn answer<S: RunStore>(
-    engine: &mut Engine<Fnv1a, S>,
+    engine: &mut Engine<WordHash, S>,
     script: &[u8],
     replies: &mut Vec<u8>,
 ) -> bool {

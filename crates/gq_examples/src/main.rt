@@ -13,7 +13,7 @@ use gq_row::{Key, Limits};
 use std::alloc::Global;
 use std::rt::Files;
 use std::{fs, io};
-use sw_probe::{Constant, Fnv1a, KeyHash, LowBits};
+use sw_probe::{Constant, Fnv1a, KeyHash, LowBits, WordHash};
 
 /// Whether a run of a script writes what it must, under a hasher and a budget.
 fn writes_within<H: KeyHash<Key> + Copy>(
@@ -53,6 +53,8 @@ fn is_right(rt: &(impl Files + AllocGlobal), name: &str) -> io::Result<bool> {
     Ok(
         writes(alloc, Fnv1a { seed: 0 }, script, due)
             && writes(alloc, Fnv1a { seed: u64::MAX }, script, due)
+            && writes(alloc, WordHash { seed: 0 }, script, due)
+            && writes(alloc, WordHash { seed: u64::MAX }, script, due)
             && writes(alloc, Constant(0), script, due)
             && writes(alloc, Constant(u64::MAX), script, due)
             && writes(alloc, LowBits(0), script, due)

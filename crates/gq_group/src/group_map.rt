@@ -2,10 +2,9 @@
 ghost use Rattle.std.specs.Prelude.{◌≡◌, ◌<◌, ◌≤◌, ◌^◌, ◌++◌, ◌∷◌, [], Some, List, length, IsTrue, IfOk, OnOk, OnErr};
 ghost use Rattle.std.specs.List.{slice_get};
 ghost use Rattle.std.specs.FinMap.{insert, empty, len};
-ghost use Rattle.sw_table.specs.LaidOut.{hash_by};
 ghost use Rattle.sw_flat.specs.Maps.{ListsAll};
 ghost use Rattle.gq_row.specs.declared.value.Value.{Value as Cell};
-ghost use Rattle.gq_row.specs.Classes.{class_of, bytes_of};
+ghost use Rattle.gq_row.specs.Classes.{class_of};
 ghost use Rattle.gq_row.specs.Rows.{key_of};
 ghost use Rattle.gq_group.specs.Entries.{Grouped, listed, tallies};
 ghost use Rattle.gq_group.specs.Groups.{fits_spec};
@@ -114,7 +113,7 @@ impl<H: KeyHash<Key> + Copy> GroupMap<H> {
     #[inline(always)]
     pub(crate) fn find(&self, key: &KeyRef<'_>) -> Found
         ensures found { IsGroup self.now.pairs (class_of key.now) result }
-        ensures absent { IsNoGroup (hash_by H.hash_of bytes_of self.now.hasher) self.now.pairs
+        ensures absent { IsNoGroup (H.hash_of self.now.hasher) self.now.pairs
             (class_of key.now) result }
     {
         self.index.find(key)
@@ -160,7 +159,7 @@ impl<H: KeyHash<Key> + Copy> GroupMap<H> {
     ) -> Result<(), AllocError>
         requires each { self.old.each ≡ length spec.now.aggs }
         requires fits { IsTrue (fits_spec spec.now row.now) }
-        requires absent { HasNoGroup (hash_by H.hash_of bytes_of self.old.hasher) self.old.pairs
+        requires absent { HasNoGroup (H.hash_of self.old.hasher) self.old.pairs
             (class_of (key_of spec.now.by row.now)) absence }
         ensures entries { OnOk result (listed self.new.pairs ≡
             insert (listed self.old.pairs) (class_of (key_of spec.now.by row.now))

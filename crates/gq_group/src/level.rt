@@ -1,8 +1,6 @@
 //! One reading of a source: groups of some keys to the sink, rows of other keys to runs.
 ghost use Rattle.std.specs.Prelude.{◌≡◌, ◌+◌, ◌<◌, ◌≤◌, ◌^◌, [], List, length, IsTrue, IfOk, OnOk, IfErr, cond, ◌==◌};
-ghost use Rattle.sw_table.specs.LaidOut.{hash_by};
 ghost use Rattle.gq_row.specs.declared.value.Value.{Value as Cell};
-ghost use Rattle.gq_row.specs.Classes.{bytes_of};
 ghost use Rattle.gq_group.specs.Access.{Apart, LeavesOthers, HasCause};
 ghost use Rattle.gq_group.specs.Groups.{fits_spec};
 ghost use Rattle.gq_group.specs.Leveling.{RowsRead, LevelRead};
@@ -87,7 +85,7 @@ fn place_row<H: KeyHash<Key> + Copy, S: RunStore>(
     requires places { length slots.old.items ≡ classes_at level }
     requires ours { Ours slots.old.items (S.runs store.old) }
     ensures places { IfOk result (λ placed. Places spec.now table.old.budget.entries (class_by
-        (hash_by H.hash_of bytes_of table.old.groups.hasher) level) (classes_at level) row.now (S.runs
+        (H.hash_of table.old.groups.hasher) level) (classes_at level) row.now (S.runs
         store.old) (S.runs store.new) table.old.groups.pairs table.new.groups.pairs slots.old.items slots.new.items
         placed.written placed.began) }
     ensures budget { table.new.budget ≡ table.old.budget }
@@ -145,7 +143,7 @@ fn read_rows<H: KeyHash<Key> + Copy, S: RunStore, R: RowSource<S>>(
     requires start { Resident spec.now table.old.budget.entries [] table.old.groups.pairs }
     requires places { length slots.old.items ≡ classes_at level }
     requires empty { AreEmpty slots.old.items }
-    ensures { RowsRead spec.now table.old.budget.entries (class_by (hash_by H.hash_of bytes_of
+    ensures { RowsRead spec.now table.old.budget.entries (class_by (H.hash_of
         table.old.groups.hasher) level) (classes_at level) (R.bound source.old) (R.gives source.old
         (S.runs store.old)) (R.owns source.old) (R.owns source.new) (R.is_ready source.new (S.runs
         store.new)) R.makes_runs (S.runs store.old) (S.runs store.new) table.new.groups.pairs

@@ -1,9 +1,8 @@
 //! The groups that are kept in memory.
 ghost use Rattle.std.specs.Prelude.{◌≡◌, ◌≤◌, ◌<◌, ◌^◌, [], List, length, IsTrue, IfOk, OnOk};
 ghost use Rattle.std.specs.FinMap.{len};
-ghost use Rattle.sw_table.specs.LaidOut.{hash_by};
 ghost use Rattle.gq_row.specs.declared.value.Value.{Value as Cell};
-ghost use Rattle.gq_row.specs.Classes.{class_of, bytes_of};
+ghost use Rattle.gq_row.specs.Classes.{class_of};
 ghost use Rattle.gq_row.specs.Rows.{key_of};
 ghost use Rattle.gq_group.specs.Entries.{listed};
 ghost use Rattle.gq_group.specs.Groups.{fits_spec};
@@ -95,7 +94,7 @@ impl<H: KeyHash<Key> + Copy> ResidentTable<H> {
             Resident spec.now self.old.budget.entries rows self.old.groups.pairs →
             Offers spec.now self.old.budget.entries rows row.now self.old.groups.pairs self.new.groups.pairs
             answer) }
-        ensures hash { IfOk result (HasHash (hash_by H.hash_of bytes_of self.old.groups.hasher
+        ensures hash { IfOk result (HasHash (H.hash_of self.old.groups.hasher
             (class_of (key_of spec.now.by row.now)))) }
         ensures each { self.new.groups.each ≡ self.old.groups.each }
         ensures budget { self.new.budget ≡ self.old.budget }

@@ -20,7 +20,7 @@ struct LastBytes;
 impl<K: Keyed> KeyHash<K> for LastBytes {
     ghost use Rattle.sw_probe.specs.Hashes.{number_of};
 
-    ghost hash_of = { λ _. number_of };
+    ghost hash_of = { λ _ class. number_of (K.bytes class) };
 
     fn hash<Q: Names<K>>(&self, key: &Q) -> u64 {
         key.fold(0, &Digit)

@@ -7,7 +7,7 @@ use Rattle.gq_row.specs.declared.value.Value.TheVariants.{Null, Int, Text, NoCas
 use Rattle.gq_row.specs.Folding.{folded}
 use Rattle.gq_row.specs.Order.{equal_value, same_key}
 use Rattle.gq_row.specs.Rows.{cell, key_of}
-use Rattle.gq_row.specs.Classes.{class_of, raised, Decoded, decode, spelled, bytes_of}
+use Rattle.gq_row.specs.Classes.{class_of, raised, Decoded, decode, spelled, bytes_of, worded, words_of_class}
 use Rattle.gq_row.proofs.OrderLemmas.{same_key_exact, same_key_itself}
 
 abbrev whole : List Value → Decoded
@@ -47,6 +47,13 @@ told_class b x y h = same_from_decides b (same_key x y) (h.0, h.1) ((same_class 
 
 pub folded_class : (f : ℕ → ℕ → ℕ) (start acc : ℕ) (values : List Value) → acc ≡ fold f start (spelled values) → acc ≡ fold f start (bytes_of (class_of values))
 folded_class f start acc values e = e ∙ ap (fold f start) (sym (bytes_of_class values))
+
+pub words_of_values : (values : List Value) → words_of_class (class_of values) ≡ worded values
+unfolding words_of_class
+words_of_values values = ap (λ (d : Decoded). worded d.values) (decode_class values)
+
+pub worded_class : (f : ℕ → ℕ → ℕ) (start acc : ℕ) (values : List Value) → acc ≡ fold f start (worded values) → acc ≡ fold f start (words_of_class (class_of values))
+worded_class f start acc values e = e ∙ ap (fold f start) (sym (words_of_values values))
 
 -- lists of two lengths are no one key
 and_false : (a b : Bool) → false ≡ b → false ≡ (a && b)

@@ -2,7 +2,7 @@
 ghost use Rattle.std.specs.Prelude.{◌≡◌, ◌++◌, ◌<◌, ◌%◌, ◌^◌, All, length, map, fold};
 ghost use Rattle.std.specs.Int.{w32, to_be_bytes};
 ghost use Rattle.gq_row.specs.Folding.{fold_case, folded};
-ghost use Rattle.gq_row.specs.Classes.{class_of, bytes_of, spelling, spelled, tag_of};
+ghost use Rattle.gq_row.specs.Classes.{class_of, bytes_of, words_of_class, spelling, spelled, tag_of};
 ghost use Rattle.gq_row.specs.Order.{same_key};
 ghost use Rattle.gq_row.specs.Rows.{key_of};
 
@@ -10,18 +10,22 @@ use crate::folding::fold_byte;
 use crate::key::Key;
 use crate::text::Text;
 use crate::value::Value;
+use crate::words::{fold_cell_words, fold_folded_words, fold_row_words};
 use std::marker::Model;
-use sw_probe::{Keyed, Names, Step};
+use sw_probe::{Keyed, Names, Step, WordStep};
 
 /// Keys are the same where their values are. The bytes that are hashed of a key are those of its
 /// values, one after the other: null is 0; a number is 1 and its eight bytes in two's complement,
 /// the highest first; a text is 2, its length in four bytes, the highest first, and its own bytes; a
 /// text without case is 3, and then the same of its fold, which is what a key has. Of a length that
-/// needs more than 32 bits the low 32 count. They are folded one by one, without memory.
+/// needs more than 32 bits the low 32 count. They are folded one by one, without memory. The words are
+/// those of its values likewise: null is 0, a number itself, and a text the words of its bytes.
 impl Keyed for Key {
     ghost class = { class_of };
 
     ghost bytes = { bytes_of };
+
+    ghost words = { words_of_class };
 
     #[inline]
     fn same_key(&self, key: &Key) -> bool {
@@ -31,6 +35,11 @@ impl Keyed for Key {
     #[inline]
     fn fold_key<F: Step>(&self, start: u64, f: &F) -> u64 {
         fold_cells(self.cells(), start, f)
+    }
+
+    #[inline]
+    fn fold_key_words<F: WordStep>(&self, start: u64, f: &F) -> u64 {
+        fold_cell_words(self.cells(), start, f)
     }
 }
 
@@ -77,6 +86,11 @@ impl Names<Key> for KeyRef<'_> {
     fn fold<F: Step>(&self, start: u64, f: &F) -> u64 {
         fold_row(self.positions, self.row, start, f)
     }
+
+    #[inline]
+    fn fold_words<F: WordStep>(&self, start: u64, f: &F) -> u64 {
+        fold_row_words(self.positions, self.row, start, f)
+    }
 }
 
 /// Values as a borrowed key: they name the same class as the [`Key`] of their folds.
@@ -94,6 +108,11 @@ impl Names<Key> for KeyCells<'_> {
     #[inline]
     fn fold<F: Step>(&self, start: u64, f: &F) -> u64 {
         fold_folded(self.0, start, f)
+    }
+
+    #[inline]
+    fn fold_words<F: WordStep>(&self, start: u64, f: &F) -> u64 {
+        fold_folded_words(self.0, start, f)
     }
 }
 

@@ -1,7 +1,6 @@
 pub mod Checking
 pub mod Program
 pub mod Session
-pub mod Spreading
 pub mod Sources
 pub mod Statuses
 pub mod Streams

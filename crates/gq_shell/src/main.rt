@@ -22,7 +22,6 @@ mod report;
 mod script;
 mod seeding;
 mod session;
-mod spread;
 mod stopping;
 mod telling;
 #[cfg(test)]

@@ -9,7 +9,6 @@ ghost use Rattle.gq_options.specs.Words.{asked_by};
 
 use crate::seeding::{RunSeed, draw};
 use crate::session::session;
-use crate::spread::Spread;
 use crate::stopping::{answer_error, stop_for_memory};
 use gq_dir::DirStore;
 use gq_engine::{Budget, Engine, MemStore, RunStore};
@@ -20,6 +19,7 @@ use std::fs::Files;
 use std::io::{self, Read, Write};
 use std::mem;
 use std::random::RandomSource;
+use sw_probe::WordHash;
 
 /// Runs a script in a new engine under the greatest limits, with the seed given or one of the source,
 /// the budget given and a run store in the folder given, or in memory where there is none; and answers
@@ -111,13 +111,13 @@ fn engine_over<T: RunStore>(
     options: Options,
     seed: RunSeed,
     store: T,
-) -> Engine<Spread, T>
+) -> Engine<WordHash, T>
     ensures setting { setting_of T.runs result ≡ record { limits = GREATEST; honest = (T.runs store).honest } }
     ensures state { state_of T.runs result ≡ record { database = []; failures = (T.runs store).failures } }
 {
     Engine::new(
         alloc,
-        Spread {
+        WordHash {
             seed: seed.number(),
         },
         store,
@@ -128,7 +128,7 @@ fn engine_over<T: RunStore>(
 
 // Opens the script, and runs it in an engine.
 fn run_in<T, R, S, F, W, E>(
-    engine: &mut Engine<Spread, T>,
+    engine: &mut Engine<WordHash, T>,
     options: Options,
     seed: RunSeed,
     opener: F,
@@ -166,7 +166,7 @@ where
 
 // Runs a script that is open.
 fn run_open<T, R, W, E>(
-    engine: &mut Engine<Spread, T>,
+    engine: &mut Engine<WordHash, T>,
     options: Options,
     seed: RunSeed,
     script: R,

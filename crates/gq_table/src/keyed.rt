@@ -1,8 +1,7 @@
 //! Rows under their keys.
 ghost use Rattle.std.specs.Prelude.{◌≡◌, ◌<◌, ◌≤◌, ◌++◌, ◌∷◌, [], All, IsTrue, OnOk, OnErr, IfErr, IsPermutation, length, slice_index_or};
-ghost use Rattle.sw_table.specs.LaidOut.{hash_by};
 ghost use Rattle.sw_index.specs.Index.{IsAbsence};
-ghost use Rattle.gq_row.specs.Classes.{class_of, bytes_of};
+ghost use Rattle.gq_row.specs.Classes.{class_of};
 ghost use Rattle.gq_row.specs.Rows.{key_of};
 ghost use Rattle.gq_row.specs.Tables.{put_by_key, delete, has_row};
 ghost use Rattle.gq_table.specs.Changes.{named_key};
@@ -120,7 +119,7 @@ impl<H: KeyHash<Key>> KeyedRows<H> {
         requires columns { All (λ position. position < length row.old) positions.now }
         requires even { All (λ other. length other ≡ length row.old) self.old.rows }
         requires own { OwnKeys positions.now self.old }
-        requires absent { IsAbsence class_of (hash_by H.hash_of bytes_of self.old.index.hasher)
+        requires absent { IsAbsence class_of (H.hash_of self.old.index.hasher)
             self.old.index.keys (class_of (key_of positions.now row.old)) absence }
         ensures own { OwnKeys positions.now self.new }
         ensures ok { OnOk result (self.new.rows ≡ put_by_key positions.now self.old.rows row.old) }
@@ -148,7 +147,7 @@ impl<H: KeyHash<Key>> KeyedRows<H> {
         cells: &mut [Value],
     ) -> Result<(), AllocError>
         requires even { All (λ other. length other ≡ length cells.old) self.old.rows }
-        requires absent { IsAbsence class_of (hash_by H.hash_of bytes_of self.old.index.hasher)
+        requires absent { IsAbsence class_of (H.hash_of self.old.index.hasher)
             self.old.index.keys (class_of key) absence }
         ensures rows { OnOk result (self.new.rows ≡ self.old.rows ++ cells.old ∷ []) }
         ensures keys { OnOk result (self.new.index.keys ≡ self.old.index.keys ++ key ∷ []) }

@@ -1,7 +1,5 @@
 //! The rows of one list put into another by their keys, all or none.
 ghost use Rattle.std.specs.Prelude.{◌≡◌, ◌+◌, ◌<◌, ◌≤◌, ◌⊎◌, ◌++◌, All, IsTrue, IfOk, IfErr, OnOk, OnErr, length, take, count_by, fold};
-ghost use Rattle.sw_table.specs.LaidOut.{hash_by};
-ghost use Rattle.gq_row.specs.Classes.{bytes_of};
 ghost use Rattle.gq_row.specs.Tables.{put_by_key};
 ghost use Rattle.gq_table.specs.Keyed.{OwnKeys, AreApart};
 ghost use Rattle.gq_table.specs.Places.{AreEven, ArePlaces, AreStillThere, AreThere, is_absent, with_place, without_place};
@@ -76,7 +74,7 @@ impl<H: KeyHash<Key> + Copy> KeyedRows<H> {
         requires own { OwnKeys positions.now self.now }
         requires mine { OwnKeys positions.now staged.now }
         ensures { IfOk result (λ places. ArePlaces positions.now
-            (hash_by H.hash_of bytes_of self.now.index.hasher) self.now.rows staged.now.rows
+            (H.hash_of self.now.index.hasher) self.now.rows staged.now.rows
             places.items) }
     {
         let _ = positions;
@@ -102,7 +100,7 @@ impl<H: KeyHash<Key> + Copy> KeyedRows<H> {
         requires own { OwnKeys positions.now self.old }
         requires apart { IsTrue (AreApart positions.now staged.old) }
         requires places { ArePlaces positions.now
-            (hash_by H.hash_of bytes_of self.old.index.hasher) self.old.rows staged.old places.now }
+            (H.hash_of self.old.index.hasher) self.old.rows staged.old places.now }
         ensures rows { OnOk result (self.new.rows ≡
             self.old.rows ++ without_place staged.old places.now) }
         ensures own { OwnKeys positions.now self.new }
@@ -133,7 +131,7 @@ impl<H: KeyHash<Key> + Copy> KeyedRows<H> {
         requires own { OwnKeys positions.now self.old }
         requires apart { IsTrue (AreApart positions.now staged.old) }
         requires places { ArePlaces positions.now
-            (hash_by H.hash_of bytes_of self.old.index.hasher) self.old.rows staged.old places.now }
+            (H.hash_of self.old.index.hasher) self.old.rows staged.old places.now }
         ensures rows { OnOk result (self.new.rows ≡
             self.old.rows ++ without_place staged.old places.now) }
         ensures own { OwnKeys positions.now self.new }

@@ -2,7 +2,7 @@
 use crate::map::Map;
 use std::alloc::{AllocError, Global};
 use sw_flat::{Entry, FlatMap};
-use sw_probe::{ByteKey, Direct, Fnv1a, KeyHash};
+use sw_probe::{ByteKey, Direct, Fnv1a, KeyHash, WordHash};
 
 /// A hasher to begin with.
 pub(crate) trait Start: Drop {
@@ -12,6 +12,12 @@ pub(crate) trait Start: Drop {
 impl Start for Fnv1a {
     fn start() -> Fnv1a {
         Fnv1a { seed: 0 }
+    }
+}
+
+impl Start for WordHash {
+    fn start() -> WordHash {
+        WordHash { seed: 0 }
     }
 }
 
@@ -97,7 +103,7 @@ impl<H: KeyHash<u64> + Start> Map for FlatNumbers<H> {
 /// A flat map of texts, looked up by their bytes.
 #[derive(Drop)]
 pub(crate) struct FlatTexts {
-    map: FlatMap<Vec<u8>, u64, Fnv1a>,
+    map: FlatMap<Vec<u8>, u64, WordHash>,
 }
 
 impl Map for FlatTexts {
@@ -105,12 +111,12 @@ impl Map for FlatTexts {
 
     fn new(alloc: Global) -> FlatTexts {
         FlatTexts {
-            map: FlatMap::new(alloc, Fnv1a { seed: 0 }),
+            map: FlatMap::new(alloc, WordHash { seed: 0 }),
         }
     }
 
     fn with_room(alloc: Global, n: usize) -> Result<FlatTexts, AllocError> {
-        match FlatMap::with_room(alloc, Fnv1a { seed: 0 }, n) {
+        match FlatMap::with_room(alloc, WordHash { seed: 0 }, n) {
             Ok(map) => Ok(FlatTexts { map }),
             Err(_) => Err(AllocError),
         }

@@ -7,7 +7,7 @@ use crate::map::Map;
 use crate::row_keys::FlatRowKeys;
 use crate::timing::time;
 use std::io;
-use sw_probe::{Direct, Fnv1a};
+use sw_probe::{Direct, Fnv1a, WordHash};
 
 // How many calls are measured at once, and how often; the least time counts.
 const ALL_CALLS: u64 = 2_000_000;
@@ -16,12 +16,14 @@ const REPEATS: u32 = 5;
 
 /// Prints, for each kind of call on so many keys, the nanoseconds of one call of the flat map and of
 /// the dense map, and the quotient: of numbers, of numbers that are their own hash, of texts, and of
-/// texts as the engine keeps them.
+/// texts as the engine keeps them, by their bytes and by their words.
 pub(crate) fn report(rt: &HostRuntime, n: usize) -> io::Result<()> {
     report_both::<FlatNumbers<Fnv1a>, DenseNumbers>(rt, n, "fnv")?;
+    report_flat::<FlatNumbers<WordHash>>(rt, n, "words")?;
     report_flat::<FlatNumbers<Direct>>(rt, n, "direct")?;
     report_both::<FlatTexts, DenseTexts>(rt, n, "text")?;
-    report_flat::<FlatRowKeys>(rt, n, "inline")
+    report_flat::<FlatRowKeys<Fnv1a>>(rt, n, "inline fnv")?;
+    report_flat::<FlatRowKeys<WordHash>>(rt, n, "inline words")
 }
 
 fn report_both<F: Map, D: Map>(rt: &HostRuntime, n: usize, hash: &str) -> io::Result<()> {
@@ -80,7 +82,7 @@ fn print_both(
     }
     let quotient = flat.tenths.saturating_mul(100) / dense.tenths.max(1);
     println!(rt;
-        "{n:>9}  {hash:<6}  {name:<15} {:>5}.{} {:>5}.{} {:>7}.{:02}",
+        "{n:>9}  {hash:<12}  {name:<15} {:>5}.{} {:>5}.{} {:>7}.{:02}",
         flat.tenths / 10,
         flat.tenths % 10,
         dense.tenths / 10,
@@ -92,7 +94,7 @@ fn print_both(
 
 fn print_flat(rt: &HostRuntime, n: usize, hash: &str, name: &str, flat: Least) -> io::Result<()> {
     println!(rt;
-        "{n:>9}  {hash:<6}  {name:<15} {:>5}.{}",
+        "{n:>9}  {hash:<12}  {name:<15} {:>5}.{}",
         flat.tenths / 10,
         flat.tenths % 10
     )

@@ -1,28 +1,29 @@
 //! The flat map of this repository, of keys as the engine keeps them.
+use crate::flat::Start;
 use crate::keys::Key;
 use crate::map::Map;
 use gq_row::{Key as RowKey, KeyCells, KeyRef};
 use std::alloc::{AllocError, Global};
 use sw_flat::{Entry, FlatMap};
-use sw_probe::Fnv1a;
+use sw_probe::KeyHash;
 
 /// A flat map of keys of rows, looked up by their values.
 #[derive(Drop)]
-pub(crate) struct FlatRowKeys {
-    map: FlatMap<RowKey, u64, Fnv1a>,
+pub(crate) struct FlatRowKeys<H: KeyHash<RowKey> + Start> {
+    map: FlatMap<RowKey, u64, H>,
 }
 
-impl Map for FlatRowKeys {
+impl<H: KeyHash<RowKey> + Start> Map for FlatRowKeys<H> {
     type Key = RowKey;
 
-    fn new(alloc: Global) -> FlatRowKeys {
+    fn new(alloc: Global) -> FlatRowKeys<H> {
         FlatRowKeys {
-            map: FlatMap::new(alloc, Fnv1a { seed: 0 }),
+            map: FlatMap::new(alloc, H::start()),
         }
     }
 
-    fn with_room(alloc: Global, n: usize) -> Result<FlatRowKeys, AllocError> {
-        match FlatMap::with_room(alloc, Fnv1a { seed: 0 }, n) {
+    fn with_room(alloc: Global, n: usize) -> Result<FlatRowKeys<H>, AllocError> {
+        match FlatMap::with_room(alloc, H::start(), n) {
             Ok(map) => Ok(FlatRowKeys { map }),
             Err(_) => Err(AllocError),
         }

@@ -1,8 +1,9 @@
 //! A key type of one's own: names that are the same in capitals.
-ghost use Rattle.std.specs.Prelude.{◌≡◌, map, fold, string_bytes};
+ghost use Rattle.std.specs.Prelude.{◌≡◌, ◌∷◌, [], map, fold, string_bytes};
 ghost use Rattle.std.specs.Char.{to_ascii_lowercase};
+ghost use Rattle.sw_probe.specs.Hashes.{fnv_of};
 
-use sw_probe::{Keyed, Names, Step};
+use sw_probe::{FNV_START, FnvStep, Keyed, Names, Step, WordStep};
 
 /// A name, which is the same name where only the case of ASCII letters differs.
 #[derive(Debug, Drop)]
@@ -13,12 +14,18 @@ impl Keyed for Name {
 
     ghost bytes = { λ class. class };
 
+    ghost words = { λ class. fnv_of 0 class ∷ [] };
+
     fn same_key(&self, key: &Name) -> bool {
         self.0.eq_ignore_ascii_case(key.0.as_str())
     }
 
     fn fold_key<F: Step>(&self, start: u64, f: &F) -> u64 {
         fold_lowercase(self.0.as_bytes(), start, f)
+    }
+
+    fn fold_key_words<F: WordStep>(&self, start: u64, f: &F) -> u64 {
+        f.step(start, self.fold_key(FNV_START, &FnvStep))
     }
 }
 
@@ -35,6 +42,13 @@ impl Names<Name> for NameRef<'_> {
 
     fn fold<F: Step>(&self, start: u64, f: &F) -> u64 {
         fold_lowercase(self.0.as_bytes(), start, f)
+    }
+
+    fn fold_words<F: WordStep>(&self, start: u64, f: &F) -> u64 {
+        f.step(
+            start,
+            fold_lowercase(self.0.as_bytes(), FNV_START, &FnvStep),
+        )
     }
 }
 

@@ -5,7 +5,6 @@ ghost use Rattle.std.specs.FinMap.{insert, get, remove, contains_key};
 ghost use Rattle.sw_table.specs.View.{slot_count};
 ghost use Rattle.sw_table.specs.Entries.{entries};
 ghost use Rattle.sw_table.specs.Sizes.{SameOrGrown};
-ghost use Rattle.sw_table.specs.LaidOut.{hash_by};
 ghost use Rattle.sw_table.specs.Insertion.{HasSpace, InPlace, RefusesGrowth};
 ghost use Rattle.sw_flat.specs.declared.emplaced.Emplaced.TheVariants.{Inserted, Present};
 ghost use Rattle.sw_flat.specs.Maps.{value_at, stored_key, added};
@@ -34,7 +33,7 @@ impl<K: Keyed, V, H: KeyHash<K>> FlatMap<K, V, H> {
         ensures present { IsTrue (contains_key (entries K.class self.old) (K.class key)) →
             IsOk result × (self.new ≡ self.old) }
         ensures in_place { HasSpace K.class self.old
-            (hash_by H.hash_of K.bytes self.old.hasher (K.class key)) →
+            (H.hash_of self.old.hasher (K.class key)) →
             InPlace result self.old self.new }
         ensures slots { SameOrGrown (slot_count self.old) (slot_count self.new) }
         ensures hasher { self.new.hasher ≡ self.old.hasher }
@@ -65,7 +64,7 @@ impl<K: Keyed, V, H: KeyHash<K>> FlatMap<K, V, H> {
         ensures present { IsTrue (contains_key (entries K.class self.old) (K.class key)) →
             InPlace result self.old self.new }
         ensures in_place { HasSpace K.class self.old
-            (hash_by H.hash_of K.bytes self.old.hasher (K.class key)) →
+            (H.hash_of self.old.hasher (K.class key)) →
             InPlace result self.old self.new }
         ensures slots { SameOrGrown (slot_count self.old) (slot_count self.new) }
         ensures hasher { self.new.hasher ≡ self.old.hasher }

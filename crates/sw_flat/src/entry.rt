@@ -4,7 +4,6 @@ ghost use Rattle.std.specs.Option.{option_map};
 ghost use Rattle.std.specs.FinMap.{insert};
 ghost use Rattle.sw_table.specs.View.{slot_count, entry_at, with_value, IsFull};
 ghost use Rattle.sw_table.specs.Entries.{entries};
-ghost use Rattle.sw_table.specs.LaidOut.{hash_by};
 ghost use Rattle.sw_table.specs.Sizes.{SameOrGrown};
 ghost use Rattle.sw_table.specs.Insertion.{HasSpace, InPlace, RefusesGrowth};
 
@@ -48,7 +47,7 @@ impl<K: Keyed, V, H: KeyHash<K>> FlatMap<K, V, H> {
     #[inline]
     pub fn entry<Q: Names<K>>(&self, q: &Q) -> Entry
         ensures occupied { IsOccupied K.class self.now (Q.named q.now) result }
-        ensures vacant { IsVacant K.class (hash_by H.hash_of K.bytes self.now.hasher) self.now
+        ensures vacant { IsVacant K.class (H.hash_of self.now.hasher) self.now
             (Q.named q.now) result }
     {
         let hash = self.table.hash(q);
@@ -91,14 +90,14 @@ impl<K: Keyed, V, H: KeyHash<K>> FlatMap<K, V, H> {
     /// was.
     #[inline]
     pub fn fill(&mut self, vacancy: Vacancy, key: K, value: V) -> Result<SlotNo, Refused<K, V>>
-        requires { IsVacancy K.class (hash_by H.hash_of K.bytes self.old.hasher) self.old
+        requires { IsVacancy K.class (H.hash_of self.old.hasher) self.old
             (K.class key) vacancy }
         ensures full { IfOk result (λ s. IsFull self.new s.index) }
         ensures entry { IfOk result (λ s. entry_at self.new s.index ≡ Some (key, value)) }
         ensures entries { OnOk result (entries K.class self.new ≡
             insert (entries K.class self.old) (K.class key) (key, value)) }
         ensures in_place { HasSpace K.class self.old
-            (hash_by H.hash_of K.bytes self.old.hasher (K.class key)) →
+            (H.hash_of self.old.hasher (K.class key)) →
             InPlace result self.old self.new }
         ensures slots { SameOrGrown (slot_count self.old) (slot_count self.new) }
         ensures hasher { self.new.hasher ≡ self.old.hasher }

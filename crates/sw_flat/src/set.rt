@@ -6,7 +6,6 @@ ghost use Rattle.std.specs.FinMap.{empty, get, insert, remove, len, contains_key
 ghost use Rattle.sw_table.specs.View.{slot_count, fresh, NoneDeleted};
 ghost use Rattle.sw_table.specs.Entries.{entries};
 ghost use Rattle.sw_table.specs.Sizes.{room_of, SameOrGrown, IsCapacity};
-ghost use Rattle.sw_table.specs.LaidOut.{hash_by};
 ghost use Rattle.sw_table.specs.Insertion.{HasSpace, InPlace, RefusesGrowth};
 ghost use Rattle.sw_table.specs.Room.{IsMadeFor, GrowsFor, RefusesPast, RefusesRoom};
 ghost use Rattle.sw_flat.specs.Maps.{added};
@@ -168,7 +167,7 @@ impl<K: Keyed, H: KeyHash<K>> FlatSet<K, H> {
         ensures present { IsTrue (contains_key (entries K.class self.old) (K.class key)) →
             IsOk result × (self.new ≡ self.old) }
         ensures in_place { HasSpace K.class self.old
-            (hash_by H.hash_of K.bytes self.old.hasher (K.class key)) →
+            (H.hash_of self.old.hasher (K.class key)) →
             InPlace result self.old self.new }
         ensures slots { SameOrGrown (slot_count self.old) (slot_count self.new) }
         ensures hasher { self.new.hasher ≡ self.old.hasher }
@@ -190,7 +189,7 @@ impl<K: Keyed, H: KeyHash<K>> FlatSet<K, H> {
     #[inline]
     pub fn entry<Q: Names<K>>(&self, q: &Q) -> Entry
         ensures occupied { IsOccupied K.class self.now (Q.named q.now) result }
-        ensures vacant { IsVacant K.class (hash_by H.hash_of K.bytes self.now.hasher) self.now
+        ensures vacant { IsVacant K.class (H.hash_of self.now.hasher) self.now
             (Q.named q.now) result }
     {
         self.map.entry(q)
@@ -203,12 +202,12 @@ impl<K: Keyed, H: KeyHash<K>> FlatSet<K, H> {
     /// 2^28, else with `Memory`. The key is then handed back, and the set is as it was.
     #[inline]
     pub fn fill(&mut self, vacancy: Vacancy, key: K) -> Result<(), RefusedKey<K>>
-        requires { IsVacancy K.class (hash_by H.hash_of K.bytes self.old.hasher) self.old
+        requires { IsVacancy K.class (H.hash_of self.old.hasher) self.old
             (K.class key) vacancy }
         ensures entries { OnOk result (entries K.class self.new ≡
             insert (entries K.class self.old) (K.class key) (key, tt)) }
         ensures in_place { HasSpace K.class self.old
-            (hash_by H.hash_of K.bytes self.old.hasher (K.class key)) →
+            (H.hash_of self.old.hasher (K.class key)) →
             InPlace result self.old self.new }
         ensures slots { SameOrGrown (slot_count self.old) (slot_count self.new) }
         ensures hasher { self.new.hasher ≡ self.old.hasher }

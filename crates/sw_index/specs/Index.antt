@@ -52,6 +52,11 @@ abbrev pub hash_bytes : List ℕ → List ℕ
 hash_bytes [] = []
 hash_bytes (hash ∷ rest) = bytes_high_first 8 hash
 
+-- the word to hash: the hash
+abbrev pub hash_word : List ℕ → List ℕ
+hash_word [] = []
+hash_word (hash ∷ rest) = hash ∷ []
+
 -- the number of the first key that passes
 abbrev pub number_in : {K : Type 0} → (K → Bool) → List K → Option ℕ
 number_in test [] = None

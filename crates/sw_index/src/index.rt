@@ -1,7 +1,6 @@
 //! The index.
 ghost use Rattle.std.specs.Prelude.{◌≡◌, ◌<◌, ◌++◌, ◌∷◌, [], Some, length, OnOk, OnErr};
 ghost use Rattle.std.specs.List.{slice_get};
-ghost use Rattle.sw_table.specs.LaidOut.{hash_by};
 ghost use Rattle.sw_index.specs.Index.{IsFound, IsAbsent, IsAbsence, AreDifferent};
 
 use crate::found::{Absence, Found};
@@ -24,14 +23,13 @@ pub struct Index<K: Keyed, H: KeyHash<K>> {
 
 impl<K: Keyed, H: KeyHash<K>> Model for Index<K, H> {
     ghost use Rattle.sw_table.specs.Entries.{entries};
-    ghost use Rattle.sw_table.specs.LaidOut.{hash_by};
     ghost use Rattle.sw_index.specs.Index.{IndexView, IsIndexed, class_of_number};
 
     ghost Value = { IndexView K H };
 
     ghost view = { λ x. record { keys = x.keys.items; hasher = x.hasher } };
 
-    ghost invariant = { λ x. IsIndexed K.class (hash_by H.hash_of K.bytes x.hasher)
+    ghost invariant = { λ x. IsIndexed K.class (H.hash_of x.hasher)
         x.keys.items (entries class_of_number x.numbers) };
 }
 
@@ -77,7 +75,7 @@ impl<K: Keyed, H: KeyHash<K>> Index<K, H> {
     #[inline]
     pub fn find<Q: Names<K>>(&self, q: &Q) -> Found
         ensures found { IsFound K.class self.now.keys (Q.named q.now) result }
-        ensures absent { IsAbsent K.class (hash_by H.hash_of K.bytes self.now.hasher) self.now.keys
+        ensures absent { IsAbsent K.class (H.hash_of self.now.hasher) self.now.keys
             (Q.named q.now) result }
     {
         let hash = self.hasher.hash(q);
@@ -99,7 +97,7 @@ impl<K: Keyed, H: KeyHash<K>> Index<K, H> {
     pub fn add(&mut self, absence: Absence, key: K) -> Result<(), AllocError>
     where
         K: Drop,
-        requires { IsAbsence K.class (hash_by H.hash_of K.bytes self.old.hasher) self.old.keys
+        requires { IsAbsence K.class (H.hash_of self.old.hasher) self.old.keys
             (K.class key) absence }
         ensures added { OnOk result (self.new.keys ≡ self.old.keys ++ key ∷ []) }
         ensures unchanged { OnErr result (self.new ≡ self.old) }

@@ -4,9 +4,9 @@ ghost use Rattle.std.specs.FinMap.{get, insert, remove};
 ghost use Rattle.sw_probe.specs.Hashes.{number_of, read_step};
 ghost use Rattle.sw_table.specs.Entries.{entries};
 ghost use Rattle.sw_table.specs.View.{entry_at, IsFull};
-ghost use Rattle.sw_index.specs.Index.{class_of_number, hash_bytes};
+ghost use Rattle.sw_index.specs.Index.{class_of_number, hash_bytes, hash_word};
 
-use sw_probe::{KeyHash, Keyed, Names, Step};
+use sw_probe::{KeyHash, Keyed, Names, Step, WordStep};
 use sw_table::{SlotNo, Table};
 
 /// The number of a key, and its hash.
@@ -23,6 +23,8 @@ impl Keyed for Numbered {
 
     ghost bytes = { hash_bytes };
 
+    ghost words = { hash_word };
+
     #[inline]
     fn same_key(&self, key: &Numbered) -> bool {
         self.hash == key.hash && self.number == key.number
@@ -32,6 +34,11 @@ impl Keyed for Numbered {
     fn fold_key<F: Step>(&self, start: u64, f: &F) -> u64 {
         self.hash.fold_key(start, f)
     }
+
+    #[inline]
+    fn fold_key_words<F: WordStep>(&self, start: u64, f: &F) -> u64 {
+        f.step(start, self.hash)
+    }
 }
 
 /// The hash that is known.
@@ -39,7 +46,7 @@ impl Keyed for Numbered {
 pub(crate) struct Known;
 
 impl KeyHash<Numbered> for Known {
-    ghost hash_of = { λ _. number_of };
+    ghost hash_of = { λ _ class. number_of (hash_bytes class) };
 
     #[inline]
     fn hash<Q: Names<Numbered>>(&self, key: &Q) -> u64 {

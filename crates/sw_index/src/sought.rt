@@ -3,7 +3,7 @@ ghost use Rattle.std.specs.Prelude.{◌≡◌};
 ghost use Rattle.sw_index.specs.Index.{AreDifferent, named_number};
 
 use crate::numbered::Numbered;
-use sw_probe::{Keyed, Names, Step};
+use sw_probe::{Keyed, Names, Step, WordStep};
 
 /// The keys of an index, and one that is asked for: it names the number that it has among them.
 #[derive(Drop)]
@@ -31,5 +31,10 @@ impl<K: Keyed, Q: Names<K>> Names<Numbered> for Sought<'_, K, Q> {
     #[inline]
     fn fold<F: Step>(&self, start: u64, f: &F) -> u64 {
         self.hash.fold_key(start, f)
+    }
+
+    #[inline]
+    fn fold_words<F: WordStep>(&self, start: u64, f: &F) -> u64 {
+        f.step(start, self.hash)
     }
 }

@@ -1,13 +1,14 @@
 //! Keys and values that count their drops, and a key that counts how often it is compared.
-ghost use Rattle.std.specs.Prelude.{◌≡◌, fold};
+ghost use Rattle.std.specs.Prelude.{◌≡◌, ◌∷◌, [], fold};
 ghost use Rattle.std.specs.Int.{bytes_high_first};
+ghost use Rattle.sw_probe.specs.Hashes.{number_of};
 
 use crate::expected::expect_at;
 use std::alloc::{AllocError, Global};
 use std::cell::Cell;
 use std::ops::Range;
 use std::process::Abort;
-use sw_probe::{Keyed, Names, Step};
+use sw_probe::{Keyed, Names, Step, WordStep};
 
 /// A value that counts in its own cell when it is dropped.
 pub(crate) struct Counted<'a> {
@@ -33,12 +34,18 @@ impl Keyed for CountedKey<'_> {
 
     ghost bytes = { λ bytes. bytes };
 
+    ghost words = { λ bytes. number_of bytes ∷ [] };
+
     fn same_key(&self, key: &Self) -> bool {
         self.number.same_key(&key.number)
     }
 
     fn fold_key<F: Step>(&self, start: u64, f: &F) -> u64 {
         self.number.fold_key(start, f)
+    }
+
+    fn fold_key_words<F: WordStep>(&self, start: u64, f: &F) -> u64 {
+        self.number.fold_key_words(start, f)
     }
 }
 
@@ -57,6 +64,12 @@ impl Names<CountedKey<'_>> for Number {
         ensures { result ≡ fold (F.next f.now) start (bytes_high_first 8 self.now.0) }
     {
         self.0.fold_key(start, f)
+    }
+
+    fn fold_words<F: WordStep>(&self, start: u64, f: &F) -> u64
+        ensures { result ≡ F.next f.now start (number_of (bytes_high_first 8 self.now.0)) }
+    {
+        self.0.fold_key_words(start, f)
     }
 }
 
@@ -77,6 +90,10 @@ impl Names<u64> for Asked<'_> {
 
     fn fold<F: Step>(&self, start: u64, f: &F) -> u64 {
         self.number.fold_key(start, f)
+    }
+
+    fn fold_words<F: WordStep>(&self, start: u64, f: &F) -> u64 {
+        self.number.fold_key_words(start, f)
     }
 }
 

@@ -6,7 +6,7 @@ use std::alloc::Global;
 use std::process::Abort;
 use std::test::Fail;
 use sw_flat::FlatMap;
-use sw_probe::{Constant, Direct, Fnv1a, KeyHash, LowBits};
+use sw_probe::{Constant, Direct, Fnv1a, KeyHash, LowBits, WordHash};
 
 // A map under a hasher, beside a list that holds the same.
 #[derive(Drop)]
@@ -170,6 +170,11 @@ where
 #[test]
 fn under_fnv_1a(rt: HostRuntime) -> Result<(), Fail> {
     run(&rt, rt.alloc(), Fnv1a { seed: 0 })
+}
+
+#[test]
+fn under_words(rt: HostRuntime) -> Result<(), Fail> {
+    run(&rt, rt.alloc(), WordHash { seed: 0 })
 }
 
 #[test]

@@ -5,7 +5,7 @@ use crate::table::{Numbers, adds, take, value_of, write};
 use std::alloc::Global;
 use std::process::Abort;
 use std::test::Fail;
-use sw_probe::{Constant, Direct, Fnv1a, KeyHash, LowBits};
+use sw_probe::{Constant, Direct, Fnv1a, KeyHash, LowBits, WordHash};
 use sw_table::Table;
 
 // Adds a key that is not there; only a full table grows.
@@ -99,6 +99,11 @@ fn run<H: KeyHash<u64> + Drop>(rt: &impl Abort, alloc: Global, hasher: H) -> Res
 #[test]
 fn under_fnv_1a(rt: HostRuntime) -> Result<(), Fail> {
     run(&rt, rt.alloc(), Fnv1a { seed: 0 })
+}
+
+#[test]
+fn under_words(rt: HostRuntime) -> Result<(), Fail> {
+    run(&rt, rt.alloc(), WordHash { seed: 0 })
 }
 
 #[test]

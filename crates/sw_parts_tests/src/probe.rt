@@ -5,8 +5,8 @@ use crate::expected::{expect, expect_at};
 use std::process::Abort;
 use std::test::Fail;
 use sw_probe::{
-    ByteKey, Constant, Direct, Fnv1a, KeyHash, Keyed, LowBits, Names, Probe, comes_everywhere,
-    comes_once, direct_is_the_key, group_counts, hash_both,
+    ByteKey, Constant, Direct, Fnv1a, KeyHash, Keyed, LowBits, Names, Probe, WordHash,
+    comes_everywhere, comes_once, direct_is_the_key, group_counts, hash_both,
 };
 
 // The hash of a byte string, by its borrowed form.
@@ -62,6 +62,36 @@ fn published_values_of_fnv_1a(rt: HostRuntime) {
     expect(&rt, hash_bytes(&seeded, b""), 0);
 }
 
+// The hashes of these were worked out by whole numbers of any size, from the definition.
+#[test]
+fn words_of_each_length(rt: HostRuntime) {
+    let due: [(&[u8], u64); 9] = [
+        (b"", 0x53654eaffebff65a),
+        (b"a", 0x2e457280c7f79467),
+        (b"Harstad", 0xfb4d48365a38cbe8),
+        (b"Trondhei", 0x98887cd002f29d0c),
+        (b"Trondheim", 0x736670c757316721),
+        (b"Kristiansund N. ", 0xa22e14bded04ed8c),
+        (b"Kristiansund N.  ", 0xa79d4df8af1363bc),
+        (b"abcdefghijklmnopqrstuvwx", 0x6e9e5f35904a8fe3),
+        (b"abcdefghijklmnopqrstuvwxy", 0x8eed63cd09764510),
+    ];
+    for (bytes, hash) in due {
+        expect(&rt, hash_bytes(&WordHash { seed: 0 }, bytes), hash);
+    }
+    expect(
+        &rt,
+        hash_bytes(&WordHash { seed: 7 }, b"a"),
+        0x70cfd1ca4c5539e5,
+    );
+    expect(
+        &rt,
+        WordHash { seed: 0 }.hash(&0x0102030405060708u64),
+        0xc36afb3c5033dd2b,
+    );
+    expect(&rt, WordHash { seed: 0 }.hash(&0u64), 0x86b07c27d10d4567);
+}
+
 #[test]
 fn other_hashers(rt: HostRuntime) {
     let low = [
@@ -87,6 +117,11 @@ fn expect_alike(rt: &impl Abort, owned: &Vec<u8>, borrowed: &ByteKey) {
     expect(rt, hash, hash_bytes(&hasher, b"Oslo"));
     expect(rt, hashes_agree(&hasher, owned, borrowed), true);
     expect(rt, hashes_agree(&LowBits(9), owned, owned), true);
+    expect(
+        rt,
+        hashes_agree(&WordHash { seed: 7 }, owned, borrowed),
+        true,
+    );
 }
 
 fn expect_same(rt: &impl Abort, owned: &Vec<u8>) {

@@ -1,3 +1,4 @@
 pub mod Hashes
 pub mod Inside
 pub mod Order
+pub mod Words

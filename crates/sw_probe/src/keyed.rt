@@ -9,14 +9,25 @@ pub trait Step {
         ensures { result ≡ next self.now acc byte };
 }
 
+/// A step of a fold over words of 64 bits: a function of its own value, what was folded so far and a
+/// word.
+pub trait WordStep {
+    ghost next: { Self → ℕ → ℕ → ℕ };
+
+    fn step(&self, acc: u64, word: u64) -> u64
+        ensures { result ≡ next self.now acc word };
+}
+
 /// A type of keys. Two keys are the same where their classes are equal.
 ///
-/// `class` writes the class of a key as a list of numbers, and `bytes` are the bytes to hash of a
-/// class.
+/// `class` writes the class of a key as a list of numbers. `bytes` are the bytes to hash of a class, and
+/// `words` the words, for hashers that take eight bytes at once.
 pub trait Keyed {
     ghost class: { Self → List ℕ };
 
     ghost bytes: { List ℕ → List ℕ };
+
+    ghost words: { List ℕ → List ℕ };
 
     /// Whether the two keys are the same.
     fn same_key(&self, key: &Self) -> bool
@@ -25,6 +36,10 @@ pub trait Keyed {
     /// Folds the step over the key's bytes, the first byte first.
     fn fold_key<F: Step>(&self, start: u64, f: &F) -> u64
         ensures { result ≡ fold (F.next f.now) start (bytes (class self.now)) };
+
+    /// Folds the step over the key's words, the first word first.
+    fn fold_key_words<F: WordStep>(&self, start: u64, f: &F) -> u64
+        ensures { result ≡ fold (F.next f.now) start (words (class self.now)) };
 }
 
 /// A value that names a class of keys: a key, or a borrowed form of one.
@@ -38,6 +53,10 @@ pub trait Names<K: Keyed> {
     /// Folds the step over the bytes of the class, the first byte first.
     fn fold<F: Step>(&self, start: u64, f: &F) -> u64
         ensures { result ≡ fold (F.next f.now) start (K.bytes (named self.now)) };
+
+    /// Folds the step over the words of the class, the first word first.
+    fn fold_words<F: WordStep>(&self, start: u64, f: &F) -> u64
+        ensures { result ≡ fold (F.next f.now) start (K.words (named self.now)) };
 }
 
 impl<K: Keyed> Names<K> for K {
@@ -52,12 +71,17 @@ impl<K: Keyed> Names<K> for K {
     fn fold<F: Step>(&self, start: u64, f: &F) -> u64 {
         self.fold_key(start, f)
     }
+
+    #[inline]
+    fn fold_words<F: WordStep>(&self, start: u64, f: &F) -> u64 {
+        self.fold_key_words(start, f)
+    }
 }
 
-/// A hash of keys: a function of the hasher's value and of the bytes of the class.
+/// A hash of keys: a function of the hasher's value and of the class.
 pub trait KeyHash<K: Keyed> {
     ghost hash_of: { Self → List ℕ → ℕ };
 
     fn hash<Q: Names<K>>(&self, key: &Q) -> u64
-        ensures { result ≡ hash_of self.now (K.bytes (Q.named key.now)) };
+        ensures { result ≡ hash_of self.now (Q.named key.now) };
 }

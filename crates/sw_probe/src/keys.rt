@@ -1,15 +1,21 @@
 //! Numbers and byte strings as keys.
-ghost use Rattle.std.specs.Prelude.{◌≡◌, ℕ, List, fold};
+ghost use Rattle.std.specs.Prelude.{◌≡◌, ℕ, List, [], ◌∷◌, fold};
 ghost use Rattle.std.specs.Int.{bytes_high_first};
+ghost use Rattle.sw_probe.specs.Hashes.{number_of};
+ghost use Rattle.sw_probe.specs.Words.{words_of};
 
 use crate::byte_strings::same_bytes;
-use crate::keyed::{Keyed, Names, Step};
+use crate::hashers::ReadStep;
+use crate::keyed::{Keyed, Names, Step, WordStep};
+use crate::words::{AsItIs, fold_byte_words};
 
-/// A number is the key of its eight bytes, the highest first.
+/// A number is the key of its eight bytes, the highest first, and its word is the number itself.
 impl Keyed for u64 {
     ghost class = { bytes_high_first 8 };
 
     ghost bytes = { λ bytes. bytes };
+
+    ghost words = { λ bytes. number_of bytes ∷ [] };
 
     #[inline]
     fn same_key(&self, key: &u64) -> bool {
@@ -29,13 +35,20 @@ impl Keyed for u64 {
         let acc = f.step(acc, (x >> 8 & 0xff) as u8);
         f.step(acc, (x & 0xff) as u8)
     }
+
+    #[inline]
+    fn fold_key_words<F: WordStep>(&self, start: u64, f: &F) -> u64 {
+        f.step(start, self.fold_key(0, &ReadStep))
+    }
 }
 
-/// A byte string is the key of its bytes.
+/// A byte string is the key of its bytes. Its words are those of [`fold_byte_words`].
 impl Keyed for Vec<u8> {
     ghost class = { λ key. key.items };
 
     ghost bytes = { λ bytes. bytes };
+
+    ghost words = { words_of };
 
     #[inline]
     fn same_key(&self, key: &Vec<u8>) -> bool {
@@ -45,6 +58,11 @@ impl Keyed for Vec<u8> {
     #[inline]
     fn fold_key<F: Step>(&self, start: u64, f: &F) -> u64 {
         fold_bytes(self.as_slice(), start, f)
+    }
+
+    #[inline]
+    fn fold_key_words<F: WordStep>(&self, start: u64, f: &F) -> u64 {
+        fold_byte_words(self.as_slice(), &AsItIs, start, f)
     }
 }
 
@@ -63,6 +81,11 @@ impl Names<Vec<u8>> for ByteKey<'_> {
     #[inline]
     fn fold<F: Step>(&self, start: u64, f: &F) -> u64 {
         fold_bytes(self.0, start, f)
+    }
+
+    #[inline]
+    fn fold_words<F: WordStep>(&self, start: u64, f: &F) -> u64 {
+        fold_byte_words(self.0, &AsItIs, start, f)
     }
 }
 

@@ -35,8 +35,8 @@ pub fn hash_both<K: Keyed, P: Names<K>, Q: Names<K>, H: KeyHash<K>>(
     one: &P,
     other: &Q,
 ) -> (u64, u64)
-    ensures one { result.0 ≡ H.hash_of hasher.now (K.bytes (P.named one.now)) }
-    ensures other { result.1 ≡ H.hash_of hasher.now (K.bytes (Q.named other.now)) }
+    ensures one { result.0 ≡ H.hash_of hasher.now (P.named one.now) }
+    ensures other { result.1 ≡ H.hash_of hasher.now (Q.named other.now) }
     ensures alike { P.named one.now ≡ Q.named other.now → result.0 ≡ result.1 }
 {
     (hasher.hash(one), hasher.hash(other))

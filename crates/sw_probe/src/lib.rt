@@ -16,11 +16,12 @@
 //! - [`Keyed`] is a type of keys. Each key belongs to a class, and two keys are the same where
 //!   their classes are. [`Names`] is a value that names a class, as a key does itself, or a
 //!   borrowed form of it: so a map can be asked without an owned key.
-//! - [`KeyHash`] hashes the bytes of a class. The clauses of these traits tie a hash to the
-//!   hasher's value and these bytes alone, so whatever names the same class hashes alike, for every
-//!   hasher: [`hash_both`] is the law.
+//! - [`KeyHash`] hashes a class, by its bytes or by its words of eight. The clauses of these traits tie
+//!   a hash to the hasher's value and the class alone, so whatever names the same class hashes alike, for
+//!   every hasher: [`hash_both`] is the law.
 //! - Keys here are `u64` and `Vec<u8>`, whose borrowed form is [`ByteKey`]. The hashers are
-//!   [`Fnv1a`], [`Constant`], [`LowBits`] and [`Direct`]. [`same_bytes`] compares keys of bytes.
+//!   [`Fnv1a`], [`WordHash`], [`Constant`], [`LowBits`] and [`Direct`]. [`same_bytes`] compares keys of
+//!   bytes.
 //!
 //! The contract above the crate: each group once, and equal keys hash alike.
 #![tactic(auto)]
@@ -32,11 +33,13 @@ mod keyed;
 mod keys;
 mod laws;
 mod probe;
+mod words;
 
 pub use byte_strings::same_bytes;
 pub use hash_parts::{h1, h2};
-pub use hashers::{Constant, Direct, Fnv1a, LowBits};
-pub use keyed::{KeyHash, Keyed, Names, Step};
+pub use hashers::{Constant, Direct, FNV_START, Fnv1a, FnvStep, LowBits, WordHash};
+pub use keyed::{KeyHash, Keyed, Names, Step, WordStep};
 pub use keys::ByteKey;
 pub use laws::{comes_everywhere, comes_once, direct_is_the_key, group_counts, hash_both};
 pub use probe::Probe;
+pub use words::{AsItIs, ByteMap, fold_byte_words};

@@ -6,10 +6,6 @@ use Rattle.sw_probe.specs.Order.{group_number, h1_of, h2_of}
 use Rattle.sw_slots.specs.Place.{place}
 use Rattle.sw_table.specs.Sizes.{IsCapacity, load_of}
 
--- the hash of a class of keys
-abbrev pub hash_by : {H : Type 0} → (H → List ℕ → ℕ) → (List ℕ → List ℕ) → H → List ℕ → ℕ
-hash_by hash_of bytes h c = hash_of h (bytes c)
-
 -- how many bytes are full
 abbrev pub full_count : List ℕ → ℕ
 full_count bs = count_by is_full bs

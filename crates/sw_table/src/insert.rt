@@ -4,7 +4,7 @@ ghost use Rattle.std.specs.FinMap.{insert, get, len};
 ghost use Rattle.sw_table.specs.View.{View, slot_count, entry_at, IsFull};
 ghost use Rattle.sw_table.specs.Entries.{entries};
 ghost use Rattle.sw_table.specs.Sizes.{SameOrGrown, room_of, load_of};
-ghost use Rattle.sw_table.specs.LaidOut.{hash_by, used_count};
+ghost use Rattle.sw_table.specs.LaidOut.{used_count};
 ghost use Rattle.sw_table.specs.Free.{IsFree, KeepsLoad, IsAtLoad};
 ghost use Rattle.sw_table.specs.Insertion.{HasSpace, InPlace, RefusesGrowth};
 
@@ -32,7 +32,7 @@ impl<K: Keyed, V, H: KeyHash<K>> Table<K, V, H> {
             insert (entries K.class self.old) (K.class key) (key, value)) }
         ensures slots { SameOrGrown (slot_count self.old) (slot_count self.new) }
         ensures in_place { HasSpace K.class self.old
-            (hash_by H.hash_of K.bytes self.old.hasher (K.class key)) →
+            (H.hash_of self.old.hasher (K.class key)) →
             InPlace result self.old self.new }
         ensures hasher { self.new.hasher ≡ self.old.hasher }
         ensures handed_back { IfErr result (λ r. (r.key ≡ key) × (r.value ≡ value)) }
@@ -46,7 +46,7 @@ impl<K: Keyed, V, H: KeyHash<K>> Table<K, V, H> {
     #[inline(always)]
     pub fn place_hashed(&mut self, key: K, value: V, hash: u64) -> Result<SlotNo, Refused<K, V>>
         requires absent { get (entries K.class self.old) (K.class key) ≡ None }
-        requires hash { hash ≡ hash_by H.hash_of K.bytes self.old.hasher (K.class key) }
+        requires hash { hash ≡ H.hash_of self.old.hasher (K.class key) }
         ensures full { IfOk result (λ s. IsFull self.new s.index) }
         ensures entry { IfOk result (λ s. entry_at self.new s.index ≡ Some (key, value)) }
         ensures entries { OnOk result (entries K.class self.new ≡
@@ -109,7 +109,7 @@ impl<K: Keyed, V, H: KeyHash<K>> Table<K, V, H> {
     fn fill(&mut self, index: usize, hash: u64, key: K, value: V)
         requires absent { get (entries K.class self.old) (K.class key) ≡ None }
         requires free { IsFree self.old.bytes hash index × KeepsLoad self.old.bytes index }
-        requires hash { hash ≡ hash_by H.hash_of K.bytes self.old.hasher (K.class key) }
+        requires hash { hash ≡ H.hash_of self.old.hasher (K.class key) }
         ensures full { IsFull self.new index }
         ensures entry { entry_at self.new index ≡ Some (key, value) }
         ensures entries { entries K.class self.new ≡

@@ -18,7 +18,7 @@ impl<K: Keyed, V, H: KeyHash<K>> Table<K, V, H> {
     /// The hash of the key that `q` names, for the calls that take one.
     #[inline]
     pub fn hash<Q: Names<K>>(&self, q: &Q) -> u64
-        ensures { result ≡ H.hash_of self.now.hasher (K.bytes (Q.named q.now)) }
+        ensures { result ≡ H.hash_of self.now.hasher (Q.named q.now) }
     {
         self.hasher.hash(q)
     }
@@ -37,7 +37,7 @@ impl<K: Keyed, V, H: KeyHash<K>> Table<K, V, H> {
     /// The slot of the key that `q` names, whose hash is known already.
     #[inline]
     pub fn find_hashed<Q: Names<K>>(&self, q: &Q, hash: u64) -> Option<SlotNo>
-        requires { hash ≡ H.hash_of self.now.hasher (K.bytes (Q.named q.now)) }
+        requires { hash ≡ H.hash_of self.now.hasher (Q.named q.now) }
         ensures full { IfSome result (λ s. IsFull self.now s.index) }
         ensures found { IfSome result (λ s. get (entries K.class self.now) (Q.named q.now) ≡
             entry_at self.now s.index) }

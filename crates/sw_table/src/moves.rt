@@ -3,7 +3,7 @@ ghost use Rattle.std.specs.Prelude.{◌≡◌, ◌<◌, None, length, replicate}
 ghost use Rattle.sw_ctrl.specs.declared.control.TheConstants.{EMPTY};
 ghost use Rattle.sw_table.specs.Entries.{entries_in};
 ghost use Rattle.sw_table.specs.Sizes.{IsCapacity};
-ghost use Rattle.sw_table.specs.LaidOut.{hash_by, full_count, IsLaidOut, IsTable};
+ghost use Rattle.sw_table.specs.LaidOut.{full_count, IsLaidOut, IsTable};
 
 use crate::free::first_free;
 use sw_ctrl::{Ctrl, is_full};
@@ -18,13 +18,13 @@ pub(crate) fn move_all<K: Keyed, V, H: KeyHash<K>>(
     to: &mut Slots<(K, V)>,
     ctrl: &mut Ctrl,
 )
-    requires laid { IsLaidOut K.class (hash_by H.hash_of K.bytes hasher.now) from.old bytes.now }
+    requires laid { IsLaidOut K.class (H.hash_of hasher.now) from.old bytes.now }
     requires size { IsCapacity (length ctrl.old) × (length bytes.now < length ctrl.old) }
     requires vacant { (to.old ≡ replicate (length ctrl.old) None) ×
         (ctrl.old ≡ replicate (length ctrl.old) EMPTY) }
     ensures left { from.new ≡ replicate (length from.new) None }
     ensures laid { let full = full_count bytes.now in
-        IsTable K.class (hash_by H.hash_of K.bytes hasher.now) to.new ctrl.new full full }
+        IsTable K.class (H.hash_of hasher.now) to.new ctrl.new full full }
     ensures entries { entries_in K.class to.new ≡ entries_in K.class from.old }
     ensures size { length ctrl.new ≡ length ctrl.old }
 {

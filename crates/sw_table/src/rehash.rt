@@ -4,7 +4,7 @@ ghost use Rattle.sw_ctrl.specs.declared.control.TheConstants.{DELETED};
 ghost use Rattle.std.specs.FinMap.{len};
 ghost use Rattle.sw_table.specs.View.{View, slot_count, NoneDeleted};
 ghost use Rattle.sw_table.specs.Entries.{entries, entries_in};
-ghost use Rattle.sw_table.specs.LaidOut.{hash_by, full_count, used_count, IsLaidOut};
+ghost use Rattle.sw_table.specs.LaidOut.{full_count, used_count, IsLaidOut};
 ghost use Rattle.sw_table.specs.Settling.{IsSettling, deleted_count};
 
 use crate::free::first_free;
@@ -30,8 +30,8 @@ impl<K: Keyed, V, H: KeyHash<K>> Table<K, V, H> {
 
 // Gives every entry its place anew.
 fn settle_all<K: Keyed, V, H: KeyHash<K>>(slots: &mut Slots<(K, V)>, ctrl: &mut Ctrl, hasher: &H)
-    requires laid { IsLaidOut K.class (hash_by H.hash_of K.bytes hasher.now) slots.old ctrl.old }
-    ensures laid { IsLaidOut K.class (hash_by H.hash_of K.bytes hasher.now) slots.new ctrl.new }
+    requires laid { IsLaidOut K.class (H.hash_of hasher.now) slots.old ctrl.old }
+    ensures laid { IsLaidOut K.class (H.hash_of hasher.now) slots.new ctrl.new }
     ensures entries { entries_in K.class slots.new ≡ entries_in K.class slots.old }
     ensures size { length ctrl.new ≡ length ctrl.old }
     ensures used { used_count ctrl.new ≡ full_count ctrl.old }
@@ -53,10 +53,10 @@ fn settle_one<K: Keyed, V, H: KeyHash<K>>(
     hasher: &H,
     i: usize,
 )
-    requires settling { IsSettling K.class (hash_by H.hash_of K.bytes hasher.now)
+    requires settling { IsSettling K.class (H.hash_of hasher.now)
         slots.old ctrl.old }
     requires deleted { (i < length ctrl.old) × (slice_index ctrl.old i ≡ DELETED) }
-    ensures settling { IsSettling K.class (hash_by H.hash_of K.bytes hasher.now)
+    ensures settling { IsSettling K.class (H.hash_of hasher.now)
         slots.new ctrl.new }
     ensures entries { entries_in K.class slots.new ≡ entries_in K.class slots.old }
     ensures size { length ctrl.new ≡ length ctrl.old }

@@ -4,7 +4,6 @@ ghost use Rattle.std.specs.Option.{option_map};
 ghost use Rattle.std.specs.FinMap.{get, insert, remove};
 ghost use Rattle.sw_table.specs.View.{View, entry_at, with_key, IsFull};
 ghost use Rattle.sw_table.specs.Entries.{entries};
-ghost use Rattle.sw_table.specs.LaidOut.{hash_by};
 
 use crate::table::{SlotNo, Table};
 use std::mem;
@@ -17,8 +16,8 @@ impl<K: Keyed, V, H: KeyHash<K>> Table<K, V, H> {
     pub fn rekey(&mut self, slot: SlotNo, key: K) -> K
         requires full { IsFull self.old slot.index }
         requires hash { (p : K × V) → entry_at self.old slot.index ≡ Some p →
-            hash_by H.hash_of K.bytes self.old.hasher (K.class key) ≡
-            hash_by H.hash_of K.bytes self.old.hasher (K.class p.0) }
+            H.hash_of self.old.hasher (K.class key) ≡
+            H.hash_of self.old.hasher (K.class p.0) }
         // No other entry is of its class.
         requires absent { (p : K × V) → entry_at self.old slot.index ≡ Some p →
             get (remove (entries K.class self.old) (K.class p.0)) (K.class key) ≡ None }

@@ -4,7 +4,7 @@ ghost use Rattle.std.specs.FinMap.{empty, len};
 ghost use Rattle.sw_table.specs.View.{View, slot_count, fresh, IsFull};
 ghost use Rattle.sw_table.specs.Entries.{entries};
 ghost use Rattle.sw_table.specs.Sizes.{room_of, IsCapacity};
-ghost use Rattle.sw_table.specs.LaidOut.{IsLaidOut, hash_by};
+ghost use Rattle.sw_table.specs.LaidOut.{IsLaidOut};
 ghost use Rattle.sw_table.specs.Room.{IsMadeFor, RefusesPast};
 
 use crate::blocks::new_blocks;
@@ -41,7 +41,7 @@ pub struct Table<K: Keyed, V, H: KeyHash<K>> {
 
 impl<K: Keyed, V, H: KeyHash<K>> Model for Table<K, V, H> {
     ghost use Rattle.sw_table.specs.View.{View, view_code, table_view};
-    ghost use Rattle.sw_table.specs.LaidOut.{IsTable, hash_by};
+    ghost use Rattle.sw_table.specs.LaidOut.{IsTable};
 
     ghost Value = { View K V H };
 
@@ -49,7 +49,7 @@ impl<K: Keyed, V, H: KeyHash<K>> Model for Table<K, V, H> {
 
     ghost view = { λ t. table_view t.slots t.ctrl t.hasher };
 
-    ghost invariant = { λ t. IsTable K.class (hash_by H.hash_of K.bytes t.hasher)
+    ghost invariant = { λ t. IsTable K.class (H.hash_of t.hasher)
         t.slots t.ctrl t.len t.used };
 }
 
@@ -127,7 +127,7 @@ impl<K: Keyed, V, H: KeyHash<K>> Table<K, V, H> {
     #[inline]
     pub fn capacity(&self) -> usize
         ensures slots { result ≡ slot_count self.now }
-        ensures laid_out { IsLaidOut K.class (hash_by H.hash_of K.bytes self.now.hasher)
+        ensures laid_out { IsLaidOut K.class (H.hash_of self.now.hasher)
             self.now.places self.now.bytes }
     {
         self.ctrl.len()

@@ -1,6 +1,4 @@
 use Rattle.std.proofs.Common.{[], ap, subst, sym}
-use Rattle.sw_table.specs.LaidOut.{hash_by}
-use Rattle.gq_row.specs.Classes.{bytes_of}
 use Rattle.gq_group.specs.Access.{either}
 use Rattle.gq_group.specs.Levels.{class_by}
 use Rattle.gq_group.specs.Maps.{MapView}
@@ -70,7 +68,7 @@ returns-in_err-groups g c =
     (g.R.RowSource.owns c.args.source.now) (g.R.RowSource.owns c.read_rows.new.source) (g.K.GroupSink.owns c.args.sink.now) (g.K.GroupSink.owns c.push_all.new.sink)
     r s t c.read_rows.new.slots.items c.args.level
     c.requires.apart (g.met.K.GroupSink.own_live c.args.sink.now r c.requires.sink) told.places told.ours told.apart told.others told.grows told.owned c.in_err-groups.ensures.others
-    (class_by (hash_by g.H.KeyHash.hash_of bytes_of c.in-Ok.table.groups.hasher) c.args.level) c.in-Ok.table.budget.entries n.rows_read n.rows_written n.runs n.columns c.read_rows.new.table.groups.pairs c.into_groups.result.pairs told.read
+    (class_by (g.H.KeyHash.hash_of c.in-Ok.table.groups.hasher) c.args.level) c.in-Ok.table.budget.entries n.rows_read n.rows_written n.runs n.columns c.read_rows.new.table.groups.pairs c.into_groups.result.pairs told.read
     (ap (λ (b : Budget). b.entries) c.in-Ok.ensures.budget) (ap (λ (x : MapView _). x.pairs) c.into_groups.ensures) (g.met.R.RowSource.own_live c.read_rows.new.source s told.source)
     c.from_residual-in_err-groups.result c.in_err-groups.field-0.0 c.from_residual-in_err-groups.ensures.1 c.in_err-groups.ensures.overflow c.in_err-groups.ensures.cause
 
@@ -82,7 +80,7 @@ returns g c =
     let told = c.in_ok-taken.ensures in
     let pushed = c.in_ok-groups.ensures in
     let n = c.in_ok-taken.taken in
-    let hash = hash_by g.H.KeyHash.hash_of bytes_of c.in-Ok.table.groups.hasher in
+    let hash = g.H.KeyHash.hash_of c.in-Ok.table.groups.hasher in
     level-done c.args.spec.now c.args.budget.entries _ _ _ (g.K.GroupSink.holds c.push_all.new.sink t) (g.R.RowSource.is_ready c.read_rows.new.source t) (g.K.GroupSink.is_ready c.push_all.new.sink t) _ _
     (g.R.RowSource.owns c.args.source.now) (g.R.RowSource.owns c.read_rows.new.source) (g.K.GroupSink.owns c.args.sink.now) (g.K.GroupSink.owns c.push_all.new.sink)
     r s t c.read_rows.new.slots.items c.args.level

@@ -1,8 +1,7 @@
 use Rattle.std.proofs.Common.{◌≡◌, ◌<◌, ◌+◌, ◌++◌, ◌∷◌, [], ℕ, List, sym, ap, subst, ◌∙◌, length, append-nil, arith, length-append}
 use Rattle.std.specs.List.{sum_by}
-use Rattle.sw_table.specs.LaidOut.{hash_by}
 use Rattle.gq_row.specs.declared.value.Value.{Value}
-use Rattle.gq_row.specs.Classes.{class_of, bytes_of}
+use Rattle.gq_row.specs.Classes.{class_of}
 use Rattle.gq_row.specs.Rows.{key_of}
 use Rattle.gq_group.specs.Levels.{one_if_some, class_at, class_by, classes_at, lots}
 use Rattle.gq_group.specs.Readings.{left_lots}
@@ -24,7 +23,7 @@ returns-clause-places g c =
     let budget = c.args.table.now.budget.entries in
     let old = c.args.table.now.groups.pairs in
     let new = c.offer.new.self.groups.pairs in
-    let hash : List ℕ → ℕ = hash_by g.H.KeyHash.hash_of bytes_of c.args.table.now.groups.hasher in
+    let hash : List ℕ → ℕ = g.H.KeyHash.hash_of c.args.table.now.groups.hasher in
     let class : List Value → ℕ = class_by hash c.args.level in
     let n : ℕ = classes_at c.args.level in
     let place : ℕ = c.place_at.result in
@@ -166,7 +165,7 @@ returns-in_default-offered-clause-places g c =
     let spec = c.args.spec.now in
     let row = c.args.row.now in
     let old = c.args.table.now.groups.pairs in
-    let class : List Value → ℕ = class_by (hash_by g.H.KeyHash.hash_of bytes_of c.args.table.now.groups.hasher) c.args.level in
+    let class : List Value → ℕ = class_by (g.H.KeyHash.hash_of c.args.table.now.groups.hasher) c.args.level in
     let n : ℕ = classes_at c.args.level in
     let moved = λ (done : List (List Value)) (t : Resident spec c.args.table.now.budget.entries done old).
     (c.in-Ok.ensures.offers done t).left ∙ ap (λ o. left_over spec old done ++ left_row o row) c.in_default-offered.is ∙ append-nil (left_over spec old done) in
@@ -182,7 +181,7 @@ returns-in_default-offered-clause-places g c =
 pub spill-requires-clause-within : goal.spill-requires-clause-within
 spill-requires-clause-within g c =
     let key = key_of c.args.spec.now.by c.args.row.now in
-    let hash : List ℕ → ℕ = hash_by g.H.KeyHash.hash_of bytes_of c.args.table.now.groups.hasher in
+    let hash : List ℕ → ℕ = g.H.KeyHash.hash_of c.args.table.now.groups.hasher in
     let told : c.in-Left.hash ≡ hash (class_of key) = subst (λ o. HasHash (hash (class_of key)) o) c.in-Left.is c.in-Ok.ensures.hash in
     let here : class_by hash c.args.level key ≡ c.place_at.result = ap (class_at c.args.level) (sym told) ∙ sym c.place_at.ensures in
     subst (λ (k : ℕ). c.place_at.result < k) (sym c.requires.places) (subst (λ (k : ℕ). k < classes_at c.args.level) here (class_less hash c.args.level key))

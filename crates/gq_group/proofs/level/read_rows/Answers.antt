@@ -1,6 +1,4 @@
 use Rattle.std.proofs.Common.{ap, arith, ◌∙◌, refl, subst, sym}
-use Rattle.sw_table.specs.LaidOut.{hash_by}
-use Rattle.gq_row.specs.Classes.{bytes_of}
 use Rattle.gq_group.specs.Levels.{class_by}
 use Rattle.gq_group.specs.Residents.{Resident}
 use Rattle.gq_group.specs.declared.budget.Budget.{Budget}
@@ -63,8 +61,8 @@ rows-preserved g c =
       done = rows-more c.args.spec.now c.args.table.now.budget.entries _ _ _ _ (g.R.RowSource.owns c.args.source.now) _ (g.S.RunStore.runs c.args.store.now) (g.R.RowSource.owns c.rows.source) (g.R.RowSource.owns c.next.new.self) (g.R.RowSource.bound c.rows.source) _ _
           (g.S.RunStore.runs c.rows.store) s c.rows.rows_read c.rows.rows_written c.rows.runs c.rows.columns c.rows.table.groups.pairs c.rows.slots.items c.rows.invariant.done told.others told.owned
           c.next.new.row (g.R.RowSource.gives c.next.new.self s) (rw c.if-not-more.false at told.rows) c.place_row.new.table.groups.pairs c.place_row.new.slots.items t placed.same_length placed.ours placed.others (g.met.R.RowSource.own_live source s told.ready)
-          _ (g.R.RowSource.gives source t) c.rows.table.budget.entries (class_by (hash_by g.H.KeyHash.hash_of bytes_of c.rows.table.groups.hasher) c.args.level) c.in_ok-placed.placed.written c.in_ok-placed.placed.began (g.R.RowSource.bound source) c.width-columns.result
-          (ap (λ (x : Budget). x.entries) inv.budget) (ap (λ h. class_by (hash_by g.H.KeyHash.hash_of bytes_of h) c.args.level) inv.hasher) placed.places c.width-columns.ensures (rw c.if-not-more.false at told.bound)
+          _ (g.R.RowSource.gives source t) c.rows.table.budget.entries (class_by (g.H.KeyHash.hash_of c.rows.table.groups.hasher) c.args.level) c.in_ok-placed.placed.written c.in_ok-placed.placed.began (g.R.RowSource.bound source) c.width-columns.result
+          (ap (λ (x : Budget). x.entries) inv.budget) (ap (λ h. class_by (g.H.KeyHash.hash_of h) c.args.level) inv.hasher) placed.places c.width-columns.ensures (rw c.if-not-more.false at told.bound)
           (λ kept. g.met.R.RowSource.stays_ready source s t kept told.ready) (λ kept. g.met.R.RowSource.keeps_rows source s t kept told.ready) told.made placed.made;
       budget = placed.budget ∙ inv.budget;
       each = placed.each ∙ inv.each;

@@ -1,6 +1,4 @@
 use Rattle.std.proofs.Common.{◌≡◌, length}
-use Rattle.sw_table.specs.LaidOut.{hash_by}
-use Rattle.gq_row.specs.Classes.{bytes_of}
 use Rattle.gq_group.specs.Levels.{class_by, classes_at}
 use Rattle.gq_group.proofs.RowLemmas.{RowsSoFar}
 use Rattle.gq_group.proofs.level.read_rows.Given as goal
@@ -10,7 +8,7 @@ invariant-rows g l =
     let old = g.S.RunStore.runs l.fn.store in
     let new = g.S.RunStore.runs l.store in
     record {
-      done : RowsSoFar l.spec l.fn.table.budget.entries (class_by (hash_by g.H.KeyHash.hash_of bytes_of l.fn.table.groups.hasher) l.level) (classes_at l.level) (g.R.RowSource.bound l.fn.source) (g.R.RowSource.bound l.source)
+      done : RowsSoFar l.spec l.fn.table.budget.entries (class_by (g.H.KeyHash.hash_of l.fn.table.groups.hasher) l.level) (classes_at l.level) (g.R.RowSource.bound l.fn.source) (g.R.RowSource.bound l.source)
           (g.R.RowSource.gives l.fn.source old) (g.R.RowSource.gives l.source new) (g.R.RowSource.owns l.fn.source) (g.R.RowSource.owns l.source) (g.R.RowSource.is_ready l.source new) g.R.RowSource.makes_runs old new
           l.rows_read l.rows_written l.runs l.columns l.table.groups.pairs l.slots.items;
       budget : l.table.budget ≡ l.fn.table.budget;

@@ -5,7 +5,7 @@ use Rattle.std.proofs.lemmas.List.Sums.{count_by_more_yes, count_by_more_no, sum
 use Rattle.std.proofs.lemmas.Grind.{common_steps}
 use native.Mathlib.Nat.{mod-lt}
 use Rattle.sw_table.specs.Free.{used_then, KeepsLoad}
-use Rattle.sw_table.specs.LaidOut.{full_count, hash_by, Reached}
+use Rattle.sw_table.specs.LaidOut.{full_count, Reached}
 use Rattle.sw_table.proofs.Places.{which, all_vacant}
 use Rattle.sw_table.proofs.SlotChanges.{IsTable-filled}
 use Rattle.sw_table.proofs.MovedEntries.{moved_vacant, moved_one, moved_all, next_absent, full-le-used, one_used}
@@ -16,7 +16,7 @@ pub loop-i-preserved : goal.loop-i-preserved
 loop-i-preserved g c =
     let v = c.loop-i.invariant in let i = c.loop-i.i in let bytes = c.args.bytes.now in let from = c.args.from.now in let laid = c.requires.laid in
     let lt : i < length bytes = omega (arith, c.loop-i-test.true, c.len-i-end.ensures.len) in
-    let class = g.K.Keyed.class in let hash = hash_by g.H.KeyHash.hash_of g.K.Keyed.bytes c.args.hasher.now in
+    let class = g.K.Keyed.class in let hash = g.H.KeyHash.hash_of c.args.hasher.now in
     elim c.if-is_full.branch [
       | then-is_full w ↦
           let low : slice_index bytes i < 128 = omega (arith, ltb-true c.get.result 128 (sym c.is_full.ensures ∙ w.if-is_full.true), c.get.ensures.value) in

@@ -2,12 +2,12 @@ use Rattle.std.proofs.Common.{◌≡◌, ◌≢◌, ℕ, ◌<◌, length, slice_
 use Rattle.sw_ctrl.specs.declared.control.TheConstants.{DELETED}
 use Rattle.sw_table.specs.Entries.{entries_in}
 use Rattle.sw_table.specs.Settling.{IsSettling, deleted_count}
-use Rattle.sw_table.specs.LaidOut.{hash_by, used_count, full_count}
+use Rattle.sw_table.specs.LaidOut.{used_count, full_count}
 use Rattle.sw_table.proofs.rehash.settle_all.Given as goal
 
 abbrev pub invariant-loop-i : goal.invariant-loop-i
 invariant-loop-i g l = record {
-  settling : IsSettling g.K.Keyed.class (hash_by g.H.KeyHash.hash_of g.K.Keyed.bytes l.hasher) l.slots l.ctrl;
+  settling : IsSettling g.K.Keyed.class (g.H.KeyHash.hash_of l.hasher) l.slots l.ctrl;
   entries : entries_in g.K.Keyed.class l.slots ≡ entries_in g.K.Keyed.class l.fn.slots;
   size : length l.ctrl ≡ length l.fn.ctrl;
   used : used_count l.ctrl ≡ full_count l.fn.ctrl;
@@ -16,7 +16,7 @@ invariant-loop-i g l = record {
 
 abbrev pub invariant-slot : goal.invariant-slot
 invariant-slot g l = record {
-  settling : IsSettling g.K.Keyed.class (hash_by g.H.KeyHash.hash_of g.K.Keyed.bytes l.hasher) l.slots l.ctrl;
+  settling : IsSettling g.K.Keyed.class (g.H.KeyHash.hash_of l.hasher) l.slots l.ctrl;
   entries : entries_in g.K.Keyed.class l.slots ≡ entries_in g.K.Keyed.class l.fn.slots;
   size : length l.ctrl ≡ length l.fn.ctrl;
   used : used_count l.ctrl ≡ full_count l.fn.ctrl;

@@ -1,10 +1,9 @@
 use Rattle.std.proofs.Common.{◌≡◌, ◌∙◌, ◌++◌, ◌∷◌, [], ℕ, List, length, take, ap, sym, subst, refl, None, arith}
 use Rattle.std.specs.FinMap.{insert, get}
-use Rattle.sw_table.specs.LaidOut.{hash_by}
 use Rattle.sw_index.specs.Index.{IndexView}
 use Rattle.gq_row.specs.declared.value.Value.{Value}
 use Rattle.gq_agg.specs.Running.{Running}
-use Rattle.gq_row.specs.Classes.{class_of, bytes_of}
+use Rattle.gq_row.specs.Classes.{class_of}
 use Rattle.gq_row.specs.Rows.{key_of}
 use Rattle.gq_group.specs.Entries.{listed, tallies}
 use Rattle.gq_group.specs.Maps.{MapView, pairs_from, AreKept, HasNoGroup}
@@ -30,10 +29,10 @@ add-requires g c =
     let own = c.self.inside in
     let key = key_of c.args.spec.now.by c.args.row.now in
     let key_is : c.in_ok-key.key ≡ key = c.in_ok-key.ensures ∙ (λ z. key_of (c.by.ensures z) (c.cells.ensures z)) in
-    let none = subst (λ (v : MapView _). HasNoGroup (hash_by g.H.KeyHash.hash_of bytes_of v.hasher) v.pairs (class_of key) c.args.absence) (sym c.self.view_is) c.requires.absent in
+    let none = subst (λ (v : MapView _). HasNoGroup (g.H.KeyHash.hash_of v.hasher) v.pairs (class_of key) c.args.absence) (sym c.self.view_is) c.requires.absent in
     record {
       none = no_key own.each own.running.items own.index.keys c.in_ok-key.key (ap (λ k. get (listed (pairs_from own.each 0 own.running.items own.index.keys)) (class_of k)) key_is ∙ none.absent) c.self.invariant.different;
-      hashed = none.hashed ∙ ap (λ k. hash_by g.H.KeyHash.hash_of bytes_of own.index.hasher (class_of k)) (sym key_is);
+      hashed = none.hashed ∙ ap (λ k. g.H.KeyHash.hash_of own.index.hasher (class_of k)) (sym key_is);
     }
 
 pub invariant_of-self-2 : goal.invariant_of-self-2

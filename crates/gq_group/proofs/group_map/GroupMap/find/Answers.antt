@@ -1,6 +1,5 @@
 use Rattle.std.proofs.Common.{subst}
-use Rattle.sw_table.specs.LaidOut.{hash_by}
-use Rattle.gq_row.specs.Classes.{class_of, bytes_of}
+use Rattle.gq_row.specs.Classes.{class_of}
 use Rattle.gq_group.specs.Maps.{MapView, IsGroup, IsNoGroup}
 use Rattle.gq_group.proofs.KeptLemmas.{found_group, no_group}
 use Rattle.gq_group.proofs.group_map.GroupMap.find.Goals as goal
@@ -14,5 +13,5 @@ returns-clause-found g c =
 pub returns-clause-absent : goal.returns-clause-absent
 returns-clause-absent g c =
     let own = c.self.inside in
-    subst (λ (v : MapView _). IsNoGroup (hash_by g.H.KeyHash.hash_of bytes_of v.hasher) v.pairs (class_of c.args.key.now) c.find.result) c.self.view_is
-    (no_group own.each own.running.items own.index.keys (hash_by g.H.KeyHash.hash_of bytes_of own.index.hasher) c.args.key.now c.find.result c.find.ensures.absent)
+    subst (λ (v : MapView _). IsNoGroup (g.H.KeyHash.hash_of v.hasher) v.pairs (class_of c.args.key.now) c.find.result) c.self.view_is
+    (no_group own.each own.running.items own.index.keys (g.H.KeyHash.hash_of own.index.hasher) c.args.key.now c.find.result c.find.ensures.absent)

@@ -1,9 +1,7 @@
 use Rattle.std.proofs.Common.{◌≡◌, ◌<◌, ◌≤◌, List, inl, refl, length, map, fold, count_by, ap, sym, subst, ◌∙◌, arith, All}
 use Rattle.std.proofs.lemmas.Bool.Decides.{nat_tests}
 use Rattle.std.proofs.lemmas.List.Elements.{All-append}
-use Rattle.sw_table.specs.LaidOut.{hash_by}
 use Rattle.gq_row.specs.declared.value.Value.{Value}
-use Rattle.gq_row.specs.Classes.{bytes_of}
 use Rattle.gq_row.specs.Order.{same_key}
 use Rattle.gq_row.specs.Repeats.{no_repeats}
 use Rattle.gq_row.specs.Rows.{key_of}
@@ -30,7 +28,7 @@ returns-then-is_empty-clause-few g c =
 
 pub returns-then-most-saturating_add-clause-why : goal.returns-then-most-saturating_add-clause-why
 returns-then-most-saturating_add-clause-why g c =
-    let hash = hash_by g.H.KeyHash.hash_of bytes_of c.args.self.now.index.hasher in
+    let hash = g.H.KeyHash.hash_of c.args.self.now.index.hasher in
     let long = length-placed c.args.positions.now hash c.args.self.now.rows c.requires.apart c.args.staged.rows c.in-Ok.places.items c.requires.all_apart c.in-Ok.ensures in
     let new = c.count_absent-new.ensures ∙ ap (count_by is_absent) c.as_slice.ensures.value in
     let rows = c.len-2.ensures in
@@ -49,14 +47,14 @@ place_found-requires-clause-even g c =
 
 pub place_found-requires-clause-apart : goal.place_found-requires-clause-apart
 place_found-requires-clause-apart g c =
-    let hash = hash_by g.H.KeyHash.hash_of bytes_of c.args.self.now.index.hasher in
+    let hash = g.H.KeyHash.hash_of c.args.self.now.index.hasher in
     let are = subst (ArePlaces c.args.positions.now hash c.args.self.now.rows c.args.staged.rows) (sym c.as_slice-2.ensures.value) c.in-Ok.ensures in
     ap (λ (rows : List (List Value)). no_repeats same_key (map (key_of c.args.positions.now) rows)) c.in-Ok-add_absent.ensures.rows
     ∙ added_apart c.args.positions.now hash c.args.self.now.rows c.requires.apart c.args.staged.rows c.as_slice-2.result.now c.requires.all_apart are
 
 pub place_found-requires-clause-there : goal.place_found-requires-clause-there
 place_found-requires-clause-there g c =
-    let hash = hash_by g.H.KeyHash.hash_of bytes_of c.args.self.now.index.hasher in
+    let hash = g.H.KeyHash.hash_of c.args.self.now.index.hasher in
     let same : c.as_slice-2.result.now ≡ c.as_slice-3.result.now = c.as_slice-2.ensures.value ∙ sym c.as_slice-3.ensures.value in
     subst (AreThere c.args.positions.now c.add_absent.new.self.rows c.add_absent.new.staged) same
     (subst (λ rows. AreThere c.args.positions.now rows c.add_absent.new.staged c.as_slice-2.result.now) (sym c.in-Ok-add_absent.ensures.rows)
@@ -65,7 +63,7 @@ place_found-requires-clause-there g c =
 
 pub returns-clause-ok : goal.returns-clause-ok
 returns-clause-ok g c =
-    let hash = hash_by g.H.KeyHash.hash_of bytes_of c.args.self.now.index.hasher in
+    let hash = g.H.KeyHash.hash_of c.args.self.now.index.hasher in
     let places = c.as_slice-2.result.now in
     let same : c.as_slice-3.result.now ≡ places = c.as_slice-3.ensures.value ∙ sym c.as_slice-2.ensures.value in
     let are = subst (ArePlaces c.args.positions.now hash c.args.self.now.rows c.args.staged.rows) (sym c.as_slice-2.ensures.value) c.in-Ok.ensures in
@@ -77,7 +75,7 @@ returns-clause-ok g c =
 
 pub returns-clause-few : goal.returns-clause-few
 returns-clause-few g c =
-    let hash = hash_by g.H.KeyHash.hash_of bytes_of c.args.self.now.index.hasher in
+    let hash = g.H.KeyHash.hash_of c.args.self.now.index.hasher in
     let long = length-placed c.args.positions.now hash c.args.self.now.rows c.requires.apart c.args.staged.rows c.in-Ok.places.items c.requires.all_apart c.in-Ok.ensures in
     let new = c.count_absent-new.ensures ∙ ap (count_by is_absent) c.as_slice.ensures.value in
     let rows = c.len-2.ensures in

@@ -1,8 +1,6 @@
 use Rattle.std.proofs.Common.{◌≡◌, ◌+◌, ◌<◌, [], length, take, ap, sym, subst, ◌∙◌, arith, take_all}
 use Rattle.std.specs.Prelude.{slice_index_or}
 use Rattle.std.proofs.lemmas.List.{length-map}
-use Rattle.sw_table.specs.LaidOut.{hash_by}
-use Rattle.gq_row.specs.Classes.{bytes_of}
 use Rattle.gq_row.specs.Rows.{key_of}
 use Rattle.gq_table.specs.Places.{ArePlaces}
 use Rattle.gq_table.proofs.KeyedLemmas.{read_mapped}
@@ -11,12 +9,12 @@ use Rattle.gq_table.proofs.keyed.KeyedRows.places_of.Goals as goal
 
 pub loop-i-init : goal.loop-i-init
 loop-i-init g c =
-    subst (ArePlaces c.args.positions.now (hash_by g.H.KeyHash.hash_of bytes_of c.args.self.now.index.hasher) c.args.self.now.rows []) (sym c.in_ok-places.ensures.items) tt
+    subst (ArePlaces c.args.positions.now (g.H.KeyHash.hash_of c.args.self.now.index.hasher) c.args.self.now.rows []) (sym c.in_ok-places.ensures.items) tt
 
 pub loop-i-preserved : goal.loop-i-preserved
 loop-i-preserved g c =
     let positions = c.args.positions.now in
-    let hash = hash_by g.H.KeyHash.hash_of bytes_of c.args.self.now.index.hasher in
+    let hash = g.H.KeyHash.hash_of c.args.self.now.index.hasher in
     let rows = c.args.self.now.rows in
     let staged = c.args.staged.now.rows in
     let i = c.loop-i.i in
@@ -32,5 +30,5 @@ returns g c =
     let staged = c.args.staged.now.rows in
     let keys = c.keys-keys.ensures.list ∙ c.requires.mine in
     let long : length staged ≡ length c.keys-keys.result.now = sym (ap length keys ∙ length-map staged (key_of c.args.positions.now)) in
-    subst (λ l. ArePlaces c.args.positions.now (hash_by g.H.KeyHash.hash_of bytes_of c.args.self.now.index.hasher) c.args.self.now.rows l c.loop-i.places.items)
+    subst (λ l. ArePlaces c.args.positions.now (g.H.KeyHash.hash_of c.args.self.now.index.hasher) c.args.self.now.rows l c.loop-i.places.items)
     (take_all c.loop-i.i staged (let over = c.loop-i-test.false in omega arith)) c.loop-i.invariant

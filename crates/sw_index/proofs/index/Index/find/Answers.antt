@@ -1,7 +1,6 @@
 use Rattle.std.proofs.Common.{ap, sym, subst, ◌∙◌}
 use Rattle.std.specs.FinMap.{get}
 use Rattle.sw_table.specs.Entries.{entries}
-use Rattle.sw_table.specs.LaidOut.{hash_by}
 use Rattle.sw_index.specs.Index.{IndexView, IsFound, IsAbsence, class_of_number, named_number}
 use Rattle.sw_index.specs.declared.found.Found.TheVariants.{At}
 use Rattle.sw_index.proofs.NumberLemmas.{found_number, none_found}
@@ -13,16 +12,16 @@ returns-in-Some-clause-found g c =
     let class = g.K.Keyed.class in
     let n = c.at.result.0.now in
     subst (λ (v : IndexView _ _). IsFound class v.keys (g.Q.Names.named c.args.q.now) (At n.number)) c.self.view_is
-    (found_number class (hash_by g.H.KeyHash.hash_of g.K.Keyed.bytes own.hasher) own.keys.items (entries class_of_number own.numbers) (g.Q.Names.named c.args.q.now) c.hash-hash.result n c.at.result.1.now c.self.invariant
+    (found_number class (g.H.KeyHash.hash_of own.hasher) own.keys.items (entries class_of_number own.numbers) (g.Q.Names.named c.args.q.now) c.hash-hash.result n c.at.result.1.now c.self.invariant
     (ap (λ ks. get (entries class_of_number own.numbers) (named_number class c.hash-hash.result (g.Q.Names.named c.args.q.now) ks)) (sym c.as_slice.ensures.value) ∙ c.in-Some.ensures.found ∙ c.at.ensures))
 
 pub returns-in-None-clause-absent : goal.returns-in-None-clause-absent
 returns-in-None-clause-absent g c =
     let own = c.self.inside in
     let class = g.K.Keyed.class in
-    subst (λ (v : IndexView _ _). IsAbsence class (hash_by g.H.KeyHash.hash_of g.K.Keyed.bytes v.hasher) v.keys (g.Q.Names.named c.args.q.now) (record { hash = c.hash-hash.result })) c.self.view_is
+    subst (λ (v : IndexView _ _). IsAbsence class (g.H.KeyHash.hash_of v.hasher) v.keys (g.Q.Names.named c.args.q.now) (record { hash = c.hash-hash.result })) c.self.view_is
     (record {
-      none = none_found class (hash_by g.H.KeyHash.hash_of g.K.Keyed.bytes own.hasher) own.keys.items (entries class_of_number own.numbers) (g.Q.Names.named c.args.q.now) c.hash-hash.result c.self.invariant c.hash-hash.ensures
+      none = none_found class (g.H.KeyHash.hash_of own.hasher) own.keys.items (entries class_of_number own.numbers) (g.Q.Names.named c.args.q.now) c.hash-hash.result c.self.invariant c.hash-hash.ensures
           (ap (λ ks. get (entries class_of_number own.numbers) (named_number class c.hash-hash.result (g.Q.Names.named c.args.q.now) ks)) (sym c.as_slice.ensures.value) ∙ c.in-None.ensures.absent);
       hashed = c.hash-hash.ensures;
     })

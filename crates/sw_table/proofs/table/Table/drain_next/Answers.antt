@@ -1,7 +1,7 @@
 use Rattle.std.proofs.Common.{◌≡◌, ℕ, ◌<◌, ◌≤◌, length, slice_index, None, sym, ap, subst, ◌∙◌, arith}
 use Rattle.std.proofs.lemmas.Grind.{common_steps}
 use native.Mathlib.Decide.{dec_lt}
-use Rattle.sw_table.specs.LaidOut.{IsTable, hash_by}
+use Rattle.sw_table.specs.LaidOut.{IsTable}
 use Rattle.sw_table.specs.View.{View, entry_at, fresh, slot_count, table_view}
 use Rattle.sw_table.specs.Walks.{IsDraining}
 use Rattle.sw_table.proofs.Emptied.{IsTable-blank, empty_places, unused_bytes, none_there, drained_fresh, others_kept, taken_on, filled_taken}
@@ -18,7 +18,7 @@ pub invariant_of-self : goal.invariant_of-self
 invariant_of-self g c =
     let t = c.self.inside in
     let none = λ (i : ℕ). ap (λ v. entry_at v i) c.self.view_is ∙ nothing c.args.self.now c.args.walk.now.from c.requires.taken c.in_default.ensures.none i in
-    subst (λ bs. IsTable g.K.Keyed.class (hash_by g.H.KeyHash.hash_of g.K.Keyed.bytes t.hasher) t.slots bs t.len 0) (sym c.blank.ensures)
+    subst (λ bs. IsTable g.K.Keyed.class (g.H.KeyHash.hash_of t.hasher) t.slots bs t.len 0) (sym c.blank.ensures)
     (IsTable-blank _ _ t.slots t.ctrl t.len t.used c.self.invariant none)
 
 pub returns-in_default-clause-end : goal.returns-in_default-clause-end

@@ -6,7 +6,6 @@ use Rattle.std.proofs.lemmas.Grind.{common_steps}
 use Rattle.sw_ctrl.specs.declared.control.TheConstants.{EMPTY}
 use Rattle.sw_table.specs.Entries.{entries, entries_in}
 use Rattle.sw_table.specs.Free.{IsFree, KeepsLoad, used_then}
-use Rattle.sw_table.specs.LaidOut.{hash_by}
 use Rattle.sw_table.proofs.Entries.{entries_put}
 use Rattle.sw_table.proofs.Found.{absent_of}
 use Rattle.sw_table.proofs.SlotChanges.{IsTable-filled}
@@ -22,7 +21,7 @@ invariant_of-self g c =
     let t = c.self.inside in
     let free = subst (λ v. IsFree v.bytes c.args.hash c.args.index) (sym c.self.view_is) c.requires.free.0 in
     let fits = subst (λ v. KeepsLoad v.bytes c.args.index) (sym c.self.view_is) c.requires.free.1 in
-    let hashed = c.requires.hash ∙ ap (λ v. hash_by g.H.KeyHash.hash_of g.K.Keyed.bytes v.hasher (g.K.Keyed.class c.args.key)) (sym c.self.view_is) in
+    let hashed = c.requires.hash ∙ ap (λ v. g.H.KeyHash.hash_of v.hasher (g.K.Keyed.class c.args.key)) (sym c.self.view_is) in
     let absent = absent_of _ t.slots (g.K.Keyed.class c.args.key) (subst (λ v. get (entries g.K.Keyed.class v) (g.K.Keyed.class c.args.key) ≡ None) (sym c.self.view_is) c.requires.absent) in
     rw (c.put.ensures, c.set.ensures)
     (IsTable-filled _ _ t.slots t.ctrl t.len t.used c.self.invariant c.args.index (c.args.key, c.args.value) free.0 free.1 (rw (← hashed) free.2) fits absent _

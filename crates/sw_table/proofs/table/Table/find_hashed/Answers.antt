@@ -6,7 +6,6 @@ use Rattle.sw_probe.specs.Order.{group_number, moved}
 use Rattle.std.specs.FinMap.{get}
 use Rattle.std.proofs.lemmas.Grind.{common_steps}
 use Rattle.sw_table.specs.Entries.{entries}
-use Rattle.sw_table.specs.LaidOut.{hash_by}
 use Rattle.sw_table.specs.View.{entry_at, IsFull}
 use Rattle.sw_table.proofs.Found.{find_is, find_none}
 use Rattle.sw_table.proofs.Places.{some_within}
@@ -24,7 +23,7 @@ find_in-requires-clause-full g c =
     let t = c.self.inside in let y = c.h2-h2.result in
     filled_lane _ _ t.slots t.ctrl c.self.invariant.laid (g.Q.Names.named c.args.q.now) c.group-at.result y c.match_h2.result
     (omega (arith, c.group-at.ensures.in_range, c.probe.invariant.groups, c.len-groups.ensures.len)) (c.match_h2.ensures ∙ ap (map (λ b. nat_eq b y)) c.group-group.ensures)
-    (c.h2-h2.ensures ∙ ap (λ x. x % 128) (c.requires ∙ ap (λ v. hash_by g.H.KeyHash.hash_of g.K.Keyed.bytes v.hasher (g.Q.Names.named c.args.q.now)) (sym c.self.view_is)))
+    (c.h2-h2.ensures ∙ ap (λ x. x % 128) (c.requires ∙ ap (λ v. g.H.KeyHash.hash_of v.hasher (g.Q.Names.named c.args.q.now)) (sym c.self.view_is)))
 
 pub returns-in-Some-clause-found : goal.returns-in-Some-clause-found
 returns-in-Some-clause-found g c =
@@ -48,7 +47,7 @@ probe-preserved g c =
     let at : c.group-at.result ≡ group_number (c.args.hash / 128) (c.len-groups.result / 16) w.index = c.group-at.ensures.group ∙ (λ j. group_number (i.start j) (i.groups j) w.index) in
     let here = tested_at _ _ t.slots t.ctrl c.self.invariant.laid (g.Q.Names.named c.args.q.now) c.group-at.result y c.match_h2.result
     (omega (arith, c.group-at.ensures.in_range, i.groups, c.len-groups.ensures.len)) (c.match_h2.ensures ∙ ap (map (λ b. nat_eq b y)) c.group-group.ensures)
-    (c.h2-h2.ensures ∙ ap (λ x. x % 128) (c.requires ∙ ap (λ v. hash_by g.H.KeyHash.hash_of g.K.Keyed.bytes v.hasher (g.Q.Names.named c.args.q.now)) (sym c.self.view_is))) c.in_default.ensures.absent in
+    (c.h2-h2.ensures ∙ ap (λ x. x % 128) (c.requires ∙ ap (λ v. g.H.KeyHash.hash_of v.hasher (g.Q.Names.named c.args.q.now)) (sym c.self.view_is))) c.in_default.ensures.absent in
     let goes : c.advance.result ≡ true = c.if-not-advance.false in
     let next : c.advance.new.self ≡ moved w = OnTrue_at goes c.advance.ensures.moves in
     let more : c.advance.new.self.index ≡ w.index + 1 = ap (λ v. v.index) next in
@@ -67,9 +66,9 @@ returns-then-any-clause-absent g c =
     let at : c.group-at.result ≡ group_number (c.args.hash / 128) (c.len-groups.result / 16) w.index = c.group-at.ensures.group ∙ (λ j. group_number (i.start j) (i.groups j) w.index) in
     let here = tested_at _ _ t.slots t.ctrl c.self.invariant.laid (g.Q.Names.named c.args.q.now) c.group-at.result y c.match_h2.result
     room (c.match_h2.ensures ∙ ap (map (λ b. nat_eq b y)) c.group-group.ensures)
-    (c.h2-h2.ensures ∙ ap (λ x. x % 128) (c.requires ∙ ap (λ v. hash_by g.H.KeyHash.hash_of g.K.Keyed.bytes v.hasher (g.Q.Names.named c.args.q.now)) (sym c.self.view_is))) c.in_default.ensures.absent in
+    (c.h2-h2.ensures ∙ ap (λ x. x % 128) (c.requires ∙ ap (λ v. g.H.KeyHash.hash_of v.hasher (g.Q.Names.named c.args.q.now)) (sym c.self.view_is))) c.in_default.ensures.absent in
     let upto = tested_upto _ _ t.slots t.ctrl c.self.invariant.laid (g.Q.Names.named c.args.q.now) (c.args.hash / 128) (c.len-groups.result / 16) w.index c.group-at.result at i.tested here in
-    let hashed : c.args.hash ≡ hash_by g.H.KeyHash.hash_of g.K.Keyed.bytes c.self.inside.hasher (g.Q.Names.named c.args.q.now) = c.requires ∙ ap (λ v. hash_by g.H.KeyHash.hash_of g.K.Keyed.bytes v.hasher (g.Q.Names.named c.args.q.now)) (sym c.self.view_is) in let count = c.len-groups.ensures.len in
+    let hashed : c.args.hash ≡ g.H.KeyHash.hash_of c.self.inside.hasher (g.Q.Names.named c.args.q.now) = c.requires ∙ ap (λ v. g.H.KeyHash.hash_of v.hasher (g.Q.Names.named c.args.q.now)) (sym c.self.view_is) in let count = c.len-groups.ensures.len in
     subst (λ v. get (entries g.K.Keyed.class v) (g.Q.Names.named c.args.q.now) ≡ None) c.self.view_is
     (find_none _ t.slots (g.Q.Names.named c.args.q.now) (λ j p there.
     absent_from _ _ t.slots t.ctrl c.self.invariant.laid (g.Q.Names.named c.args.q.now) w.index

@@ -1,7 +1,6 @@
 use Rattle.std.proofs.Common.{◌≡◌, set, Some, None, sym, ap, subst, ◌∙◌}
 use Rattle.std.specs.FinMap.{get, insert, remove}
 use Rattle.sw_table.specs.Entries.{entries, entries_in}
-use Rattle.sw_table.specs.LaidOut.{hash_by}
 use Rattle.sw_table.specs.View.{entry_at}
 use Rattle.sw_table.proofs.Entries.{entries_rekey}
 use Rattle.sw_table.proofs.Found.{absent_else, alone_else}
@@ -13,10 +12,10 @@ invariant_of-self g c =
     let t = c.self.inside in let i = c.args.slot.index in let p = c.get_mut-pair.result.now in let there = c.get_mut-pair.ensures.value in let class = g.K.Keyed.class in
     let new = class c.args.key in
     let seen = sym (ap (λ v. entry_at v i) c.self.view_is) ∙ there in
-    let alike = subst (λ v. hash_by g.H.KeyHash.hash_of g.K.Keyed.bytes v.hasher new ≡ hash_by g.H.KeyHash.hash_of g.K.Keyed.bytes v.hasher (class p.0)) (sym c.self.view_is) (c.requires.hash p seen) in
+    let alike = subst (λ v. g.H.KeyHash.hash_of v.hasher new ≡ g.H.KeyHash.hash_of v.hasher (class p.0)) (sym c.self.view_is) (c.requires.hash p seen) in
     let absent = absent_else class t.slots new i p c.self.invariant.laid.apart there (subst (λ v. get (remove (entries class v) (class p.0)) new ≡ None) (sym c.self.view_is) (c.requires.absent p seen)) in
     rw (c.replace.ensures.after)
-    (IsTable-changed t.slots i p there (c.args.key, p.1) class (hash_by g.H.KeyHash.hash_of g.K.Keyed.bytes t.hasher) t.ctrl t.len t.used c.self.invariant alike (alone_else class t.slots new i absent))
+    (IsTable-changed t.slots i p there (c.args.key, p.1) class (g.H.KeyHash.hash_of t.hasher) t.ctrl t.len t.used c.self.invariant alike (alone_else class t.slots new i absent))
 
 pub returns-clause-entries : goal.returns-clause-entries
 returns-clause-entries g c = λ v at.

@@ -1,0 +1,103 @@
+//! The words of keys, value by value, for hashers that take eight bytes at once.
+ghost use Rattle.std.specs.Prelude.{◌≡◌, ◌<◌, All, length, map, fold};
+ghost use Rattle.std.specs.Char.{to_ascii_lowercase};
+ghost use Rattle.sw_probe.specs.Words.{words_of};
+ghost use Rattle.gq_row.specs.Classes.{value_words, worded};
+ghost use Rattle.gq_row.specs.Folding.{fold_case, folded};
+ghost use Rattle.gq_row.specs.Rows.{key_of};
+
+use crate::folding::{fold_byte, fold_eight};
+use crate::text::Text;
+use crate::value::Value;
+use sw_probe::{AsItIs, ByteMap, WordStep, fold_byte_words};
+
+// Those of values.
+#[inline]
+pub(crate) fn fold_cell_words<F: WordStep>(cells: &[Value], start: u64, f: &F) -> u64
+    ensures { result ≡ fold (F.next f.now) start (worded cells.now) }
+{
+    let mut acc = start;
+    for cell in cells {
+        acc = fold_value_words(cell, acc, f);
+    }
+    acc
+}
+
+// Those of the folds of values.
+#[inline]
+pub(crate) fn fold_folded_words<F: WordStep>(cells: &[Value], start: u64, f: &F) -> u64
+    ensures { result ≡ fold (F.next f.now) start (worded (map folded cells.now)) }
+{
+    let mut acc = start;
+    for cell in cells {
+        acc = fold_words_of_fold(cell, acc, f);
+    }
+    acc
+}
+
+// Those of the folds of a row's values in the columns at these positions.
+#[inline]
+pub(crate) fn fold_row_words<F: WordStep>(
+    positions: &[usize],
+    row: &[Value],
+    start: u64,
+    f: &F,
+) -> u64
+    requires { All (λ position. position < length row.now) positions.now }
+    ensures { result ≡ fold (F.next f.now) start (worded (key_of positions.now row.now)) }
+{
+    let mut acc = start;
+    for position in positions {
+        acc = fold_words_of_fold(&row[*position], acc, f);
+    }
+    acc
+}
+
+// Those of a value's fold, which stands in no memory.
+#[inline]
+fn fold_words_of_fold<F: WordStep>(value: &Value, start: u64, f: &F) -> u64
+    ensures { result ≡ fold (F.next f.now) start (value_words (folded value.now)) }
+{
+    match value {
+        Value::NoCase(text) => fold_lowered_words(text, start, f),
+        _ => fold_value_words(value, start, f),
+    }
+}
+
+#[inline]
+fn fold_value_words<F: WordStep>(value: &Value, start: u64, f: &F) -> u64
+    ensures { result ≡ fold (F.next f.now) start (value_words value.now) }
+{
+    match value {
+        Value::Null => f.step(start, 0),
+        Value::Int(n) => f.step(start, n.cast_unsigned()),
+        Value::Text(text) | Value::NoCase(text) => {
+            fold_byte_words(text.as_str().as_bytes(), &AsItIs, start, f)
+        }
+    }
+}
+
+// The words of a text's fold. Not a part of the look-ups of other values, which are shorter without it.
+#[inline(never)]
+fn fold_lowered_words<F: WordStep>(text: &Text, start: u64, f: &F) -> u64
+    ensures { result ≡ fold (F.next f.now) start (words_of (fold_case text.now)) }
+{
+    fold_byte_words(text.as_str().as_bytes(), &Lowered, start, f)
+}
+
+// The fold of each byte in its place.
+struct Lowered;
+
+impl ByteMap for Lowered {
+    ghost image = { λ _. to_ascii_lowercase };
+
+    #[inline(always)]
+    fn byte(&self, byte: u8) -> u8 {
+        fold_byte(byte)
+    }
+
+    #[inline(always)]
+    fn eight(&self, bytes: [u8; 8]) -> [u8; 8] {
+        fold_eight(bytes)
+    }
+}
