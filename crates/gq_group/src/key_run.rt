@@ -15,6 +15,7 @@ use std::alloc::Global;
 // Writes the key of each group to a run of its own, as a row.
 #[derive(Drop)]
 pub(crate) struct KeyRun {
+    alloc: Global,
     writer: RunWriter,
 }
 
@@ -35,7 +36,7 @@ impl KeyRun {
         ensures cause { IfErr result (λ e. HasCause e (S.runs store.old) (S.runs store.new)) }
     {
         match RunWriter::begin(alloc, store) {
-            Ok(writer) => Ok(KeyRun { writer }),
+            Ok(writer) => Ok(KeyRun { alloc, writer }),
             Err(why) => Err(Refusal::of(why)),
         }
     }
@@ -75,7 +76,7 @@ impl<S: RunStore> GroupSink<S> for KeyRun {
 
     fn push(&mut self, store: &mut S, key: Key, values: &mut Vec<Value>) -> Result<(), Refusal> {
         let _ = values;
-        let Ok(row) = key.into_row() else {
+        let Ok(row) = key.into_row(self.alloc) else {
             return Err(Refusal::Memory);
         };
         if !is_storable(&row) {

@@ -133,7 +133,7 @@ impl GroupList {
         self.make_room(key.len() + values.len());
         let front = front_in(&[], key.cells());
         let span = GroupSpan::new(front, self.cells.len(), key.len(), values.len())?;
-        move_cells(&mut self.cells, key)?;
+        key.move_to(&mut self.cells)?;
         self.cells.append(values)?;
         self.groups.push(span)?;
         Ok(())
@@ -213,20 +213,6 @@ impl GroupList {
         }
         Ok(Rows::of(self.cells, spans))
     }
-}
-
-// Puts the values of a key behind others. They move.
-fn move_cells(cells: &mut Vec<Value>, key: Key) -> Result<(), AllocError>
-    ensures moved { OnOk result (cells.new.items ≡ cells.old.items ++ key) }
-    ensures kept { IsLonger cells.old.items cells.new.items }
-{
-    for value in key.into_cells() {
-        match value {
-            Value::Int(n) => cells.push(Value::Int(n))?,
-            value => cells.push(value)?,
-        }
-    }
-    Ok(())
 }
 
 // Puts copies of values behind others.

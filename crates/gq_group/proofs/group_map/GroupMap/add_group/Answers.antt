@@ -1,4 +1,4 @@
-use Rattle.std.proofs.Common.{◌≡◌, ◌∙◌, ◌++◌, ◌∷◌, [], ℕ, List, length, take, ap, sym, subst, refl, None, arith}
+use Rattle.std.proofs.Common.{◌≡◌, ◌∙◌, ◌++◌, ◌∷◌, [], ℕ, List, length, take, ap, sym, subst, refl, None}
 use Rattle.std.specs.FinMap.{insert, get}
 use Rattle.sw_index.specs.Index.{IndexView}
 use Rattle.gq_row.specs.declared.value.Value.{Value}
@@ -84,9 +84,6 @@ returns-in_err-key-clause-hasher g c = refl
 
 pub returns-in_err-key-clause-err : goal.returns-in_err-key-clause-err
 returns-in_err-key-clause-err g c = on_err_so _ c.from_residual.result refl
-
-pub array_drop-key-inside-requires : goal.array_drop-key-inside-requires
-array_drop-key-inside-requires g c = omega arith
 
 pub same-key : goal.same-key
 same-key g c = refl

@@ -45,9 +45,6 @@ unreachable-unreachable g c =
     let found = c.in_default.ensures.found in
     none_some found.0 (sym (ap (λ ks. slice_get ks c.in_default.field-0) c.new-index.ensures.keys) ∙ found.1)
 
-pub array_drop-key-inside-requires : goal.array_drop-key-inside-requires
-array_drop-key-inside-requires g c = omega arith
-
 pub same-index : goal.same-index
 same-index g c = refl
 

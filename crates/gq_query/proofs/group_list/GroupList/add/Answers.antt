@@ -5,9 +5,9 @@ use Rattle.gq_query.proofs.group_list.GroupList.add.Goals as goal
 
 pub invariant_of-self-in_err-append : goal.invariant_of-self-in_err-append
 invariant_of-self-in_err-append c =
-    let same : c.append.new.self.items ≡ c.move_cells.new.cells.items = search rules in
+    let same : c.append.new.self.items ≡ c.move_to.new.cells.items = search rules in
     kept_on c.self.inside.cells.items c.append.new.self.items c.self.inside.groups.items c.self.inside.groups.items
-    (subst (IsLonger c.self.inside.cells.items) (sym same) c.move_cells.ensures.kept) refl c.self.invariant
+    (subst (IsLonger c.self.inside.cells.items) (sym same) c.move_to.ensures.kept) refl c.self.invariant
 
 pub invariant_of-self-in_err-push : goal.invariant_of-self-in_err-push
 invariant_of-self-in_err-push c =
