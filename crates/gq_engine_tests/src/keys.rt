@@ -167,5 +167,5 @@ fn spellings_are_one_key(rt: HostRuntime) -> Result<(), Fail> {
 #[test]
 fn sizes(rt: HostRuntime) {
     expect(&rt, size_of::<Value>(), 32);
-    expect(&rt, size_of::<(Key, Row)>(), 104);
+    expect(&rt, size_of::<(Key, Row)>(), 96);
 }
