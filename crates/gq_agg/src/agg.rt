@@ -8,7 +8,6 @@ use crate::kind::AggKind;
 use crate::state::State;
 use gq_row::Value;
 use std::alloc::{AllocError, Global};
-use std::default::MadeWith;
 use std::marker::Model;
 use thiserror::Error;
 
@@ -34,13 +33,6 @@ impl Model for Agg {
     ghost view = { λ a. record { adds = a.adds; state = a.state } };
 
     ghost invariant = { λ a. (a.adds ≤ 2 ^ 32) × IsBounded a.adds a.state };
-}
-
-// What a small vector of aggregates puts into its unused places.
-impl MadeWith<Global> for Agg {
-    fn made_with(alloc: Global) -> Agg {
-        Agg::start(alloc, AggKind::CountAll)
-    }
 }
 
 impl Agg {
