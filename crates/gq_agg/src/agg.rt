@@ -99,18 +99,17 @@ impl Agg {
             MatchResult result (λ v. aggregate kind values ≡ Some v)
             (λ _. aggregate kind values ≡ None) }
     {
-        match self.state {
-            State::Rows => Ok(Value::Int(self.adds as i64)),
-            State::Values(count) => Ok(Value::Int(count as i64)),
-            State::Total(None) => Ok(Value::Null),
-            State::Total(Some(sum)) => {
-                let sum = sum.to_i128();
-                if sum < i64::MIN as i128 || sum > i64::MAX as i128 {
-                    return Err(SumRange);
-                }
-                Ok(Value::Int(sum as i64))
-            }
-            State::Least(value) | State::Greatest(value) => Ok(value),
-        }
+        let mut agg = self;
+        agg.take()
+    }
+
+    /// Likewise where it stands, out of which its value moves.
+    #[inline]
+    pub fn take(&mut self) -> Result<Value, SumRange>
+        ensures { (kind : _) (values : List Cell) → self.old ≡ tally kind values →
+            MatchResult result (λ v. aggregate kind values ≡ Some v)
+            (λ _. aggregate kind values ≡ None) }
+    {
+        self.state.take_out(self.adds)
     }
 }

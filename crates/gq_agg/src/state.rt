@@ -4,10 +4,12 @@ ghost use Rattle.gq_agg.specs.Aggregates.{is_text};
 ghost use Rattle.gq_agg.specs.Running.{counted, plus, sum_or_zero};
 ghost use Rattle.gq_agg.specs.Values.{number, is_less, is_greater, lesser, greater};
 
+use crate::agg::SumRange;
 use crate::sum::Sum;
 use gq_row::{Value, compare};
 use std::alloc::{AllocError, Global};
 use std::cmp::Ordering;
+use std::mem::replace;
 
 /// What is kept of the values that were added, by the kind of aggregate.
 #[derive(Drop)]
@@ -25,12 +27,14 @@ pub enum State {
 }
 
 impl State {
-    ghost use Rattle.std.specs.Prelude.{◌<◌};
-    ghost use Rattle.gq_agg.specs.Aggregates.{takes};
-    ghost use Rattle.gq_agg.specs.Running.{IsBounded, kind_of, is_copied, with_value};
+    ghost use Rattle.std.specs.Prelude.{◌<◌, ◌≤◌, List, Some, None, length, MatchResult};
+    ghost use Rattle.gq_row.specs.declared.value.Value.{Value as Cell};
+    ghost use Rattle.gq_agg.specs.Aggregates.{aggregate, takes};
+    ghost use Rattle.gq_agg.specs.declared.kind.AggKind.{AggKind};
+    ghost use Rattle.gq_agg.specs.Running.{IsBounded, kept, kind_of, is_copied, with_value};
 
     // Takes one value more in, where so many were added before it.
-    #[inline]
+    #[inline(always)]
     pub(crate) fn take_in(
         &mut self,
         alloc: Global,
@@ -60,6 +64,32 @@ impl State {
             State::Greatest(greatest) => keep_greater(alloc, greatest, value),
         }
     }
+
+    // Takes the aggregate of the values that were taken in out, where so many were.
+    #[inline]
+    pub(crate) fn take_out(&mut self, adds: u64) -> Result<Value, SumRange>
+        requires few { adds ≤ 2 ^ 32 }
+        requires bounded { IsBounded adds self.old }
+        ensures value { (kind : AggKind) (values : List Cell) → adds ≡ length values →
+            self.old ≡ kept kind values → MatchResult result (λ v. aggregate kind values ≡ Some v)
+            (λ _. aggregate kind values ≡ None) }
+        ensures bounded { IsBounded adds self.new }
+    {
+        match self {
+            State::Rows => Ok(Value::Int(adds as i64)),
+            State::Values(count) => Ok(Value::Int(*count as i64)),
+            State::Total(None) => Ok(Value::Null),
+            State::Total(Some(sum)) => {
+                let sum = sum.to_i128();
+                if sum < i64::MIN as i128 || sum > i64::MAX as i128 {
+                    return Err(SumRange);
+                }
+                Ok(Value::Int(sum as i64))
+            }
+            State::Least(least) => Ok(replace(least, Value::Null)),
+            State::Greatest(greatest) => Ok(replace(greatest, Value::Null)),
+        }
+    }
 }
 
 // Counts a value, unless it is null.
@@ -84,7 +114,7 @@ pub(crate) fn sum_value(sum: &mut Option<Sum>, value: &Value)
     ensures high { number value.now ≤ℤ pos (2 ^ 63 - 1) }
 {
     match value {
-        Value::Int(n) => *sum = Some(sum.take().unwrap_or(Sum::zero()).plus(*n)),
+        Value::Int(n) => sum.get_or_insert(Sum::zero()).add(*n),
         Value::Null | Value::Text(_) | Value::NoCase(_) => {}
     }
 }

@@ -30,37 +30,27 @@ impl Sum {
         Sum { high: 0, low: 0 }
     }
 
-    /// The sum with one number more. Where the low word would leave its range it goes round, and the
-    /// high word carries.
+    /// Adds a number. Where the low word would leave its range it goes round, and the high word
+    /// carries.
     #[inline]
-    pub(crate) fn plus(self, n: i64) -> Sum
-        requires low { pos 0 ≤ℤ (self +ℤ pos (2 ^ 96)) }
-        requires high { self ≤ℤ pos (2 ^ 96) }
-        ensures { result ≡ self +ℤ n }
+    pub(crate) fn add(&mut self, n: i64)
+        requires low { pos 0 ≤ℤ (self.old +ℤ pos (2 ^ 96)) }
+        requires high { self.old ≤ℤ pos (2 ^ 96) }
+        ensures { self.new ≡ self.old +ℤ n }
     {
         let size = n.unsigned_abs();
-        let Sum { high, low } = self;
         if n < 0 {
-            if low < size {
-                return Sum {
-                    high: high - 1,
-                    low: low + (u64::MAX - size + 1),
-                };
+            if self.low < size {
+                self.high -= 1;
+                self.low += u64::MAX - size + 1;
+            } else {
+                self.low -= size;
             }
-            return Sum {
-                high,
-                low: low - size,
-            };
-        }
-        if u64::MAX - size < low {
-            return Sum {
-                high: high + 1,
-                low: low - (u64::MAX - size + 1),
-            };
-        }
-        Sum {
-            high,
-            low: low + size,
+        } else if u64::MAX - size < self.low {
+            self.high += 1;
+            self.low -= u64::MAX - size + 1;
+        } else {
+            self.low += size;
         }
     }
 

@@ -51,11 +51,7 @@ pub(crate) fn append_aggs(
 }
 
 // Takes the values of aggregates, from the first to the last. What is left of these is of no value.
-pub(crate) fn take_values(
-    alloc: Global,
-    aggs: &mut [Agg],
-    values: &mut Vec<Value>,
-) -> Result<(), Refusal>
+pub(crate) fn take_values(aggs: &mut [Agg], values: &mut Vec<Value>) -> Result<(), Refusal>
     requires none { values.old.items ≡ [] }
     ensures ok { OnOk result ((asked : List (Kind × ℕ)) (rows : List (List Cell))
         → aggs.old ≡ tallies asked rows → answers asked rows ≡ map Some values.new.items) }
@@ -65,8 +61,7 @@ pub(crate) fn take_values(
     ensures cause { IfErr result (λ e. (e ≡ Refusal.SumRange) ⊎ (e ≡ Refusal.Memory)) }
 {
     'aggs: for i in 0..aggs.len() {
-        let agg = std::mem::replace(&mut aggs[i], Agg::start(alloc, AggKind::CountAll));
-        let Ok(value) = agg.finish() else {
+        let Ok(value) = aggs[i].take() else {
             return Err(Refusal::SumRange);
         };
         let Ok(()) = values.push(value) else {

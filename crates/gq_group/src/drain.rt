@@ -6,7 +6,6 @@ use crate::aggs::take_values;
 use crate::refusal::Refusal;
 use gq_agg::Agg;
 use gq_row::{Key, Value};
-use std::alloc::Global;
 use std::marker::Model;
 
 // Groups on their way out, seen as the list of those that are left.
@@ -48,11 +47,7 @@ impl Drain {
     }
 
     // Takes the next group out: its key, and the values of its aggregates to a list that is lent.
-    pub(crate) fn next(
-        &mut self,
-        alloc: Global,
-        values: &mut Vec<Value>,
-    ) -> Result<Option<Key>, Refusal>
+    pub(crate) fn next(&mut self, values: &mut Vec<Value>) -> Result<Option<Key>, Refusal>
         ensures taken { IfOk result (λ next.
             IfSome next (λ key. Takes key values.new.items self.old self.new)) }
         ensures end { IfOk result (λ next. IfNone next (self.old ≡ [])) }
@@ -66,7 +61,7 @@ impl Drain {
         let end = start + self.each;
         self.start = end;
         values.clear();
-        take_values(alloc, &mut self.running[start..end], values)?;
+        take_values(&mut self.running[start..end], values)?;
         Ok(Some(key))
     }
 }

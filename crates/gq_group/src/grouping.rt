@@ -64,7 +64,7 @@ pub(crate) fn push_all<H: KeyHash<Key> + Copy, S: RunStore, K: GroupSink<S>>(
     sink.make_room(groups);
     let mut left = all.drain();
     let mut values = Vec::new(alloc);
-    'groups: while let Some(key) = left.next(alloc, &mut values)? {
+    'groups: while let Some(key) = left.next(&mut values)? {
         sink.push(store, key, &mut values)?;
     }
     Ok(groups as u64)

@@ -1,13 +1,14 @@
--- Fields of numbers call for no quotes; the digits of small numbers.
-use Rattle.std.proofs.Common.{◌≡◌, ◌≤◌, ◌<◌, ◌+◌, ◌/◌, ◌%◌, ◌^◌, ◌==◌, ◌∷◌, ◌++◌, ◌∙◌, [], ℕ, ℤ, suc, pos, negsuc, false, List, refl, ap, sym, length, map, arith, append_assoc, append-nil}
+-- Fields that call for no quotes, numbers among them; the digits of small numbers.
+use Rattle.std.proofs.Common.{◌≡◌, ◌≤◌, ◌<◌, ◌+◌, ◌/◌, ◌%◌, ◌^◌, ◌==◌, ◌∷◌, ◌++◌, ◌∙◌, [], ℕ, ℤ, suc, pos, negsuc, true, false, List, refl, ap, sym, length, map, arith, append_assoc, append-nil}
 use Rattle.std.specs.Fmt.{decimal, signed_decimal}
 use Rattle.std.specs.Int.Signed.{mag}
+use Rattle.std.proofs.lemmas.Grind.{common_steps}
 use Rattle.std.specs.Str.Parse.{AllDigits}
 use Rattle.std.proofs.lemmas.Str.Parse.{digit_from_value}
 use Rattle.std.proofs.lemmas.Fmt.{decimal_digit, decimal_is_IsNumeral, decimal_nonempty, decimal_step}
 use Rattle.csv.specs.Writing.{default_writer, field_text, fields_text, is_blank, needs_byte, needs_quotes, row_body}
 use Rattle.gq_row.specs.declared.value.Value.{Value}
-use Rattle.gq_reply.specs.Bare.{row_record}
+use Rattle.gq_reply.specs.Bare.{is_plain, row_record}
 use Rattle.gq_reply.specs.Replies.{cell_text}
 
 -- a byte from 45 on that is no comma, quote or end of a line
@@ -24,12 +25,19 @@ plain_number : (z : ℤ) → mag z < 2 ^ 63 → needs_quotes default_writer (sig
 plain_number (pos n) h = plain_digits (decimal n) (decimal_is_IsNumeral n (omega arith)).0.1
 plain_number (negsuc n) h = plain_digits (decimal (suc n)) (decimal_is_IsNumeral (suc n) (omega arith)).0.1
 
-pub number_field : (z : ℤ) → mag z < 2 ^ 63 → field_text default_writer (signed_decimal z) ≡ signed_decimal z
-number_field z h = rw (plain_number z h) refl
-
-pub number_shown : (z : ℤ) → mag z < 2 ^ 63 → (length (signed_decimal z) == 0) ≡ false
+number_shown : (z : ℤ) → mag z < 2 ^ 63 → (length (signed_decimal z) == 0) ≡ false
 number_shown (pos n) h = let some = decimal_nonempty n (omega arith) in grind arith
 number_shown (negsuc n) h = grind arith
+
+pub number_is_plain : (z : ℤ) → mag z < 2 ^ 63 → is_plain (signed_decimal z) ≡ true
+number_is_plain z h = rw (number_shown z h, plain_number z h) refl
+
+-- a plain field stands as it is, and shows a byte
+pub plain_field : (field : List ℕ) → is_plain field ≡ true → field_text default_writer field ≡ field
+plain_field field h = let no : needs_quotes default_writer field ≡ false = grind arith in rw no refl
+
+pub plain_shown : (field : List ℕ) → is_plain field ≡ true → (length (field_text default_writer field) == 0) ≡ false
+plain_shown field h = let some : (length field == 0) ≡ false = grind arith in rw (plain_field field h, some) refl
 
 -- the digits of a number that has one of them, two and three
 pub one_digit : (n ones : ℕ) → n < 10 → ones ≡ 48 + n % 10 → decimal n ≡ ones ∷ []
@@ -42,26 +50,43 @@ pub three_digits : (n hundreds tens ones : ℕ) → 100 ≤ n → n < 1000 → h
 three_digits n hundreds tens ones low high h t o =
     rw (decimal_step n (omega arith) (omega arith), two_digits (n / 10) hundreds tens (omega arith) (omega arith) (omega (arith, h)) t, o)
 
--- the record of a row whose first field shows a byte
-pub record_shown : (v : Value) (rest : List Value) → (length (field_text default_writer (cell_text v)) == 0) ≡ false
-    → row_record (v ∷ rest) ≡ row_body default_writer (map cell_text (v ∷ rest)) ++ 10 ∷ []
+-- the last three digits of a number that has more
+pub last_digits : (n hundreds tens ones : ℕ) → 1000 ≤ n → n < 2 ^ 64 → hundreds ≡ 48 + n % 1000 / 100 % 10 → tens ≡ 48 + n % 1000 / 10 % 10 → ones ≡ 48 + n % 1000 % 10
+    → decimal n ≡ decimal (n / 1000) ++ hundreds ∷ tens ∷ ones ∷ []
+last_digits n hundreds tens ones low high h t o =
+    let by_ten : n / 10 / 10 / 10 ≡ n / 1000 = omega arith in
+    let h2 : 48 + n / 10 / 10 % 10 ≡ hundreds = omega (arith, h) in
+    let t2 : 48 + n / 10 % 10 ≡ tens = omega (arith, t) in
+    let o2 : 48 + n % 10 ≡ ones = omega (arith, o) in
+    rw (decimal_step n (omega arith) high, decimal_step (n / 10) (omega arith) (omega arith), decimal_step (n / 10 / 10) (omega arith) (omega arith), by_ten, h2, t2, o2) (grind (arith, common_steps))
+
+-- all fields but one more, and what stands behind them
+row_body_more : (v last : Value) (front : List Value) → row_body default_writer (map cell_text (v ∷ front ++ last ∷ [])) ≡ field_text default_writer (cell_text v) ++ 44 ∷ row_body default_writer (map cell_text (front ++ last ∷ []))
+unfolding fields_text
+row_body_more v last [] = refl
+row_body_more v last (w ∷ front) = refl
+
+-- one field more, with the comma behind it
+pub one_more_field : (v last : Value) (front : List Value) (text next whole : List ℕ) → text ++ row_body default_writer (map cell_text (v ∷ front ++ last ∷ [])) ≡ whole
+    → next ≡ text ++ field_text default_writer (cell_text v) ++ 44 ∷ [] → next ++ row_body default_writer (map cell_text (front ++ last ∷ [])) ≡ whole
+one_more_field v last front text next whole e is =
+    let shown = field_text default_writer (cell_text v) in
+    let left = row_body default_writer (map cell_text (front ++ last ∷ [])) in
+    ap (λ l. l ++ left) is ∙ append_assoc (text ++ shown) (44 ∷ []) left ∙ append_assoc text shown (44 ∷ left) ∙ ap (λ l. text ++ l) (sym (row_body_more v last front)) ∙ e
+
+-- the record of a row whose last field shows a byte
+record_shown : (front : List Value) (last : Value) → (length (field_text default_writer (cell_text last)) == 0) ≡ false
+    → row_record (front ++ last ∷ []) ≡ row_body default_writer (map cell_text (front ++ last ∷ [])) ++ 10 ∷ []
 unfolding is_blank
-record_shown v [] shown = rw shown refl
-record_shown v (w ∷ rest) shown = refl
+record_shown [] last shown = rw shown refl
+record_shown (v ∷ []) last shown = refl
+record_shown (v ∷ w ∷ front) last shown = refl
 
--- a comma and one more field
-pub one_more_field : (text begun last whole field : List ℕ) (rest : List (List ℕ)) → text ++ fields_text default_writer (field ∷ rest) ≡ whole
-    → begun ≡ text ++ 44 ∷ [] → last ≡ begun ++ field_text default_writer field → last ++ fields_text default_writer rest ≡ whole
+-- the last field, and the end of the line
+pub row_ended : (front : List Value) (last : Value) (text before next : List ℕ) → (length (field_text default_writer (cell_text last)) == 0) ≡ false
+    → text ++ row_body default_writer (map cell_text (last ∷ [])) ≡ before ++ row_body default_writer (map cell_text (front ++ last ∷ [])) → next ≡ text ++ field_text default_writer (cell_text last) ++ 10 ∷ [] → next ≡ before ++ row_record (front ++ last ∷ [])
 unfolding fields_text
-one_more_field text begun last whole field rest e comma is =
-    let shown = field_text default_writer field in
-    let left = fields_text default_writer rest in
-    ap (λ l. l ++ left) (is ∙ ap (λ l. l ++ shown) comma) ∙ append_assoc (text ++ 44 ∷ []) shown left ∙ append_assoc text (44 ∷ []) (shown ++ left) ∙ e
-
--- all fields, and the end of the line
-pub row_ended : (v : Value) (rest : List Value) (text front last : List ℕ) → (length (field_text default_writer (cell_text v)) == 0) ≡ false
-    → text ++ fields_text default_writer [] ≡ front ++ row_body default_writer (map cell_text (v ∷ rest)) → last ≡ text ++ 10 ∷ [] → last ≡ front ++ row_record (v ∷ rest)
-unfolding fields_text
-row_ended v rest text front last shown e is =
-    let body = row_body default_writer (map cell_text (v ∷ rest)) in
-    is ∙ ap (λ l. l ++ 10 ∷ []) (sym (append-nil text) ∙ e) ∙ append_assoc front body (10 ∷ []) ∙ ap (λ l. front ++ l) (sym (record_shown v rest shown))
+row_ended front last text before next shown e is =
+    let field = field_text default_writer (cell_text last) in
+    let body = row_body default_writer (map cell_text (front ++ last ∷ [])) in
+    is ∙ ap (λ l. l ++ 10 ∷ []) (ap (λ l. text ++ l) (sym (append-nil field)) ∙ e) ∙ append_assoc before body (10 ∷ []) ∙ ap (λ l. before ++ l) (sym (record_shown front last shown))

@@ -1,18 +1,23 @@
--- Rows that are written without a look for bytes that call for quotes.
-use Rattle.std.specs.Prelude.{◌≡◌, ◌<◌, ◌≤◌, ℕ, Bool, true, false, List, [], length, map, flat_map, slice_index_or}
+-- Rows that are written field by field, since none of their fields calls for quotes.
+use Rattle.std.specs.Prelude.{◌≡◌, ◌<◌, ◌≤◌, ◌==◌, ◌&&◌, not, ℕ, Bool, true, List, [], length, map, flat_map, slice_index_or}
 use Rattle.std.specs.List.{list_all}
+use Rattle.csv.specs.Writing.{default_writer, needs_quotes}
 use Rattle.gq_row.specs.declared.value.Value.{Value}
 use Rattle.gq_row.specs.declared.value.Value.TheVariants.{Null, Int, Text, NoCase}
 use Rattle.gq_reply.specs.Replies.{cell_text, record_text}
 
--- whether a value is no text
+-- whether a field has a byte, and none that calls for quotes
+abbrev pub is_plain : List ℕ → Bool
+is_plain field = not (length field == 0) && not (needs_quotes default_writer field)
+
+-- whether that of a value is so, as those of null and of all numbers are
 abbrev pub is_bare : Value → Bool
 is_bare Null = true
 is_bare (Int n) = true
-is_bare (Text t) = false
-is_bare (NoCase t) = false
+is_bare (Text t) = is_plain t
+is_bare (NoCase t) = is_plain t
 
--- a row has a value, and none of its values is a text
+-- a row has a value, and each of its fields is plain
 abbrev pub IsBare : List Value → Type 0
 IsBare row = (0 < length row) × (list_all is_bare row ≡ true)
 

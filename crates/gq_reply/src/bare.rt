@@ -1,39 +1,22 @@
-//! Rows without texts, written straight into the text of a reply: no field of theirs calls for quotes.
+//! Rows whose fields call for no quotes, written straight into the text of a reply.
 //!
 //! The rows of an answer in order stand anywhere among its cells, so that a processor waits for each. Here it looks at
 //! many rows before it writes the first of them: looks don't wait for one another.
-ghost use Rattle.std.specs.Prelude.{◌≡◌, ◌≤◌, ◌<◌, ◌+◌, ◌%◌, ◌++◌, ◌==◌, List, ℕ, IfOk, OnOk, false, true, length, take};
+ghost use Rattle.std.specs.Prelude.{◌≡◌, ◌≤◌, ◌<◌, ◌+◌, ◌%◌, ◌++◌, ◌∷◌, ◌==◌, [], List, ℕ, IfOk, OnOk, false, true, length, take};
 ghost use Rattle.std.specs.Fmt.{decimal, signed_decimal};
-ghost use Rattle.csv.specs.Writing.{default_writer, field_text};
-ghost use Rattle.gq_reply.specs.Bare.{AreBare, IsBare, is_bare, records, row_record};
+ghost use Rattle.csv.specs.Writing.{default_writer, field_text, needs_byte, needs_quotes};
+ghost use Rattle.gq_reply.specs.Bare.{AreBare, IsBare, is_bare, is_plain, records, row_record};
 ghost use Rattle.gq_reply.specs.Replies.{cell_text};
 
-use gq_row::{Rows, Value};
+use gq_row::{Rows, Text, Value};
 use itoa::Buffer;
 use std::alloc::AllocError;
 
 // How many rows are looked at before the first of them is written.
 const AHEAD: usize = 64;
 
-/// Writes rows up to one that has a text, or up to one of the few before it, behind a text, and tells how many.
-pub(crate) fn write_bare_rows(text: &mut Vec<u8>, rows: &Rows) -> Result<usize, AllocError>
-    ensures some { IfOk result (λ n. n ≤ length rows.now) }
-    ensures written { IfOk result (λ n. text.new.items ≡ text.old.items ++ records (take n rows.now)) }
-{
-    let mut written = 0;
-    while written < rows.len() {
-        let end = block_end(written, rows.len());
-        if !are_bare(rows, written, end) {
-            break;
-        }
-        write_block(text, rows, written, end)?;
-        written = end;
-    }
-    Ok(written)
-}
-
 // Where the rows end that are looked at together.
-fn block_end(start: usize, rows: usize) -> usize
+pub(crate) fn block_end(start: usize, rows: usize) -> usize
     requires { start < rows }
     ensures more { start < result }
     ensures within { result ≤ rows }
@@ -45,8 +28,8 @@ fn block_end(start: usize, rows: usize) -> usize
     }
 }
 
-// Whether no row from the one position up to the other, which it leaves out, has a text, and each has a cell.
-fn are_bare(rows: &Rows, start: usize, end: usize) -> bool
+// Whether each row from the one position up to the other, which it leaves out, has a cell, and plain fields alone.
+pub(crate) fn are_bare(rows: &Rows, start: usize, end: usize) -> bool
     requires { end ≤ length rows.now }
     ensures bare { result ≡ true → AreBare rows.now start end }
     ensures not_bare { result ≡ false → AreBare rows.now start end → ⊥ }
@@ -76,11 +59,42 @@ fn is_bare_row(row: &[Value]) -> bool
 fn is_bare(cell: &Value) -> bool
     ensures { result ≡ is_bare cell.now }
 {
-    matches!(cell, Value::Null | Value::Int(_))
+    match cell {
+        Value::Null | Value::Int(_) => true,
+        Value::Text(text) | Value::NoCase(text) => is_plain(text.as_str().as_bytes()),
+    }
+}
+
+// Whether a field has a byte, and none that calls for quotes.
+#[inline]
+fn is_plain(field: &[u8]) -> bool
+    ensures { result ≡ is_plain field.now }
+{
+    !field.is_empty() && !needs_quotes(field)
+}
+
+#[inline]
+fn needs_quotes(field: &[u8]) -> bool
+    ensures { result ≡ needs_quotes default_writer field.now }
+{
+    field.iter().any(|byte| needs_byte(*byte))
+}
+
+// Whether a byte calls for quotes. Letters and digits stand behind all of these, and take one comparison.
+#[inline]
+fn needs_byte(byte: u8) -> bool
+    ensures { result ≡ needs_byte default_writer byte }
+{
+    byte <= b',' && matches!(byte, b',' | b'"' | b'\n' | b'\r')
 }
 
 // Writes the records of the rows from the one position up to the other.
-fn write_block(text: &mut Vec<u8>, rows: &Rows, start: usize, end: usize) -> Result<(), AllocError>
+pub(crate) fn write_block(
+    text: &mut Vec<u8>,
+    rows: &Rows,
+    start: usize,
+    end: usize,
+) -> Result<(), AllocError>
     requires order { start ≤ end }
     requires within { end ≤ length rows.now }
     requires bare { AreBare rows.now start end }
@@ -99,57 +113,76 @@ fn write_row(text: &mut Vec<u8>, row: &[Value]) -> Result<(), AllocError>
     requires { IsBare row.now }
     ensures { OnOk result (text.new.items ≡ text.old.items ++ row_record row.now) }
 {
-    let Some((first, rest)) = row.split_first() else {
+    let Some((last, front)) = row.split_last() else {
         unreachable!()
     };
-    write_cell(text, first)?;
-    for cell in rest {
-        text.push(b',')?;
-        write_cell(text, cell)?;
+    for cell in front {
+        write_cell(text, cell, b',')?;
     }
-    text.push(b'\n')?;
-    Ok(())
+    write_cell(text, last, b'\n')
 }
 
-// Writes the field of a cell.
+// Writes the field of a cell, and the byte behind it.
 #[inline(always)]
-fn write_cell(text: &mut Vec<u8>, cell: &Value) -> Result<(), AllocError>
+fn write_cell(text: &mut Vec<u8>, cell: &Value, end: u8) -> Result<(), AllocError>
     requires { is_bare cell.now ≡ true }
-    ensures field { OnOk result (text.new.items ≡ text.old.items ++ field_text default_writer (cell_text cell.now)) }
+    ensures field { OnOk result (text.new.items ≡ text.old.items ++ field_text default_writer (cell_text cell.now) ++ end ∷ []) }
     ensures shown { OnOk result ((length (field_text default_writer (cell_text cell.now)) == 0) ≡ false) }
 {
     match cell {
-        Value::Int(n) => write_number(text, *n),
-        _ => text.extend_from_slice(b"\\N"),
+        Value::Null => text.extend_from_slice(&[b'\\', b'N', end]),
+        Value::Int(n) => write_number(text, *n, end),
+        Value::Text(field) | Value::NoCase(field) => write_text(text, field, end),
     }
 }
 
-// Writes a number. Counts and sums mostly have few digits, which take less time than a buffer for the longest number.
+fn write_text(text: &mut Vec<u8>, field: &Text, end: u8) -> Result<(), AllocError>
+    ensures { OnOk result (text.new.items ≡ text.old.items ++ field.now ++ end ∷ []) }
+{
+    text.extend_from_slice(field.as_str().as_bytes())?;
+    text.push(end)?;
+    Ok(())
+}
+
+// Writes a number. Counts, sums and keys mostly have few digits, which take less time than a buffer for the longest number.
 #[inline(always)]
-fn write_number(text: &mut Vec<u8>, n: i64) -> Result<(), AllocError>
-    ensures { OnOk result (text.new.items ≡ text.old.items ++ signed_decimal n) }
+fn write_number(text: &mut Vec<u8>, n: i64, end: u8) -> Result<(), AllocError>
+    ensures { OnOk result (text.new.items ≡ text.old.items ++ signed_decimal n ++ end ∷ []) }
 {
     match n {
-        0..=999 => write_small(text, n as u16),
-        _ => write_long(text, n),
+        0..=999 => write_small(text, n as u16, end),
+        1_000..=999_999 => write_thousands(text, n as u32, end),
+        _ => write_long(text, n, end),
     }
 }
 
 // Writes up to three digits. The length of each array is known before the program runs, so that no call copies it.
 #[inline(always)]
-fn write_small(text: &mut Vec<u8>, n: u16) -> Result<(), AllocError>
+fn write_small(text: &mut Vec<u8>, n: u16, end: u8) -> Result<(), AllocError>
     requires { n < 1000 }
-    ensures { OnOk result (text.new.items ≡ text.old.items ++ decimal n) }
+    ensures { OnOk result (text.new.items ≡ text.old.items ++ decimal n ++ end ∷ []) }
 {
     let ones = last_digit(n);
     if n < 10 {
-        return text.extend_from_slice(&[ones]);
+        return text.extend_from_slice(&[ones, end]);
     }
     let tens = last_digit(n / 10);
     if n < 100 {
-        return text.extend_from_slice(&[tens, ones]);
+        return text.extend_from_slice(&[tens, ones, end]);
     }
-    text.extend_from_slice(&[last_digit(n / 100), tens, ones])
+    text.extend_from_slice(&[last_digit(n / 100), tens, ones, end])
+}
+
+// Writes four to six digits.
+#[inline(always)]
+fn write_thousands(text: &mut Vec<u8>, n: u32, end: u8) -> Result<(), AllocError>
+    requires low { 1000 ≤ n }
+    requires high { n < 1000000 }
+    ensures { OnOk result (text.new.items ≡ text.old.items ++ decimal n ++ end ∷ []) }
+{
+    let behind = (n % 1000) as u16;
+    write_small(text, (n / 1000) as u16, last_digit(behind / 100))?;
+    text.extend_from_slice(&[last_digit(behind / 10), last_digit(behind), end])
 }
 
 #[inline]
@@ -161,9 +194,11 @@ fn last_digit(n: u16) -> u8
 
 // Stands by itself, so that the loop over the cells makes no room for the buffer.
 #[inline(never)]
-fn write_long(text: &mut Vec<u8>, n: i64) -> Result<(), AllocError>
-    ensures { OnOk result (text.new.items ≡ text.old.items ++ signed_decimal n) }
+fn write_long(text: &mut Vec<u8>, n: i64, end: u8) -> Result<(), AllocError>
+    ensures { OnOk result (text.new.items ≡ text.old.items ++ signed_decimal n ++ end ∷ []) }
 {
     let mut digits = Buffer::new();
-    text.extend_from_slice(digits.format(n).as_bytes())
+    text.extend_from_slice(digits.format(n).as_bytes())?;
+    text.push(end)?;
+    Ok(())
 }

@@ -5,7 +5,7 @@ ghost use Rattle.gq_reply.specs.Bare.{records};
 ghost use Rattle.gq_reply.specs.Records.{HasWritten};
 ghost use Rattle.gq_reply.specs.Replies.{accepted, text, cell_text, record_text};
 
-use crate::bare::write_bare_rows;
+use crate::bare::{are_bare, block_end, write_block};
 use crate::reply::Reply;
 use crate::reply_line::{accepted_line, line_of};
 use csv::{ByteRecord, Writer, WriterBuilder};
@@ -29,11 +29,13 @@ pub fn rows_text(alloc: Global, header: &Sequence<Text>, rows: &Rows) -> Result<
     ensures { IfOk result (λ bytes. bytes.items ≡ text (Reply.Rows header.now rows.now)) }
 {
     let mut text = head_text(alloc, header, rows.len() as u64)?;
-    let written = write_bare_rows(&mut text, rows)?;
-    if written == rows.len() {
-        return Ok(text);
+    let mut written = 0;
+    while written < rows.len() {
+        let end = block_end(written, rows.len());
+        text = with_rows(alloc, text, rows, written, end)?;
+        written = end;
     }
-    with_records(alloc, text, rows, written)
+    Ok(text)
 }
 
 // The text before the rows: `ok` with their number, and the header.
@@ -48,20 +50,43 @@ fn head_text(alloc: Global, header: &Sequence<Text>, rows: u64) -> Result<Vec<u8
     whole_text(writer)
 }
 
-// A text with the records of rows behind it, from the row at a position on.
+// A text with the records of the rows behind it that stand from the one position up to the other.
+fn with_rows(
+    alloc: Global,
+    text: Vec<u8>,
+    rows: &Rows,
+    from: usize,
+    to: usize,
+) -> Result<Vec<u8>, AllocError>
+    requires order { from ≤ to }
+    requires within { to ≤ length rows.now }
+    ensures { (front : List ℕ) → text.items ≡ front ++ records (take from rows.now)
+        → IfOk result (λ bytes. bytes.items ≡ front ++ records (take to rows.now)) }
+{
+    if !are_bare(rows, from, to) {
+        return with_records(alloc, text, rows, from, to);
+    }
+    let mut text = text;
+    write_block(&mut text, rows, from, to)?;
+    Ok(text)
+}
+
+// Likewise, by the writer that knows which fields call for quotes.
 fn with_records(
     alloc: Global,
     text: Vec<u8>,
     rows: &Rows,
     from: usize,
+    to: usize,
 ) -> Result<Vec<u8>, AllocError>
-    requires { from ≤ length rows.now }
+    requires order { from ≤ to }
+    requires within { to ≤ length rows.now }
     ensures { (front : List ℕ) → text.items ≡ front ++ records (take from rows.now)
-        → IfOk result (λ bytes. bytes.items ≡ front ++ records rows.now) }
+        → IfOk result (λ bytes. bytes.items ≡ front ++ records (take to rows.now)) }
 {
     let mut writer = WriterBuilder::new().from_writer(text);
     let mut line = ByteRecord::new(alloc);
-    for i in from..rows.len() {
+    for i in from..to {
         fill_row(&mut line, rows.row(i))?;
         write_record(&mut writer, &line)?;
     }

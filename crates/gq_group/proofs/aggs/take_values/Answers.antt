@@ -1,4 +1,4 @@
-use Rattle.std.proofs.Common.{◌≡◌, slice_set, ◌+◌, ◌++◌, ◌∷◌, [], ℕ, suc, take, drop, map, Some, sym, ap, ◌∙◌, arith}
+use Rattle.std.proofs.Common.{◌≡◌, slice_set, slice_index_or, ◌+◌, ◌++◌, ◌∷◌, [], ℕ, suc, take, drop, map, Some, sym, ap, ◌∙◌, arith}
 use Rattle.std.proofs.lemmas.List.{length-set, map-append}
 use Rattle.gq_group.specs.Groups.{answers, column_of, is_none}
 use Rattle.gq_group.proofs.AggLemmas.{behind_set, first_at, next_of}
@@ -8,8 +8,9 @@ pub returns-in_default-clause-overflow : goal.returns-in_default-clause-overflow
 returns-in_default-clause-overflow c = λ e asked rows is.
     let i : ℕ = c.aggs.i in
     let aggs = c.aggs.aggs in
-    let front = first_at aggs i c.index-aggs-i.result (omega arith) ∙ ap (λ x. x ∷ drop (suc i) aggs) (sym c.replace-agg.ensures.value) in
-    let it = next_of asked rows i c.replace-agg.result (drop (suc i) aggs) (ap (drop i) (sym is) ∙ sym c.aggs.invariant.rest ∙ front) in
+    let agg = slice_index_or aggs i c.index-aggs-i.result in
+    let front = first_at aggs i c.index-aggs-i.result (omega arith) in
+    let it = next_of asked rows i agg (drop (suc i) aggs) (ap (drop i) (sym is) ∙ sym c.aggs.invariant.rest ∙ front) in
     it.refused (ap is_none (c.in_default.ensures it.asked_for.0 (column_of it.asked_for.1 rows) it.tallied))
 
 pub aggs-preserved : goal.aggs-preserved
@@ -18,11 +19,12 @@ aggs-preserved c =
     let aggs = c.aggs.aggs in
     let more : i + 1 ≡ suc i = omega arith in
     record {
-      long = length-set aggs i c.replace-agg.new.dest ∙ c.aggs.invariant.long;
-      rest = ap (λ n. drop n (slice_set aggs i c.replace-agg.new.dest)) more ∙ behind_set aggs c.args.aggs.now i c.replace-agg.new.dest c.aggs.invariant.rest ∙ ap (λ n. drop n c.args.aggs.now) (sym more);
+      long = length-set aggs i c.take.new.self ∙ c.aggs.invariant.long;
+      rest = ap (λ n. drop n (slice_set aggs i c.take.new.self)) more ∙ behind_set aggs c.args.aggs.now i c.take.new.self c.aggs.invariant.rest ∙ ap (λ n. drop n c.args.aggs.now) (sym more);
       made = λ asked rows is.
-          let front = first_at aggs i c.index-aggs-i.result (omega arith) ∙ ap (λ x. x ∷ drop (suc i) aggs) (sym c.replace-agg.ensures.value) in
-          let it = next_of asked rows i c.replace-agg.result (drop (suc i) aggs) (ap (drop i) (sym is) ∙ sym c.aggs.invariant.rest ∙ front) in
+          let agg = slice_index_or aggs i c.index-aggs-i.result in
+          let front = first_at aggs i c.index-aggs-i.result (omega arith) in
+          let it = next_of asked rows i agg (drop (suc i) aggs) (ap (drop i) (sym is) ∙ sym c.aggs.invariant.rest ∙ front) in
           let answer = c.in-Ok.ensures it.asked_for.0 (column_of it.asked_for.1 rows) it.tallied in
           ap (map Some) c.in-Ok-push.ensures.items
           ∙ map-append Some c.aggs.values.items (c.in-Ok.value ∷ [])
