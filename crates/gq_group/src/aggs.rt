@@ -51,6 +51,7 @@ pub(crate) fn append_aggs(
 }
 
 // Takes the values of aggregates, from the first to the last. What is left of these is of no value.
+#[inline]
 pub(crate) fn take_values(aggs: &mut [Agg], values: &mut Vec<Value>) -> Result<(), Refusal>
     requires none { values.old.items ≡ [] }
     ensures ok { OnOk result ((asked : List (Kind × ℕ)) (rows : List (List Cell))

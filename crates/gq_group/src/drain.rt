@@ -47,6 +47,7 @@ impl Drain {
     }
 
     // Takes the next group out: its key, and the values of its aggregates to a list that is lent.
+    #[inline(always)]
     pub(crate) fn next(&mut self, values: &mut Vec<Value>) -> Result<Option<Key>, Refusal>
         ensures taken { IfOk result (λ next.
             IfSome next (λ key. Takes key values.new.items self.old self.new)) }

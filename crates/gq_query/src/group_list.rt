@@ -127,6 +127,7 @@ impl GroupList {
     }
 
     // Puts a group behind the others.
+    #[inline(always)]
     fn add(&mut self, key: Key, values: &mut Vec<Value>) -> Result<(), AllocError>
         ensures { OnOk result (self.new ≡ self.old ++ (key, values.old.items) ∷ []) }
     {
