@@ -1,0 +1,72 @@
+"""Tries answers of many rows against the `csv` module's: texts, a few of which call for quotes, and numbers of each length.
+
+    quotes.py GROUPSH
+
+Each script loads rows by a table of one to three columns, and shows them. Sixty-four rows are written at a time, so answers
+have up to some thousand rows, and rows that call for quotes stand in some sixty-fours and not in others. The last line counts
+the answers; the status is 0 where each is as the module writes it.
+"""
+import csv
+import io
+import random
+import subprocess
+import sys
+
+COLUMNS = (("text",), ("int",), ("text", "int"), ("int", "text", "text"))
+ROWS = (1, 2, 63, 64, 65, 128, 1_000, 3_000)
+# Of how many texts one may have bytes that call for quotes; None for no such text.
+RARITIES = (None, 1, 50, 1_000)
+PLAIN = "abcdefghij ABC 0123456789.-äé"
+MARKED = 'a,"\nb '
+EDGES = [0, 9, 10, 99, 100, 999, 1_000, 1_001, 1_010, 1_100, 99_999, 100_000, 999_999, 1_000_000, -1, -1_000, 2**63 - 1, -(2**63)]
+
+
+def text(chance, rarity):
+    """A text that is mostly short enough to stand in its value, and now and then empty."""
+    if rarity and chance.randrange(rarity) == 0:
+        return "".join(chance.choice(MARKED) for _ in range(chance.randrange(10)))
+    return "".join(chance.choice(PLAIN) for _ in range(chance.choice((1, 2, 8, 15, 22, 23, 200))))
+
+
+def number(chance):
+    """A number of any length, or null."""
+    if chance.randrange(20) == 0:
+        return None
+    digits = chance.randrange(1, 19)
+    return chance.choice(EDGES + [chance.randrange(10 ** (digits - 1), 10**digits) * chance.choice((1, 1, -1))] * len(EDGES))
+
+
+def place(row):
+    """Where a row stands in the order: null, numbers, texts by their bytes."""
+    return [(0,) if value is None else (1, value) if isinstance(value, int) else (2, value.encode()) for value in row]
+
+
+def written(header, rows):
+    """Rows as the module writes them."""
+    text = io.StringIO()
+    writer = csv.writer(text, lineterminator="\n")
+    writer.writerow(header)
+    writer.writerows(["\\N" if value is None else value for value in row] for row in rows)
+    return text.getvalue()
+
+
+def main(program):
+    chance, tried, wrong = random.Random(21), 0, 0
+    for kinds in COLUMNS:
+        header = [f"c{n}" for n in range(len(kinds))]
+        for count, rarity in ((count, rarity) for count in ROWS for rarity in RARITIES):
+            rows = [[text(chance, rarity) if kind == "text" else number(chance) for kind in kinds] for _ in range(count)]
+            columns = ", ".join(f"{name} {kind}" for name, kind in zip(header, kinds))
+            script = f"create s ({columns})\nload s\n{written(header, rows)}\\.\nshow s\n"
+            run = subprocess.run([program], input=script.encode(), stdout=subprocess.PIPE, timeout=60, check=False)
+            due = f"ok 0\nok {count}\nok {count}\n" + written(header, sorted(rows, key=place))
+            tried += 1
+            if run.stdout.decode() != due:
+                wrong += 1
+                print(f"{count} rows of {columns}, quotes in one of {rarity}: not as the module writes them")
+    print(f"{tried} answers, {wrong} wrong")
+    return wrong != 0
+
+
+if __name__ == "__main__":
+    sys.exit(main(*sys.argv[1:]))
