@@ -173,7 +173,7 @@ fn write_small(text: &mut Vec<u8>, n: u16, end: u8) -> Result<(), AllocError>
     text.extend_from_slice(&[last_digit(n / 100), tens, ones, end])
 }
 
-// Writes four to six digits.
+// Writes four to six digits. Arrays of two bytes and of four are stored at once, which one of three is not.
 #[inline(always)]
 fn write_thousands(text: &mut Vec<u8>, n: u32, end: u8) -> Result<(), AllocError>
     requires low { 1000 ≤ n }
@@ -181,8 +181,13 @@ fn write_thousands(text: &mut Vec<u8>, n: u32, end: u8) -> Result<(), AllocError
     ensures { OnOk result (text.new.items ≡ text.old.items ++ decimal n ++ end ∷ []) }
 {
     let behind = (n % 1000) as u16;
-    write_small(text, (n / 1000) as u16, last_digit(behind / 100))?;
-    text.extend_from_slice(&[last_digit(behind / 10), last_digit(behind), end])
+    let hundreds = last_digit(behind / 100);
+    let tens = last_digit(behind / 10);
+    let ones = last_digit(behind);
+    write_small(text, (n / 1000) as u16, hundreds)?;
+    text.extend_from_slice(&[tens, ones])?;
+    text.push(end)?;
+    Ok(())
 }
 
 #[inline]

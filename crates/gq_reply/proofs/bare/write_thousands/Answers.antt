@@ -5,5 +5,5 @@ use Rattle.gq_reply.proofs.bare.write_thousands.Goals as goal
 
 pub returns : goal.returns
 returns c =
-    let digits = last_digits c.args.n c.last_digit.result c.last_digit-2.result c.last_digit-3.result c.requires.low (omega arith) c.last_digit.ensures c.last_digit-2.ensures c.last_digit-3.ensures in
+    let digits = last_digits c.args.n c.last_digit-hundreds.result c.last_digit-tens.result c.last_digit-ones.result c.requires.low (omega arith) c.last_digit-hundreds.ensures c.last_digit-tens.ensures c.last_digit-ones.ensures in
     grind (arith, common_steps)
