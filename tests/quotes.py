@@ -8,6 +8,7 @@ the answers; the status is 0 where each is as the module writes it.
 """
 import csv
 import io
+import itertools
 import random
 import subprocess
 import sys
@@ -22,7 +23,7 @@ EDGES = [0, 9, 10, 99, 100, 999, 1_000, 1_001, 1_010, 1_100, 99_999, 100_000, 99
 
 
 def text(chance, rarity):
-    """A text that is mostly short enough to stand in its value, and now and then empty."""
+    """A text, mostly short enough to stand in its value. One that has bytes that call for quotes may be empty, too."""
     if rarity and chance.randrange(rarity) == 0:
         return "".join(chance.choice(MARKED) for _ in range(chance.randrange(10)))
     return "".join(chance.choice(PLAIN) for _ in range(chance.choice((1, 2, 8, 15, 22, 23, 200))))
@@ -32,8 +33,10 @@ def number(chance):
     """A number of any length, or null."""
     if chance.randrange(20) == 0:
         return None
+    if chance.randrange(2) == 0:
+        return chance.choice(EDGES)
     digits = chance.randrange(1, 19)
-    return chance.choice(EDGES + [chance.randrange(10 ** (digits - 1), 10**digits) * chance.choice((1, 1, -1))] * len(EDGES))
+    return chance.randrange(10 ** (digits - 1), 10**digits) * chance.choice((1, 1, -1))
 
 
 def place(row):
@@ -43,27 +46,26 @@ def place(row):
 
 def written(header, rows):
     """Rows as the module writes them."""
-    text = io.StringIO()
-    writer = csv.writer(text, lineterminator="\n")
+    file = io.StringIO()
+    writer = csv.writer(file, lineterminator="\n")
     writer.writerow(header)
     writer.writerows(["\\N" if value is None else value for value in row] for row in rows)
-    return text.getvalue()
+    return file.getvalue()
 
 
 def main(program):
     chance, tried, wrong = random.Random(21), 0, 0
-    for kinds in COLUMNS:
+    for kinds, count, rarity in itertools.product(COLUMNS, ROWS, RARITIES):
         header = [f"c{n}" for n in range(len(kinds))]
-        for count, rarity in ((count, rarity) for count in ROWS for rarity in RARITIES):
-            rows = [[text(chance, rarity) if kind == "text" else number(chance) for kind in kinds] for _ in range(count)]
-            columns = ", ".join(f"{name} {kind}" for name, kind in zip(header, kinds))
-            script = f"create s ({columns})\nload s\n{written(header, rows)}\\.\nshow s\n"
-            run = subprocess.run([program], input=script.encode(), stdout=subprocess.PIPE, timeout=60, check=False)
-            due = f"ok 0\nok {count}\nok {count}\n" + written(header, sorted(rows, key=place))
-            tried += 1
-            if run.stdout.decode() != due:
-                wrong += 1
-                print(f"{count} rows of {columns}, quotes in one of {rarity}: not as the module writes them")
+        rows = [[text(chance, rarity) if kind == "text" else number(chance) for kind in kinds] for _ in range(count)]
+        columns = ", ".join(f"{name} {kind}" for name, kind in zip(header, kinds))
+        script = f"create s ({columns})\nload s\n{written(header, rows)}\\.\nshow s\n"
+        run = subprocess.run([program], input=script.encode(), stdout=subprocess.PIPE, timeout=60, check=False)
+        due = f"ok 0\nok {count}\nok {count}\n" + written(header, sorted(rows, key=place))
+        tried += 1
+        if run.stdout.decode() != due:
+            wrong += 1
+            print(f"{count} rows of {columns}, quotes in one of {rarity}: not as the module writes them")
     print(f"{tried} answers, {wrong} wrong")
     return wrong != 0
 
