@@ -21,7 +21,7 @@ is_bare (NoCase t) = is_plain t
 abbrev pub IsBare : List Value → Type 0
 IsBare row = (0 < length row) × (list_all is_bare row ≡ true)
 
--- so has each row from one position up to another
+-- each row from one position up to another is so
 abbrev pub AreBare : List (List Value) → ℕ → ℕ → Type 0
 AreBare rows start end = (k : ℕ) → start ≤ k → k < end → IsBare (slice_index_or rows k [])
 

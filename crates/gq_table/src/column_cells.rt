@@ -67,11 +67,17 @@ impl ColumnCells {
         ensures copied { OnOk result (over.new ≡ slice_index_or self.now position Null) }
         ensures in_place { IsInPlace (slice_index_or self.now position Null) → IsOk result }
     {
-        if let Stored::Numbers(numbers) = &self.stored {
-            *over = Value::Int(numbers[position]);
-            return Ok(());
+        match &self.stored {
+            Stored::Numbers(numbers) => {
+                *over = Value::Int(numbers[position]);
+                Ok(())
+            }
+            Stored::Nullable(numbers) => {
+                *over = cell_of(numbers[position]);
+                Ok(())
+            }
+            Stored::Values(values) => over.copy_from(alloc, &values[position]),
         }
-        self.stored.copy_to(alloc, position, over)
     }
 
     /// Puts a cell behind the others. A text moves out of the value.
@@ -121,25 +127,6 @@ impl ColumnCells {
 
 impl Stored {
     ghost use Rattle.gq_table.specs.StoredCells.{HasNullable, HasValues, cells_of};
-
-    // Writes the cell at a position over a value.
-    fn copy_to(&self, alloc: Global, position: usize, over: &mut Value) -> Result<(), AllocError>
-        requires { position < length (cells_of self.now) }
-        ensures copied { OnOk result (over.new ≡ slice_index_or (cells_of self.now) position Null) }
-        ensures in_place { IsInPlace (slice_index_or (cells_of self.now) position Null) → IsOk result }
-    {
-        match self {
-            Stored::Numbers(numbers) => {
-                *over = Value::Int(numbers[position]);
-                Ok(())
-            }
-            Stored::Nullable(numbers) => {
-                *over = cell_of(numbers[position]);
-                Ok(())
-            }
-            Stored::Values(values) => over.copy_from(alloc, &values[position]),
-        }
-    }
 
     // Puts a cell behind the others, for which there is no place among these as they are stored.
     #[cold]
