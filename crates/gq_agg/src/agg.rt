@@ -57,7 +57,8 @@ impl Agg {
     /// How many values were added, nulls too.
     #[inline]
     pub fn adds(&self) -> u64
-        ensures { result ≡ self.now.adds }
+        ensures is { result ≡ self.now.adds }
+        ensures few { result ≤ 2 ^ 32 }
     {
         self.adds
     }
@@ -103,12 +104,15 @@ impl Agg {
         agg.take()
     }
 
-    /// Likewise where it stands, out of which its value moves.
+    /// Likewise where it stands, out of which its value moves. What is left is of the same kind, and
+    /// knows how many values were added, and no more of them.
     #[inline]
     pub fn take(&mut self) -> Result<Value, SumRange>
-        ensures { (kind : _) (values : List Cell) → self.old ≡ tally kind values →
+        ensures value { (kind : _) (values : List Cell) → self.old ≡ tally kind values →
             MatchResult result (λ v. aggregate kind values ≡ Some v)
             (λ _. aggregate kind values ≡ None) }
+        ensures adds { self.new.adds ≡ self.old.adds }
+        ensures kind { kind_of self.new.state ≡ kind_of self.old.state }
     {
         self.state.take_out(self.adds)
     }

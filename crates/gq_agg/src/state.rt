@@ -65,7 +65,7 @@ impl State {
         }
     }
 
-    // Takes the aggregate of the values that were taken in out, where so many were.
+    // The aggregate of the values that were taken in, so many. A least or a greatest moves out, and leaves null.
     #[inline]
     pub(crate) fn take_out(&mut self, adds: u64) -> Result<Value, SumRange>
         requires few { adds ≤ 2 ^ 32 }
@@ -74,6 +74,7 @@ impl State {
             self.old ≡ kept kind values → MatchResult result (λ v. aggregate kind values ≡ Some v)
             (λ _. aggregate kind values ≡ None) }
         ensures bounded { IsBounded adds self.new }
+        ensures kind { kind_of self.new ≡ kind_of self.old }
     {
         match self {
             State::Rows => Ok(Value::Int(adds as i64)),

@@ -1,17 +1,16 @@
 -- A group's running aggregates, one after the other.
 use Rattle.std.proofs.Common.{◌≡◌, ◌<◌, ℕ, zero, suc, ◌+◌, Bool, true, false, ◌||◌, List, [], ◌∷◌, ◌++◌, length, take, drop, get_or, slice_index_or, slice_set, refl, sym, ap, ◌∙◌, arith}
 use Rattle.std.specs.Prelude.{IsTrue, nat_lt}
-use Rattle.std.specs.List.{list_all, list_any}
+use Rattle.std.specs.List.{list_all}
 use Rattle.std.proofs.lemmas.Bool.{and_parts, ltb-true}
 use Rattle.std.proofs.lemmas.List.{append_assoc, length-map, map-append, take_at, take_more}
 use Rattle.gq_row.specs.declared.value.Value.{Value}
 use Rattle.gq_row.specs.Rows.{cell}
 use Rattle.gq_agg.specs.declared.kind.AggKind.{AggKind}
 use Rattle.gq_agg.specs.declared.kind.AggKind.TheVariants as kind
-use Rattle.gq_agg.specs.Aggregates.{aggregate}
 use Rattle.gq_agg.specs.Running.{Running, tally, kept, kind_of}
 use Rattle.gq_group.specs.Entries.{tallies}
-use Rattle.gq_group.specs.Groups.{Spec, answers, column_of, fits_cell, fits_spec, has_columns, is_none}
+use Rattle.gq_group.specs.Groups.{Spec, column_of, fits_cell, fits_spec, has_columns}
 
 pub kind_kept : (k : AggKind) (values : List Value) → kind_of (kept k values) ≡ k
 kind_kept kind.CountAll values = refl
@@ -58,62 +57,15 @@ next_fits row asked rows more i aggs d e less is fits =
 
 -- ---- the values, from the first to the last
 
-cons_head : {X : Type 0} (x y : X) (xs ys : List X) → x ∷ xs ≡ y ∷ ys → x ≡ y
-cons_head x y xs ys h = cc
-
-or_true : (b : Bool) → (b || true) ≡ true
+pub or_true : (b : Bool) → (b || true) ≡ true
 or_true true = refl
 or_true false = refl
-
--- what stands behind a place, once its element is another
-pub behind_set : {X : Type 0} (xs ys : List X) (i : ℕ) (x : X) → drop i xs ≡ drop i ys → drop (suc i) (slice_set xs i x) ≡ drop (suc i) ys
-behind_set xs ys i x h = set xs i x ∙ behind xs i ∙ ap (drop 1) h ∙ sym (behind ys i)
-  where
-    set : {X : Type 0} (xs : List X) (i : ℕ) (x : X) → drop (suc i) (slice_set xs i x) ≡ drop (suc i) xs
-    set [] i x = refl
-    set (y ∷ xs) zero x = refl
-    set (y ∷ xs) (suc i) x = set xs i x
-
-    behind : {X : Type 0} (xs : List X) (i : ℕ) → drop (suc i) xs ≡ drop 1 (drop i xs)
-    behind [] zero = refl
-    behind [] (suc i) = refl
-    behind (y ∷ xs) zero = refl
-    behind (y ∷ xs) (suc i) = behind xs i
 
 -- the first that is left stands at that place
 pub first_at : {X : Type 0} (xs : List X) (i : ℕ) (d : X) → i < length xs → drop i xs ≡ slice_index_or xs i d ∷ drop (suc i) xs
 first_at [] i d less = absurd (omega arith)
 first_at (x ∷ xs) zero d less = refl
 first_at (x ∷ xs) (suc i) d less = first_at xs i d (omega arith)
-
--- an aggregate of a group's rows, and its value among theirs
-pub record NextOf (asked : List (AggKind × ℕ)) (rows : List (List Value)) (i : ℕ) (x : Running) : Type 0 where
-  pub asked_for : AggKind × ℕ
-  pub tallied : x ≡ tally asked_for.0 (column_of asked_for.1 rows)
-  pub answer : take (suc i) (answers asked rows) ≡ take i (answers asked rows) ++ aggregate asked_for.0 (column_of asked_for.1 rows) ∷ []
-  pub refused : is_none (aggregate asked_for.0 (column_of asked_for.1 rows)) ≡ true → list_any is_none (answers asked rows) ≡ true
-
-pub next_of : (asked : List (AggKind × ℕ)) (rows : List (List Value)) (i : ℕ) (x : Running) (rest : List Running) → drop i (tallies asked rows) ≡ x ∷ rest → NextOf asked rows i x
-next_of [] rows zero x rest h = let none : ⊥ = cc in absurd none
-next_of [] rows (suc i) x rest h = let none : ⊥ = cc in absurd none
-next_of (a ∷ asked) rows zero x rest h = record {
-  asked_for = a;
-  tallied = sym (cons_head (tally a.0 (column_of a.1 rows)) x (tallies asked rows) rest h);
-  answer = refl;
-  refused = λ none. ap (λ b. b || list_any is_none (answers asked rows)) none;
-}
-next_of (a ∷ asked) rows (suc i) x rest h =
-    let it = next_of asked rows i x rest h in
-    record {
-      asked_for = it.asked_for;
-      tallied = it.tallied;
-      answer = ap (λ l. aggregate a.0 (column_of a.1 rows) ∷ l) it.answer;
-      refused = λ none. ap (λ b. is_none (aggregate a.0 (column_of a.1 rows)) || b) (it.refused none) ∙ or_true (is_none (aggregate a.0 (column_of a.1 rows)));
-    }
-
-pub all_taken : (asked : List (AggKind × ℕ)) (rows : List (List Value)) → take (length (tallies asked rows)) (answers asked rows) ≡ answers asked rows
-all_taken [] rows = refl
-all_taken (a ∷ asked) rows = ap (λ l. aggregate a.0 (column_of a.1 rows) ∷ l) (all_taken asked rows)
 
 -- ---- aggregates of no row, behind others
 

@@ -19,6 +19,7 @@ use Rattle.gq_spill.specs.Runs.{Runs}
 use Rattle.gq_spill.specs.Writing.{Writing}
 use Rattle.gq_group.specs.Entries.{listed, Pair, tallies, group_at}
 use Rattle.gq_group.specs.Groups.{Spec, Group, groups, group_of, keys_of, answered, fits_spec, is_none, out_of_range, Pushes}
+use Rattle.gq_group.specs.KeptAggs.{kept_spec}
 use Rattle.gq_group.specs.Levels.{row_groups, lots, classes_at, class_at, class_by}
 use Rattle.gq_group.specs.Readings.{AreRows, Fit, IsWide, Parted, Numbers, Reads, left_lots}
 use Rattle.gq_group.specs.Residents.{Resident, has_entry, taken, left_over}
@@ -107,15 +108,15 @@ group_there : (spec : Spec) (rows : List (List Value)) → spec.by ≡ [] → is
 group_there spec rows none = ap (λ by. is_some (cond {A = Option Pair} (list_any (same_key []) (keys_of by rows)) (Some ([], tallies spec.aggs (of_key spec.by rows []))) None)) none
 
 -- so each row is taken then
-has_all : (spec : Spec) (budget : ℕ) (done : List (List Value)) (m : List Pair) → spec.by ≡ [] → Resident spec budget done m → (row : List Value) → has_entry m (key_of spec.by row) ≡ true
+has_all : (spec : Spec) (budget : ℕ) (done : List (List Value)) (m : List Pair) → spec.by ≡ [] → Resident (kept_spec spec) budget done m → (row : List Value) → has_entry m (key_of spec.by row) ≡ true
 has_all spec budget done m none resident row =
-    ap (λ by. has_entry m (key_of by row)) none ∙ ap is_some (resident.grouped []) ∙ group_there spec (taken spec m done) none
+    ap (λ by. has_entry m (key_of by row)) none ∙ ap is_some (resident.grouped []) ∙ group_there (kept_spec spec) (taken spec m done) none
 
-none_left : (spec : Spec) (budget : ℕ) (done : List (List Value)) (m : List Pair) → spec.by ≡ [] → Resident spec budget done m → left_over spec m done ≡ []
+none_left : (spec : Spec) (budget : ℕ) (done : List (List Value)) (m : List Pair) → spec.by ≡ [] → Resident (kept_spec spec) budget done m → left_over spec m done ≡ []
 none_left spec budget done m none resident = filter_none (λ row. has_entry m (key_of spec.by row)) done (has_all spec budget done m none resident)
 
 -- the groups of the rows are those of the rows that were taken, and those of the keys that are left
-pub resident-parted : (spec : Spec) (budget : ℕ) (done : List (List Value)) (m : List Pair) → Resident spec budget done m
+pub resident-parted : (spec : Spec) (budget : ℕ) (done : List (List Value)) (m : List Pair) → Resident (kept_spec spec) budget done m
     → IsPermutation (groups spec done) (groups spec (taken spec m done) ++ row_groups spec (left_over spec m done))
 resident-parted spec budget done m resident = at spec.by refl
   where
@@ -136,14 +137,14 @@ resident-parted spec budget done m resident = at spec.by refl
         (groups_parted spec (has_entry m) done))
 
 -- a sum that is out of range among the rows that were taken is so among all
-pub range-taken : (spec : Spec) (budget : ℕ) (done : List (List Value)) (m : List Pair) → Resident spec budget done m → out_of_range spec (taken spec m done) ≡ true → out_of_range spec done ≡ true
+pub range-taken : (spec : Spec) (budget : ℕ) (done : List (List Value)) (m : List Pair) → Resident (kept_spec spec) budget done m → out_of_range spec (taken spec m done) ≡ true → out_of_range spec done ≡ true
 range-taken spec budget done m resident far =
     list_any-IsPermutation (λ g. list_any is_none g.1) (groups spec done) _ (resident-parted spec budget done m resident)
     ∙ list_any-append (λ g. list_any is_none g.1) (groups spec (taken spec m done)) (row_groups spec (left_over spec m done))
     ∙ ap (λ b. b || list_any (λ g. list_any is_none g.1) (row_groups spec (left_over spec m done))) far
 
 -- where a row is left, another was taken
-left-fewer : (spec : Spec) (budget : ℕ) (done : List (List Value)) (m : List Pair) → 1 ≤ budget → Resident spec budget done m
+left-fewer : (spec : Spec) (budget : ℕ) (done : List (List Value)) (m : List Pair) → 1 ≤ budget → Resident (kept_spec spec) budget done m
     → len (listed m) ≡ length (keys_of spec.by (taken spec m done)) → 0 < length (left_over spec m done) → length (left_over spec m done) < length done
 left-fewer spec budget done m some resident counted more = at spec.by refl
   where
@@ -160,7 +161,7 @@ left-fewer spec budget done m some resident counted more = at spec.by refl
 
 pub parted : (spec : Spec) (budget : ℕ) (class : List Value → ℕ) (n : ℕ) (honest : Bool) (before : List (List Value) → Type 0) (s t : Runs) (m : List Pair) (slots : List Slot) (level : Level) (holds : List Group → Type 0) (rows : List (List Value))
     → ((k : List Value) → class k < n)
-    → (read : Reads spec budget class n honest before (λ left. left ≡ []) s level.rows_read level.rows_written level.runs level.columns m slots)
+    → (read : Reads (kept_spec spec) budget class n honest before (λ left. left ≡ []) s level.rows_read level.rows_written level.runs level.columns m slots)
     → IsTrue honest → before rows
     → Pushes spec (taken spec m read.done) holds
     → level.groups ≡ length (keys_of spec.by (taken spec m read.done))
@@ -198,7 +199,7 @@ parted spec budget class n honest before s t m slots level holds rows few read h
 
 pub numbers : (spec : Spec) (budget bound : ℕ) (class : List Value → ℕ) (n : ℕ) (honest : Bool) (before : List (List Value) → Type 0) (s : Runs) (m : List Pair) (slots : List Slot) (level : Level)
     → 1 ≤ budget → ((k : List Value) → class k < n)
-    → (read : Reads spec budget class n honest before (λ left. left ≡ []) s level.rows_read level.rows_written level.runs level.columns m slots)
+    → (read : Reads (kept_spec spec) budget class n honest before (λ left. left ≡ []) s level.rows_read level.rows_written level.runs level.columns m slots)
     → level.groups ≡ length (keys_of spec.by (taken spec m read.done)) → level.groups ≡ len (listed m) → level.rows_read ≤ bound → level.runs ≤ level.rows_written
     → Numbers budget bound slots level
 numbers spec budget bound class n honest before s m slots level some few read count kept within runs =

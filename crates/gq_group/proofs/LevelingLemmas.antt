@@ -7,6 +7,7 @@ use Rattle.gq_spill.specs.Runs.{Runs}
 use Rattle.gq_group.specs.Access.{RunSet, Apart, either, LeavesOthers, KeepsOwn, HasCause, GroupCause}
 use Rattle.gq_group.specs.Entries.{Pair, Grouped, listed}
 use Rattle.gq_group.specs.Groups.{Spec, Group, Pushes, keys_of, out_of_range}
+use Rattle.gq_group.specs.KeptAggs.{kept_spec}
 use Rattle.gq_group.specs.Leveling.{LevelRead}
 use Rattle.gq_group.specs.Levels.{classes_at}
 use Rattle.gq_group.specs.Readings.{Reads}
@@ -84,13 +85,13 @@ module _ (spec : Spec) (budget bound : ℕ) (gives : List (List Value) → Type 
       cause = cause;
     })
 
-    module _ (class : List Value → ℕ) (many count written began columns : ℕ) (m pairs : List Pair) (reads : Reads spec many class (classes_at level) r.honest gives (λ left. left ≡ []) s count written began columns m slots)
+    module _ (class : List Value → ℕ) (many count written began columns : ℕ) (m pairs : List Pair) (reads : Reads (kept_spec spec) many class (classes_at level) r.honest gives (λ left. left ≡ []) s count written began columns m slots)
         (as_many : many ≡ budget) (same : pairs ≡ m) (source_live : (run : ℕ) → IsTrue (a' run) → IsTrue (s.live run)) where
-      read : Reads spec budget class (classes_at level) r.honest gives (λ left. left ≡ []) s count written began columns m slots
-      read = subst (λ n. Reads spec n class (classes_at level) r.honest gives (λ left. left ≡ []) s count written began columns m slots) as_many reads
+      read : Reads (kept_spec spec) budget class (classes_at level) r.honest gives (λ left. left ≡ []) s count written began columns m slots
+      read = subst (λ n. Reads (kept_spec spec) n class (classes_at level) r.honest gives (λ left. left ≡ []) s count written began columns m slots) as_many reads
 
-      grouped : Grouped spec (taken spec m read.done) pairs
-      grouped = subst (λ l. Grouped spec (taken spec m read.done) l) (sym same) read.resident.grouped
+      grouped : Grouped (kept_spec spec) (taken spec m read.done) pairs
+      grouped = subst (λ l. Grouped (kept_spec spec) (taken spec m read.done) l) (sym same) read.resident.grouped
 
       all_done : IsTrue r.honest → (rows : List (List Value)) → gives rows → rows ≡ read.done
       all_done h rows b = let got = read.rest h rows b in got.1 ∙ ap (λ l. read.done ++ l) got.2 ∙ append-nil read.done
@@ -99,24 +100,24 @@ module _ (spec : Spec) (budget bound : ℕ) (gives : List (List Value) → Type 
       done groups = record { rows_read = count; rows_written = written; groups = groups; runs = began; columns = columns }
 
       -- the sink refused a group
-      pub level-full : {U : Type 0} (q : Result Level Refusal) (e : Refusal) → IsErrAnd q (λ y. y ≡ e) → (IsErrOf {T = U} (Err e) SumRange → (spec : Spec) (rows : List (List Value)) → Grouped spec rows pairs → out_of_range spec rows ≡ true)
+      pub level-full : {U : Type 0} (q : Result Level Refusal) (e : Refusal) → IsErrAnd q (λ y. y ≡ e) → (IsErrOf {T = U} (Err e) SumRange → (rows : List (List Value)) → Grouped (kept_spec spec) rows pairs → out_of_range spec rows ≡ true)
           → GroupCause e s t → LevelRead spec budget bound gives held holds a a' k k' source_ready sink_ready source_makes sink_makes r t slots q
       level-full {U = U} q e is overflow cause = refused q e is (still source_live)
-          (λ of h rows b. ap (out_of_range spec) (all_done h rows b) ∙ range-taken spec budget read.done m read.resident (overflow (ap (λ (x : Refusal). Err x) of) spec (taken spec m read.done) grouped))
+          (λ of h rows b. ap (out_of_range spec) (all_done h rows b) ∙ range-taken spec budget read.done m read.resident (overflow (ap (λ (x : Refusal). Err x) of) (taken spec m read.done) grouped))
           (group_cause-later e a (either a' (among slots)) r s t step cause)
 
       -- all was read and pushed
       pub level-done : (groups : ℕ) (mid : List Group → Type 0) → ((k : List Value) → class k < classes_at level) → 1 ≤ budget
           → count ≤ bound → began ≤ written → (KeepsOwn k r s → IsTrue r.honest → (before : List Group) → held before → mid before)
-          → ((spec : Spec) (rows : List (List Value)) → Grouped spec rows pairs → Pushes spec rows (λ out. IsTrue s.honest → (before : List Group) → mid before → holds (before ++ out)))
-          → ((spec : Spec) (rows : List (List Value)) → Grouped spec rows pairs → groups ≡ length (keys_of spec.by rows)) → groups ≡ len (listed pairs) → (KeepsOwn a' s t → source_ready) → sink_ready
+          → ((rows : List (List Value)) → Grouped (kept_spec spec) rows pairs → Pushes spec rows (λ out. IsTrue s.honest → (before : List Group) → mid before → holds (before ++ out)))
+          → ((rows : List (List Value)) → Grouped (kept_spec spec) rows pairs → groups ≡ length (keys_of spec.by rows)) → groups ≡ len (listed pairs) → (KeepsOwn a' s t → source_ready) → sink_ready
           → (source_makes ≡ false → s.made ≡ r.made + began) → (sink_makes ≡ false → t.made ≡ s.made)
           → LevelRead spec budget bound gives held holds a a' k k' source_ready sink_ready source_makes sink_makes r t slots (Ok (done groups))
       level-done groups mid lesser some within fewer keeps pushes keyed entries stays sink_ready made_reading made_pushing =
-          let p = pushes spec (taken spec m read.done) grouped in
+          let p = pushes (taken spec m read.done) grouped in
           let kept : KeepsOwn k r s = keeps-apart a (either a' (among slots)) k r s step apart live in
           let slots_kept : KeepsOwn (among slots) s t = keeps-apart k k' (among slots) s t then (apart-flip (among slots) k slots_apart) ours.live in
-          let count = keyed spec (taken spec m read.done) grouped in
+          let count = keyed (taken spec m read.done) grouped in
           let listed_count : groups ≡ len (listed m) = entries ∙ ap (λ (l : List Pair). len (listed l)) same in
           record {
             parted = λ h rows b.

@@ -5,6 +5,7 @@ pub mod ChunkLemmas
 pub mod Costs
 pub mod FirstLemmas
 pub mod GoneLemmas
+pub mod KeptAggLemmas
 pub mod KeptLemmas
 pub mod LevelLemmas
 pub mod LevelingLemmas

@@ -10,6 +10,7 @@ use Rattle.gq_row.specs.Tables.{of_key}
 use Rattle.gq_agg.specs.declared.kind.AggKind.{AggKind}
 use Rattle.gq_agg.specs.Running.{Running, tally}
 use Rattle.gq_group.specs.Groups.{Spec, Group, keys_of, column_of, group_of, answered}
+use Rattle.gq_group.specs.KeptAggs.{kept_spec}
 
 -- a key and its running aggregates
 abbrev pub Pair : Type 0
@@ -36,9 +37,9 @@ abbrev pub AreTallied : Spec → List (List Value) → List Pair → Type 0
 AreTallied spec rows pairs = AllByRecursion (λ (p : Pair). p.1 ≡ tallies spec.aggs (of_key spec.by rows p.0)) pairs
 
 -- Some entries are left, and the groups of the others went to a sink.
-pub record Sent (honest : Bool) (before now : List Group → Type 0) (all left : List Pair) : Type 0 where
+pub record Sent (spec : Spec) (honest : Bool) (before now : List Group → Type 0) (all left : List Pair) : Type 0 where
   pub gone : List Pair
   pub out : List Group
   pub whole : all ≡ gone ++ left
-  pub finished : (spec : Spec) (rows : List (List Value)) → AreTallied spec rows gone → map (group_of spec rows) (map (λ (p : Pair). p.0) gone) ≡ map answered out
+  pub finished : (rows : List (List Value)) → AreTallied (kept_spec spec) rows gone → map (group_of spec rows) (map (λ (p : Pair). p.0) gone) ≡ map answered out
   pub told : IsTrue honest → (groups : List Group) → before groups → now (groups ++ out)

@@ -3,6 +3,7 @@ pub mod Counting
 pub mod Distinct
 pub mod Entries
 pub mod Groups
+pub mod KeptAggs
 pub mod Leveling
 pub mod Levels
 pub mod Maps

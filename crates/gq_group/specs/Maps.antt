@@ -12,12 +12,18 @@ use Rattle.gq_agg.specs.declared.kind.AggKind.{AggKind}
 use Rattle.gq_agg.specs.Running.{Running}
 use Rattle.gq_group.specs.Entries.{Pair, tallies, listed}
 use Rattle.gq_group.specs.Groups.{answers, is_none}
+use Rattle.gq_group.specs.KeptAggs.{kept_aggs}
 
 -- what contracts see: each key with its running aggregates, the hasher, and how many aggregates a group has
 pub record MapView (H : Type 0) : Type 0 where
   pub pairs : List Pair
   pub hasher : H
   pub each : ℕ
+
+-- and of groups on their way out: those that are left, and what is asked of each
+pub record Leaving : Type 0 where
+  pub pairs : List Pair
+  pub asked : List (AggKind × ℕ)
 
 -- a key, and where its running aggregates begin
 abbrev pub Start : Type 0
@@ -65,14 +71,15 @@ IsNoGroup hash pairs c (At number) = Unit {0}
 IsNoGroup hash pairs c (Absent absence) = HasNoGroup hash pairs c absence
 
 -- the first of the groups that were left was taken: its key, and the values of its aggregates
-pub record Takes (key values : List Value) (old new : List Pair) : Type 0 where
+pub record Takes (key values : List Value) (old new : Leaving) : Type 0 where
   pub running : List Running
-  pub first : old ≡ (key, running) ∷ new
-  pub answered : (asked : List (AggKind × ℕ)) (rows : List (List Value)) → running ≡ tallies asked rows → answers asked rows ≡ map Some values
+  pub first : old.pairs ≡ (key, running) ∷ new.pairs
+  pub answered : (rows : List (List Value)) → running ≡ tallies (kept_aggs old.asked) rows → answers old.asked rows ≡ map Some values
+  pub same_asked : new.asked ≡ old.asked
 
 -- the first of the groups that were left has a sum that is out of range
-pub record Overflows (old : List Pair) : Type 0 where
+pub record Overflows (old : Leaving) : Type 0 where
   pub pair : Pair
   pub rest : List Pair
-  pub first : old ≡ pair ∷ rest
-  pub refused : (asked : List (AggKind × ℕ)) (rows : List (List Value)) → pair.1 ≡ tallies asked rows → list_any is_none (answers asked rows) ≡ true
+  pub first : old.pairs ≡ pair ∷ rest
+  pub refused : (rows : List (List Value)) → pair.1 ≡ tallies (kept_aggs old.asked) rows → list_any is_none (answers old.asked rows) ≡ true

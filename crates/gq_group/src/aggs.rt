@@ -1,15 +1,18 @@
 //! The running aggregates of a group.
-ghost use Rattle.std.specs.Prelude.{◌≡◌, ◌⊎◌, ◌<◌, ◌^◌, ◌++◌, ◌∷◌, [], ℕ, true, List, length, map, take, Some, IsTrue, IfErr, IsErrOf, OnOk, OnErr};
+ghost use Rattle.std.specs.Prelude.{◌≡◌, ◌⊎◌, ◌<◌, ◌≤◌, ◌+◌, ◌^◌, ◌++◌, ◌∷◌, [], ℕ, true, false, List, length, drop, map, take, Some, None, IsTrue, IfErr, IsErrOf, MatchResult, OnOk, OnErr};
 ghost use Rattle.std.specs.List.{list_all, list_any};
 ghost use Rattle.gq_row.specs.declared.value.Value.{Value as Cell};
 ghost use Rattle.gq_row.specs.Rows.{cell};
 ghost use Rattle.gq_agg.specs.declared.kind.AggKind.{AggKind as Kind};
+ghost use Rattle.gq_agg.specs.Aggregates.{aggregate};
 ghost use Rattle.gq_agg.specs.Running.{tally, kind_of};
 ghost use Rattle.gq_group.specs.Entries.{tallies};
-ghost use Rattle.gq_group.specs.Groups.{answers, fits_cell, is_none};
+ghost use Rattle.gq_group.specs.Groups.{answers, counts_all, fits_cell, is_none};
+ghost use Rattle.gq_group.specs.KeptAggs.{IsKnown, kept_aggs, told_by};
 
+use crate::group_spec::counts_all as is_count;
 use crate::refusal::Refusal;
-use gq_agg::{Agg, AggKind};
+use gq_agg::{Agg, AggKind, SumRange};
 use gq_row::{Row, Value};
 use std::alloc::{AllocError, Global};
 
@@ -50,26 +53,71 @@ pub(crate) fn append_aggs(
     Ok(())
 }
 
-// Takes the values of aggregates, from the first to the last. What is left of these is of no value.
+// Takes the values of what is asked, from the first to the last. What is left of the aggregates is of no value.
 #[inline]
-pub(crate) fn take_values(aggs: &mut [Agg], values: &mut Vec<Value>) -> Result<(), Refusal>
+pub(crate) fn take_values(
+    aggs: &mut [Agg],
+    asked: &[(AggKind, usize)],
+    values: &mut Vec<Value>,
+) -> Result<(), Refusal>
     requires none { values.old.items ≡ [] }
-    ensures ok { OnOk result ((asked : List (Kind × ℕ)) (rows : List (List Cell))
-        → aggs.old ≡ tallies asked rows → answers asked rows ≡ map Some values.new.items) }
-    ensures overflow { IsErrOf result Refusal.SumRange →
-        (asked : List (Kind × ℕ)) (rows : List (List Cell)) → aggs.old ≡ tallies asked rows →
-        list_any is_none (answers asked rows) ≡ true }
+    requires kept { length aggs.old ≡ length (kept_aggs asked.now) }
+    ensures ok { OnOk result ((rows : List (List Cell)) →
+        aggs.old ≡ tallies (kept_aggs asked.now) rows → answers asked.now rows ≡ map Some values.new.items) }
+    ensures overflow { IsErrOf result Refusal.SumRange → (rows : List (List Cell)) →
+        aggs.old ≡ tallies (kept_aggs asked.now) rows → list_any is_none (answers asked.now rows) ≡ true }
     ensures cause { IfErr result (λ e. (e ≡ Refusal.SumRange) ⊎ (e ≡ Refusal.Memory)) }
 {
-    'aggs: for i in 0..aggs.len() {
-        let Ok(value) = aggs[i].take() else {
+    let rows = rows_added(aggs);
+    let mut place = 0;
+    'asked: for i in 0..asked.len() {
+        let kind = asked[i].0;
+        let Ok(value) = take_value(aggs, place, kind, rows) else {
             return Err(Refusal::SumRange);
         };
         let Ok(()) = values.push(value) else {
             return Err(Refusal::Memory);
         };
+        place += told_by(kind);
     }
     Ok(())
+}
+
+// How many rows were added, nulls too, where an aggregate is kept that tells.
+#[inline]
+fn rows_added(aggs: &[Agg]) -> u64
+    ensures rows { (asked : List (Kind × ℕ)) (rows : List (List Cell)) → 0 < length asked →
+        aggs.now ≡ tallies asked rows → result ≡ length rows }
+    ensures few { result ≤ 2 ^ 32 }
+{
+    match aggs.first() {
+        Some(agg) => agg.adds(),
+        None => 0,
+    }
+}
+
+// Takes the value of an aggregate: of `count(*)` the number of rows, of another that of the one that is kept at a place.
+#[inline(always)]
+fn take_value(aggs: &mut [Agg], place: usize, kind: AggKind, rows: u64) -> Result<Value, SumRange>
+    requires within { counts_all kind ≡ false → place < length aggs.old }
+    requires few { rows ≤ 2 ^ 32 }
+    ensures value { (values : List Cell) → IsKnown (counts_all kind) kind values rows aggs.old place →
+        MatchResult result (λ v. aggregate kind values ≡ Some v) (λ _. aggregate kind values ≡ None) }
+    ensures behind { drop (place + told_by kind) aggs.new ≡ drop (place + told_by kind) aggs.old }
+    ensures long { length aggs.new ≡ length aggs.old }
+{
+    if is_count(kind) {
+        return Ok(Value::Int(rows as i64));
+    }
+    aggs[place].take()
+}
+
+// By how many of those that are kept it is told.
+#[inline(always)]
+fn told_by(kind: AggKind) -> usize
+    ensures { result ≡ told_by kind }
+{
+    if is_count(kind) { 0 } else { 1 }
 }
 
 // Adds a row's cells, each to its aggregate. They are no group's any more where memory is wanting.

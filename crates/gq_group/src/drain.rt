@@ -1,46 +1,56 @@
 //! Groups that leave one by one.
-ghost use Rattle.std.specs.Prelude.{◌≡◌, ◌⊎◌, [], IfOk, IfErr, IfSome, IfNone, IsErrOf};
+ghost use Rattle.std.specs.Prelude.{◌≡◌, ◌⊎◌, [], length, IfOk, IfErr, IfSome, IfNone, IsErrOf};
+ghost use Rattle.gq_group.specs.KeptAggs.{kept_aggs};
 ghost use Rattle.gq_group.specs.Maps.{pairs_from, AreKept, Takes, Overflows};
 
 use crate::aggs::take_values;
 use crate::refusal::Refusal;
-use gq_agg::Agg;
+use gq_agg::{Agg, AggKind};
 use gq_row::{Key, Value};
 use std::marker::Model;
 
-// Groups on their way out, seen as the list of those that are left.
+// Groups on their way out, seen as the list of those that are left, and what is asked of them.
 #[derive(Drop)]
-pub(crate) struct Drain {
+pub(crate) struct Drain<'a> {
     keys: std::vec::IntoIter<Key>,
     running: Vec<Agg>,
+    asked: &'a [(AggKind, usize)],
     each: usize,
     // Where the aggregates of the next begin.
     start: usize,
 }
 
-impl Model for Drain {
-    ghost use Rattle.std.specs.Prelude.{◌≡◌, ◌+◌, ◌*◌, List, length};
+impl<'a> Model for Drain<'a> {
+    ghost use Rattle.std.specs.Prelude.{◌≡◌, ◌+◌, ◌*◌, length};
     ghost use Rattle.std.specs.Vec.Iter.{into_iter_items};
-    ghost use Rattle.gq_group.specs.Entries.{Pair};
-    ghost use Rattle.gq_group.specs.Maps.{pairs_from};
+    ghost use Rattle.gq_group.specs.KeptAggs.{kept_aggs};
+    ghost use Rattle.gq_group.specs.Maps.{Leaving, pairs_from};
 
-    ghost Value = { List Pair };
+    ghost Value = { Leaving };
 
-    ghost view = { λ d. pairs_from d.each d.start d.running.items (into_iter_items d.keys) };
+    ghost view = { λ d. record { pairs = pairs_from d.each d.start d.running.items (into_iter_items d.keys); asked = d.asked.now } };
 
-    ghost invariant = { λ d. length d.running.items ≡ d.start +
-        length (into_iter_items d.keys) * d.each };
+    ghost invariant = { λ d. (d.each ≡ length (kept_aggs d.asked.now)) ×
+        (length d.running.items ≡ d.start + length (into_iter_items d.keys) * d.each) };
 }
 
-impl Drain {
+impl<'a> Drain<'a> {
     // Those of keys, whose aggregates stand in the same order.
-    pub(crate) fn new(keys: Vec<Key>, running: Vec<Agg>, each: usize) -> Drain
-        requires { AreKept each running.items keys.items }
-        ensures { result ≡ pairs_from each 0 running.items keys.items }
+    pub(crate) fn new(
+        keys: Vec<Key>,
+        running: Vec<Agg>,
+        each: usize,
+        asked: &'a [(AggKind, usize)],
+    ) -> Drain<'a>
+        requires kept { AreKept each running.items keys.items }
+        requires each { each ≡ length (kept_aggs asked.now) }
+        ensures pairs { result.pairs ≡ pairs_from each 0 running.items keys.items }
+        ensures asked { result.asked ≡ asked.now }
     {
         Drain {
             keys: keys.into_iter(),
             running,
+            asked,
             each,
             start: 0,
         }
@@ -51,7 +61,7 @@ impl Drain {
     pub(crate) fn next(&mut self, values: &mut Vec<Value>) -> Result<Option<Key>, Refusal>
         ensures taken { IfOk result (λ next.
             IfSome next (λ key. Takes key values.new.items self.old self.new)) }
-        ensures end { IfOk result (λ next. IfNone next (self.old ≡ [])) }
+        ensures end { IfOk result (λ next. IfNone next (self.old.pairs ≡ [])) }
         ensures overflow { IsErrOf result Refusal.SumRange → Overflows self.old }
         ensures cause { IfErr result (λ e. (e ≡ Refusal.SumRange) ⊎ (e ≡ Refusal.Memory)) }
     {
@@ -62,7 +72,7 @@ impl Drain {
         let end = start + self.each;
         self.start = end;
         values.clear();
-        take_values(&mut self.running[start..end], values)?;
+        take_values(&mut self.running[start..end], self.asked, values)?;
         Ok(Some(key))
     }
 }

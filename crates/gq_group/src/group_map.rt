@@ -8,12 +8,13 @@ ghost use Rattle.gq_row.specs.Classes.{class_of};
 ghost use Rattle.gq_row.specs.Rows.{key_of};
 ghost use Rattle.gq_group.specs.Entries.{Grouped, listed, tallies};
 ghost use Rattle.gq_group.specs.Groups.{fits_spec};
+ghost use Rattle.gq_group.specs.KeptAggs.{kept_aggs};
 ghost use Rattle.gq_group.specs.Maps.{IsGroup, IsNoGroup, HasNoGroup};
 
 use crate::aggs::{add_cells, append_aggs, start_aggs};
 use crate::drain::Drain;
 use crate::group_spec::GroupSpec;
-use gq_agg::Agg;
+use gq_agg::{Agg, AggKind};
 use gq_row::{Key, KeyRef, Row};
 use std::alloc::{AllocError, Global};
 use std::marker::Model;
@@ -179,15 +180,17 @@ impl<H: KeyHash<Key> + Copy> GroupMap<H> {
         Ok(())
     }
 
-    // The groups, to leave one by one.
-    pub(crate) fn drain(self) -> Drain
-        ensures { ListsAll class_of result (listed self.pairs) }
+    // The groups, to leave one by one with what is asked of each.
+    pub(crate) fn drain<'a>(self, asked: &'a [(AggKind, usize)]) -> Drain<'a>
+        requires { self.each ≡ length (kept_aggs asked.now) }
+        ensures groups { ListsAll class_of result.pairs (listed self.pairs) }
+        ensures asked { result.asked ≡ asked.now }
     {
         let GroupMap {
             index,
             running,
             each,
         } = self;
-        Drain::new(index.into_keys(), running, each)
+        Drain::new(index.into_keys(), running, each, asked)
     }
 }

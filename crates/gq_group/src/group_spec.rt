@@ -1,7 +1,8 @@
 //! What is asked of the groups of rows.
 ghost use Rattle.std.specs.Prelude.{◌≡◌, ◌≤◌, IfOk, length, take};
 ghost use Rattle.std.specs.List.{list_all};
-ghost use Rattle.gq_group.specs.Groups.{fits_cell as cell_fits, has_columns as columns_there};
+ghost use Rattle.gq_group.specs.Groups.{counts_all as is_count, fits_cell as cell_fits, has_columns as columns_there};
+ghost use Rattle.gq_group.specs.KeptAggs.{others};
 
 use gq_agg::AggKind;
 use gq_row::Row;
@@ -26,6 +27,7 @@ impl Model for GroupSpec {
 
 impl GroupSpec {
     ghost use Rattle.gq_group.specs.Groups.{fits_spec};
+    ghost use Rattle.gq_group.specs.KeptAggs.{kept_spec};
 
     pub fn new(by: Vec<usize>, aggs: Vec<(AggKind, usize)>) -> GroupSpec
         ensures by { result.by ≡ by.items }
@@ -61,12 +63,46 @@ impl GroupSpec {
         Ok(GroupSpec { by, aggs })
     }
 
+    // The same grouping of the aggregates that are kept for each group: all but `count(*)`, which each of them tells
+    // by how many values it was given, nulls too. Where nothing else is asked, one `count(*)` is kept.
+    pub(crate) fn kept(&self, alloc: Global) -> Result<GroupSpec, AllocError>
+        ensures { IfOk result (λ spec. spec ≡ kept_spec self.now) }
+    {
+        let by = Vec::from_slice(alloc, self.by())?;
+        let mut aggs = others(alloc, self.aggs())?;
+        if aggs.is_empty() {
+            aggs.extend_from_slice(&self.aggs()[..self.aggs().len().min(1)])?;
+        }
+        Ok(GroupSpec { by, aggs })
+    }
+
     /// Whether a row can be grouped: the columns that are named are there, with no text in a sum.
     pub fn fits(&self, row: &Row) -> bool
         ensures { result ≡ fits_spec self.now row.now }
     {
         has_columns(self.by(), row) && fit_cells(self.aggs(), row)
     }
+}
+
+// The aggregates that are no `count(*)`.
+fn others(alloc: Global, asked: &[(AggKind, usize)]) -> Result<Vec<(AggKind, usize)>, AllocError>
+    ensures { IfOk result (λ aggs. aggs.items ≡ others asked.now) }
+{
+    let mut aggs = Vec::with_capacity(alloc, asked.len())?;
+    for agg in asked {
+        if !counts_all(agg.0) {
+            aggs.push(*agg)?;
+        }
+    }
+    Ok(aggs)
+}
+
+// Whether it is `count(*)`.
+#[inline]
+pub(crate) fn counts_all(kind: AggKind) -> bool
+    ensures { result ≡ is_count kind }
+{
+    matches!(kind, AggKind::CountAll)
 }
 
 pub(crate) fn has_columns(columns: &[usize], row: &Row) -> bool
@@ -84,5 +120,5 @@ fn fit_cells(aggs: &[(AggKind, usize)], row: &Row) -> bool
 fn fits_cell(kind: AggKind, column: usize, row: &Row) -> bool
     ensures { result ≡ cell_fits row.now (kind, column) }
 {
-    matches!(kind, AggKind::CountAll) || (column < row.len() && kind.takes(row.cell(column)))
+    counts_all(kind) || (column < row.len() && kind.takes(row.cell(column)))
 }

@@ -5,7 +5,8 @@ ghost use Rattle.gq_row.specs.declared.value.Value.{Value as Cell};
 ghost use Rattle.gq_row.specs.Classes.{class_of};
 ghost use Rattle.gq_group.specs.Access.{Apart, either, LeavesOthers, HasCause, GroupCause};
 ghost use Rattle.gq_group.specs.Entries.{Grouped, listed};
-ghost use Rattle.gq_group.specs.Groups.{Spec, Group, keys_of, Pushes, all_fit, out_of_range, OneWidth};
+ghost use Rattle.gq_group.specs.KeptAggs.{kept_spec};
+ghost use Rattle.gq_group.specs.Groups.{Group, keys_of, Pushes, all_fit, out_of_range, OneWidth};
 ghost use Rattle.gq_group.specs.Work.{Spills};
 
 use crate::budget::Budget;
@@ -37,23 +38,24 @@ pub struct Spent {
 // Sends all groups to the sink, each as it leaves the map.
 pub(crate) fn push_all<H: KeyHash<Key> + Copy, S: RunStore, K: GroupSink<S>>(
     alloc: Global,
+    spec: &GroupSpec,
     all: GroupMap<H>,
     sink: &mut K,
     store: &mut S,
 ) -> Result<u64, Refusal>
     requires sink { K.is_ready sink.old (S.runs store.old) }
-    ensures sent { OnOk result ((spec : Spec) (rows : List (List Cell)) → Grouped spec rows all.pairs →
-        Pushes spec rows (λ out. IsTrue (S.runs store.old).honest → (before : List Group) →
+    requires each { all.each ≡ length (kept_spec spec.now).aggs }
+    ensures sent { OnOk result ((rows : List (List Cell)) →
+        Grouped (kept_spec spec.now) rows all.pairs → Pushes spec.now rows (λ out. IsTrue (S.runs store.old).honest → (before : List Group) →
         K.holds sink.old (S.runs store.old) before →
         K.holds sink.new (S.runs store.new) (before ++ out))) }
-    ensures count { IfOk result (λ n. (spec : Spec) (rows : List (List Cell)) →
-        Grouped spec rows all.pairs → n ≡ length (keys_of spec.by rows)) }
+    ensures count { IfOk result (λ n. (rows : List (List Cell)) →
+        Grouped (kept_spec spec.now) rows all.pairs → n ≡ length (keys_of spec.now.by rows)) }
     ensures entries { IfOk result (λ n. n ≡ len (listed all.pairs)) }
-    ensures no_overflow { OnOk result ((spec : Spec) (rows : List (List Cell)) →
-        Grouped spec rows all.pairs → out_of_range spec rows ≡ false) }
-    ensures overflow { IsErrOf result Refusal.SumRange →
-        (spec : Spec) (rows : List (List Cell)) → Grouped spec rows all.pairs →
-        out_of_range spec rows ≡ true }
+    ensures no_overflow { OnOk result ((rows : List (List Cell)) →
+        Grouped (kept_spec spec.now) rows all.pairs → out_of_range spec.now rows ≡ false) }
+    ensures overflow { IsErrOf result Refusal.SumRange → (rows : List (List Cell)) →
+        Grouped (kept_spec spec.now) rows all.pairs → out_of_range spec.now rows ≡ true }
     ensures sink { OnOk result (K.is_ready sink.new (S.runs store.new)) }
     ensures others { LeavesOthers (K.owns sink.old) (K.owns sink.new) (S.runs store.old)
         (S.runs store.new) }
@@ -62,7 +64,7 @@ pub(crate) fn push_all<H: KeyHash<Key> + Copy, S: RunStore, K: GroupSink<S>>(
 {
     let groups = all.len();
     sink.make_room(groups);
-    let mut left = all.drain();
+    let mut left = all.drain(spec.aggs());
     let mut values = Vec::new(alloc);
     'groups: while let Some(key) = left.next(&mut values)? {
         sink.push(store, key, &mut values)?;

@@ -143,11 +143,12 @@ fn read_rows<H: KeyHash<Key> + Copy, S: RunStore, R: RowSource<S>>(
     requires start { Resident spec.now table.old.budget.entries [] table.old.groups.pairs }
     requires places { length slots.old.items ≡ classes_at level }
     requires empty { AreEmpty slots.old.items }
-    ensures { RowsRead spec.now table.old.budget.entries (class_by (H.hash_of
+    ensures read { RowsRead spec.now table.old.budget.entries (class_by (H.hash_of
         table.old.groups.hasher) level) (classes_at level) (R.bound source.old) (R.gives source.old
         (S.runs store.old)) (R.owns source.old) (R.owns source.new) (R.is_ready source.new (S.runs
         store.new)) R.makes_runs (S.runs store.old) (S.runs store.new) table.new.groups.pairs
         slots.new.items result }
+    ensures each { table.new.groups.each ≡ table.old.groups.each }
 {
     let mut rows_read: u64 = 0;
     let mut rows_written: u64 = 0;
@@ -226,12 +227,15 @@ pub(crate) fn one_level<H: KeyHash<Key> + Copy, S: RunStore, R: RowSource<S>, K:
         source.new (S.runs store.new)) (K.is_ready sink.new (S.runs store.new)) R.makes_runs
         K.makes_runs (S.runs store.old) (S.runs store.new) slots.new.items result }
 {
-    let hint = source.rows_hint();
-    let Ok(mut table) = start_level(alloc, hasher, spec, level, budget, hint, slots) else {
+    let Ok(kept) = spec.kept(alloc) else {
         return Err(Refusal::Memory);
     };
-    let taken = read_rows(alloc, spec, level, source, store, &mut table, slots)?;
-    let groups = push_all(alloc, table.into_groups(), sink, store)?;
+    let hint = source.rows_hint();
+    let Ok(mut table) = start_level(alloc, hasher, &kept, level, budget, hint, slots) else {
+        return Err(Refusal::Memory);
+    };
+    let taken = read_rows(alloc, &kept, level, source, store, &mut table, slots)?;
+    let groups = push_all(alloc, spec, table.into_groups(), sink, store)?;
     Ok(Level {
         rows_read: taken.rows_read,
         rows_written: taken.rows_written,

@@ -1,34 +1,43 @@
-use Rattle.std.proofs.Common.{◌≡◌, slice_set, slice_index_or, ◌+◌, ◌++◌, ◌∷◌, [], ℕ, suc, take, drop, map, Some, sym, ap, ◌∙◌, arith}
-use Rattle.std.proofs.lemmas.List.{length-set, map-append}
-use Rattle.gq_group.specs.Groups.{answers, column_of, is_none}
-use Rattle.gq_group.proofs.AggLemmas.{behind_set, first_at, next_of}
+use Rattle.std.proofs.Common.{◌≡◌, ◌+◌, ◌++◌, ◌∷◌, [], map, Some, sym, ap, ◌∙◌, drop}
+use Rattle.std.proofs.lemmas.List.{drop-drop, map-append}
+use Rattle.gq_agg.specs.declared.kind.AggKind.TheVariants.{CountAll}
+use Rattle.gq_group.specs.Groups.{column_of}
+use Rattle.gq_group.specs.KeptAggs.{kept_aggs, told_by}
+use Rattle.gq_group.proofs.KeptAggLemmas.{next, next_left, next_known, next_answer, next_refused, some_kept}
 use Rattle.gq_group.proofs.aggs.take_values.Goals as goal
 
 pub returns-in_default-clause-overflow : goal.returns-in_default-clause-overflow
-returns-in_default-clause-overflow c = λ e asked rows is.
-    let i : ℕ = c.aggs.i in
-    let aggs = c.aggs.aggs in
-    let agg = slice_index_or aggs i c.index-aggs-i.result in
-    let front = first_at aggs i c.index-aggs-i.result (omega arith) in
-    let it = next_of asked rows i agg (drop (suc i) aggs) (ap (drop i) (sym is) ∙ sym c.aggs.invariant.rest ∙ front) in
-    it.refused (ap is_none (c.in_default.ensures it.asked_for.0 (column_of it.asked_for.1 rows) it.tallied))
+returns-in_default-clause-overflow c = λ e rows is.
+    let asked = c.args.asked.now in
+    let i = c.asked.i in
+    let a = next asked i c.asked.place (CountAll, 0) c.asked-test.true c.asked.invariant.left in
+    let count = c.rows_added-rows.ensures.rows (kept_aggs asked) rows (some_kept asked i c.asked-test.true) is in
+    let known = next_known asked i c.asked.place (CountAll, 0) c.asked-test.true c.asked.invariant.left rows c.rows_added-rows.result c.args.aggs.now c.asked.aggs count is c.asked.invariant.rest in
+    next_refused asked i c.asked.place (CountAll, 0) c.asked-test.true c.asked.invariant.left rows (c.in_default.ensures.value (column_of a.1 rows) known)
 
-pub aggs-preserved : goal.aggs-preserved
-aggs-preserved c =
-    let i : ℕ = c.aggs.i in
-    let aggs = c.aggs.aggs in
-    let more : i + 1 ≡ suc i = omega arith in
+pub asked-preserved : goal.asked-preserved
+asked-preserved c =
+    let asked = c.args.asked.now in
+    let i = c.asked.i in
+    let place = c.asked.place in
+    let a = next asked i place (CountAll, 0) c.asked-test.true c.asked.invariant.left in
+    let step : c.told_by-place.result ≡ told_by a.0 = c.told_by-place.ensures in
     record {
-      long = length-set aggs i c.take.new.self ∙ c.aggs.invariant.long;
-      rest = ap (λ n. drop n (slice_set aggs i c.take.new.self)) more ∙ behind_set aggs c.args.aggs.now i c.take.new.self c.aggs.invariant.rest ∙ ap (λ n. drop n c.args.aggs.now) (sym more);
-      made = λ asked rows is.
-          let agg = slice_index_or aggs i c.index-aggs-i.result in
-          let front = first_at aggs i c.index-aggs-i.result (omega arith) in
-          let it = next_of asked rows i agg (drop (suc i) aggs) (ap (drop i) (sym is) ∙ sym c.aggs.invariant.rest ∙ front) in
-          let answer = c.in-Ok.ensures it.asked_for.0 (column_of it.asked_for.1 rows) it.tallied in
+      long = c.in-Ok.ensures.long ∙ c.asked.invariant.long;
+      rest =
+          ap (λ n. drop (place + n) c.take_value.new.aggs) step
+          ∙ c.in-Ok.ensures.behind
+          ∙ sym (drop-drop (told_by a.0) place c.asked.aggs)
+          ∙ ap (drop (told_by a.0)) c.asked.invariant.rest
+          ∙ drop-drop (told_by a.0) place c.args.aggs.now
+          ∙ ap (λ n. drop (place + n) c.args.aggs.now) (sym step);
+      left = ap (λ n. drop (place + n) (kept_aggs asked)) step ∙ next_left asked i place (CountAll, 0) c.asked-test.true c.asked.invariant.left;
+      made = λ rows is.
+          let count = c.rows_added-rows.ensures.rows (kept_aggs asked) rows (some_kept asked i c.asked-test.true) is in
+          let known = next_known asked i place (CountAll, 0) c.asked-test.true c.asked.invariant.left rows c.rows_added-rows.result c.args.aggs.now c.asked.aggs count is c.asked.invariant.rest in
+          let answer = c.in-Ok.ensures.value (column_of a.1 rows) known in
           ap (map Some) c.in-Ok-push.ensures.items
-          ∙ map-append Some c.aggs.values.items (c.in-Ok.value ∷ [])
-          ∙ (λ k. c.aggs.invariant.made asked rows is k ++ sym answer k ∷ [])
-          ∙ sym it.answer
-          ∙ ap (λ n. take n (answers asked rows)) (sym more);
+          ∙ map-append Some c.asked.values.items (c.in-Ok.value ∷ [])
+          ∙ (λ k. c.asked.invariant.made rows is k ++ sym answer k ∷ [])
+          ∙ sym (next_answer asked i place (CountAll, 0) c.asked-test.true c.asked.invariant.left rows);
     }

@@ -1,8 +1,12 @@
-use Rattle.std.proofs.Common.{◌∙◌, refl, sym, subst, rules}
+use Rattle.std.proofs.Common.{◌≡◌, ◌∙◌, List, Some, map, refl, sym, subst, rules, true}
+use Rattle.std.specs.List.{list_any}
+use Rattle.gq_row.specs.declared.value.Value.{Value}
 use Rattle.gq_group.proofs.Results.{on_ok_err}
 use Rattle.std.proofs.lemmas.Result.{IfOk-from_err}
 use Rattle.gq_group.specs.Access.{LeavesOthers}
-use Rattle.gq_group.specs.Entries.{Sent}
+use Rattle.gq_group.specs.Entries.{Sent, tallies}
+use Rattle.gq_group.specs.Groups.{answers, is_none}
+use Rattle.gq_group.specs.KeptAggs.{kept_aggs}
 use Rattle.gq_group.proofs.AccessLemmas.{leaves-trans, leaves-refl}
 use Rattle.gq_group.proofs.Sending.{sent-none, sent-step, sent-groups, sent-fine, count_groups, refused_one}
 use Rattle.gq_group.proofs.grouping.push_all.Goals as goal
@@ -12,23 +16,26 @@ groups-init g c =
     let same = sym c.make_room.ensures in
     let sink = c.args.sink.now in
     let runs = g.S.RunStore.runs c.args.store.now in
-    let all = c.drain-left.result in
+    let all = c.drain-left.result.pairs in
+    let spec = c.args.spec.now in
     record {
       ready = subst (λ s. g.K.GroupSink.is_ready s runs) same c.requires.sink;
       sent = (
         all,
-        c.drain-left.ensures,
-        subst (λ s. Sent runs.honest (g.K.GroupSink.holds sink runs) (g.K.GroupSink.holds s runs) all all) same (sent-none runs.honest (g.K.GroupSink.holds sink runs) all),
+        c.drain-left.ensures.groups,
+        subst (λ s. Sent spec runs.honest (g.K.GroupSink.holds sink runs) (g.K.GroupSink.holds s runs) all all) same (sent-none spec runs.honest (g.K.GroupSink.holds sink runs) all),
       );
+      asked = c.drain-left.ensures.asked ∙ c.aggs.ensures;
       others = subst (λ s. LeavesOthers (g.K.GroupSink.owns sink) (g.K.GroupSink.owns s) runs runs) same (leaves-refl (g.K.GroupSink.owns sink) runs);
       made = λ none. refl;
     }
 
 pub returns-in_err-key-clause-overflow : goal.returns-in_err-key-clause-overflow
-returns-in_err-key-clause-overflow g c = λ e spec rows grouped.
+returns-in_err-key-clause-overflow g c = λ e rows grouped.
     let it = c.in_err-key.ensures.overflow (search rules) in
     let sent = c.groups.invariant.sent in
-    refused_one _ _ _ sent.0 c.groups.left it.rest it.pair c.args.all.pairs spec rows sent.2 it.first sent.1 grouped it.refused
+    refused_one c.args.spec.now _ _ _ sent.0 c.groups.left.pairs it.rest it.pair c.args.all.pairs rows sent.2 it.first sent.1 grouped
+    (subst (λ asked. (its : List (List Value)) → it.pair.1 ≡ tallies (kept_aggs asked) its → list_any is_none (answers asked its) ≡ true) c.groups.invariant.asked it.refused)
 
 pub groups-preserved : goal.groups-preserved
 groups-preserved g c =
@@ -39,28 +46,30 @@ groups-preserved g c =
       sent = (
         sent.0,
         sent.1,
-        sent-step _ _ _ _ sent.0 c.groups.left c.next.new.self (c.in-Some.key, takes.running) c.next.new.values.items sent.2 takes.first takes.answered
+        sent-step c.args.spec.now _ _ _ _ sent.0 c.groups.left.pairs c.next.new.self.pairs (c.in-Some.key, takes.running) c.next.new.values.items sent.2 takes.first
+            (subst (λ asked. (rows : List (List Value)) → takes.running ≡ tallies (kept_aggs asked) rows → answers asked rows ≡ map Some c.next.new.values.items) c.groups.invariant.asked takes.answered)
             (λ h. c.in_ok-push.ensures.groups (c.groups.invariant.others.same_honest ∙ h)),
       );
+      asked = takes.same_asked ∙ c.groups.invariant.asked;
       others = leaves-trans _ _ _ _ _ _ c.groups.invariant.others c.in_ok-push.ensures.others;
       made = λ none. c.in_ok-push.ensures.made none ∙ c.groups.invariant.made none;
     }
 
 pub returns-clause-sent : goal.returns-clause-sent
-returns-clause-sent g c = λ spec rows grouped.
+returns-clause-sent g c = λ rows grouped.
     let none = rw c.in_default.is at c.in_ok-key.ensures.end in
     let sent = c.groups.invariant.sent in
-    let it = sent-groups _ _ _ sent.0 c.args.all.pairs spec rows (rw none at sent.2) sent.1 grouped in
+    let it = sent-groups c.args.spec.now _ _ _ sent.0 c.args.all.pairs rows (rw none at sent.2) sent.1 grouped in
     (it.0, it.1, it.2)
 
 pub returns-clause-count : goal.returns-clause-count
-returns-clause-count g c = λ spec rows grouped. let sent = c.groups.invariant.sent in c.len-groups.ensures ∙ sym sent.1.once ∙ count_groups sent.0 c.args.all.pairs spec rows sent.1 grouped
+returns-clause-count g c = λ rows grouped. let sent = c.groups.invariant.sent in c.len-groups.ensures ∙ sym sent.1.once ∙ count_groups sent.0 c.args.all.pairs c.args.spec.now rows sent.1 grouped
 
 pub returns-clause-no_overflow : goal.returns-clause-no_overflow
-returns-clause-no_overflow g c = λ spec rows grouped.
+returns-clause-no_overflow g c = λ rows grouped.
     let none = rw c.in_default.is at c.in_ok-key.ensures.end in
     let sent = c.groups.invariant.sent in
-    sent-fine _ _ _ sent.0 c.args.all.pairs spec rows (rw none at sent.2) sent.1 grouped
+    sent-fine c.args.spec.now _ _ _ sent.0 c.args.all.pairs rows (rw none at sent.2) sent.1 grouped
 
 pub returns-in_err-key-clause-count : goal.returns-in_err-key-clause-count
 returns-in_err-key-clause-count g c = IfOk-from_err c.from_residual.result _ c.from_residual.ensures.0

@@ -11,10 +11,11 @@ invariant-groups g l =
     let runs = g.S.RunStore.runs in
     record {
       ready : g.K.GroupSink.is_ready l.sink (runs l.store);
-      sent : (all : List Pair) × ListsAll class_of all (listed l.fn.all.pairs) × Sent (runs l.fn.store).honest (g.K.GroupSink.holds l.fn.sink (runs l.fn.store)) (g.K.GroupSink.holds l.sink (runs l.store)) all l.left;
+      sent : (all : List Pair) × ListsAll class_of all (listed l.fn.all.pairs) × Sent l.spec (runs l.fn.store).honest (g.K.GroupSink.holds l.fn.sink (runs l.fn.store)) (g.K.GroupSink.holds l.sink (runs l.store)) all l.left.pairs;
+      asked : l.left.asked ≡ l.spec.aggs;
       others : LeavesOthers (g.K.GroupSink.owns l.fn.sink) (g.K.GroupSink.owns l.sink) (runs l.fn.store) (runs l.store);
       made : g.K.GroupSink.makes_runs ≡ false → (runs l.store).made ≡ (runs l.fn.store).made;
     }
 
 abbrev pub decreases-groups : goal.decreases-groups
-decreases-groups g l = length l.left
+decreases-groups g l = length l.left.pairs

@@ -1,49 +1,32 @@
-use Rattle.std.proofs.Common.{[], ap, subst, sym}
+use Rattle.std.proofs.Common.{ap, subst, sym}
 use Rattle.gq_group.specs.Access.{either}
+use Rattle.gq_group.specs.Groups.{Spec}
 use Rattle.gq_group.specs.Levels.{class_by}
 use Rattle.gq_group.specs.Maps.{MapView}
-use Rattle.gq_group.specs.Residents.{Resident}
+use Rattle.gq_group.specs.Readings.{AreRows}
 use Rattle.gq_group.specs.Slots.{among}
 use Rattle.gq_group.specs.declared.budget.Budget.{Budget}
 use Rattle.gq_group.proofs.AccessLemmas.{keeps-apart}
+use Rattle.gq_group.proofs.KeptAggLemmas.{rows_of_kept}
 use Rattle.gq_group.proofs.LevelLemmas.{class_less}
 use Rattle.gq_group.proofs.LevelingLemmas.{level-none, level-stopped, level-full, level-done}
 use Rattle.gq_group.proofs.level.one_level.Goals as goal
 
-pub start_level-requires : goal.start_level-requires
-start_level-requires g c = record { none = c.requires.none }
-
-pub read_rows-requires-clause-source : goal.read_rows-requires-clause-source
-read_rows-requires-clause-source g c = c.requires.source
-
-pub read_rows-requires-clause-few : goal.read_rows-requires-clause-few
-read_rows-requires-clause-few g c = c.requires.few
-
 pub read_rows-requires-clause-rows : goal.read_rows-requires-clause-rows
-read_rows-requires-clause-rows g c = c.requires.rows
+read_rows-requires-clause-rows g c = λ h.
+    let known = c.requires.rows h in
+    (known.0, known.1, subst (λ (s : Spec). AreRows s known.0) (sym c.in-Ok.ensures) (rows_of_kept c.args.spec.now known.0 known.2))
 
-pub read_rows-requires-clause-each : goal.read_rows-requires-clause-each
-read_rows-requires-clause-each g c = c.in-Ok.ensures.each
-
-pub read_rows-requires-clause-start : goal.read_rows-requires-clause-start
-read_rows-requires-clause-start g c = subst (λ (b : Budget). Resident c.args.spec.now b.entries [] c.in-Ok.table.groups.pairs) (sym c.in-Ok.ensures.budget) c.in-Ok.ensures.resident
-
-pub read_rows-requires-clause-places : goal.read_rows-requires-clause-places
-read_rows-requires-clause-places g c = c.in-Ok.ensures.places
-
-pub read_rows-requires-clause-empty : goal.read_rows-requires-clause-empty
-read_rows-requires-clause-empty g c = c.start_level.ensures.empty
-
-pub push_all-requires : goal.push_all-requires
-push_all-requires g c =
+pub push_all-requires-clause-sink : goal.push_all-requires-clause-sink
+push_all-requires-clause-sink g c =
     let r = g.S.RunStore.runs c.args.store.now in
     let s = g.S.RunStore.runs c.read_rows.new.store in
     let k = g.K.GroupSink.owns c.args.sink.now in
     let live = g.met.K.GroupSink.own_live c.args.sink.now r c.requires.sink in
-    record { sink = g.met.K.GroupSink.stays_ready c.args.sink.now r s (keeps-apart (g.R.RowSource.owns c.args.source.now) (either (g.R.RowSource.owns c.read_rows.new.source) (among c.read_rows.new.slots.items)) k r s c.in_ok-taken.ensures.others c.requires.apart live) c.requires.sink }
+    g.met.K.GroupSink.stays_ready c.args.sink.now r s (keeps-apart (g.R.RowSource.owns c.args.source.now) (either (g.R.RowSource.owns c.read_rows.new.source) (among c.read_rows.new.slots.items)) k r s c.in_ok-taken.ensures.read.others c.requires.apart live) c.requires.sink
 
-pub returns-in_default : goal.returns-in_default
-returns-in_default g c =
+pub returns-in_default-start_level : goal.returns-in_default-start_level
+returns-in_default-start_level g c =
     level-none c.args.spec.now c.args.budget.entries _ _ _ _ _ _ _ _ (g.R.RowSource.owns c.args.source.now) (g.K.GroupSink.owns c.args.sink.now) (g.S.RunStore.runs c.args.store.now) c.start_level.new.slots.items
     c.start_level.ensures.few c.start_level.ensures.empty c.requires.apart
 
@@ -51,7 +34,7 @@ pub returns-in_err-taken : goal.returns-in_err-taken
 returns-in_err-taken g c =
     let r = g.S.RunStore.runs c.args.store.now in
     let s = g.S.RunStore.runs c.read_rows.new.store in
-    let told = c.in_err-taken.ensures in
+    let told = c.in_err-taken.ensures.read in
     level-stopped c.args.spec.now c.args.budget.entries _ _ _ (g.K.GroupSink.holds c.args.sink.now s) (g.R.RowSource.is_ready c.read_rows.new.source s) (g.K.GroupSink.is_ready c.args.sink.now s) _ _
     (g.R.RowSource.owns c.args.source.now) (g.R.RowSource.owns c.read_rows.new.source) (g.K.GroupSink.owns c.args.sink.now) r s c.read_rows.new.slots.items c.args.level
     c.requires.apart (g.met.K.GroupSink.own_live c.args.sink.now r c.requires.sink) told.places told.ours told.apart told.others told.grows told.owned
@@ -62,14 +45,14 @@ returns-in_err-groups g c =
     let r = g.S.RunStore.runs c.args.store.now in
     let s = g.S.RunStore.runs c.read_rows.new.store in
     let t = g.S.RunStore.runs c.push_all.new.store in
-    let told = c.in_ok-taken.ensures in
+    let told = rw c.in-Ok.ensures at c.in_ok-taken.ensures.read in
     let n = c.in_ok-taken.taken in
     level-full c.args.spec.now c.args.budget.entries _ _ _ (g.K.GroupSink.holds c.push_all.new.sink t) (g.R.RowSource.is_ready c.read_rows.new.source t) (g.K.GroupSink.is_ready c.push_all.new.sink t) _ _
     (g.R.RowSource.owns c.args.source.now) (g.R.RowSource.owns c.read_rows.new.source) (g.K.GroupSink.owns c.args.sink.now) (g.K.GroupSink.owns c.push_all.new.sink)
     r s t c.read_rows.new.slots.items c.args.level
     c.requires.apart (g.met.K.GroupSink.own_live c.args.sink.now r c.requires.sink) told.places told.ours told.apart told.others told.grows told.owned c.in_err-groups.ensures.others
-    (class_by (g.H.KeyHash.hash_of c.in-Ok.table.groups.hasher) c.args.level) c.in-Ok.table.budget.entries n.rows_read n.rows_written n.runs n.columns c.read_rows.new.table.groups.pairs c.into_groups.result.pairs told.read
-    (ap (λ (b : Budget). b.entries) c.in-Ok.ensures.budget) (ap (λ (x : MapView _). x.pairs) c.into_groups.ensures) (g.met.R.RowSource.own_live c.read_rows.new.source s told.source)
+    (class_by (g.H.KeyHash.hash_of c.in-Ok-start_level.table.groups.hasher) c.args.level) c.in-Ok-start_level.table.budget.entries n.rows_read n.rows_written n.runs n.columns c.read_rows.new.table.groups.pairs c.into_groups.result.pairs told.read
+    (ap (λ (b : Budget). b.entries) c.in-Ok-start_level.ensures.budget) (ap (λ (x : MapView _). x.pairs) c.into_groups.ensures) (g.met.R.RowSource.own_live c.read_rows.new.source s told.source)
     c.from_residual-in_err-groups.result c.in_err-groups.field-0.0 c.from_residual-in_err-groups.ensures.1 c.in_err-groups.ensures.overflow c.in_err-groups.ensures.cause
 
 pub returns : goal.returns
@@ -77,16 +60,16 @@ returns g c =
     let r = g.S.RunStore.runs c.args.store.now in
     let s = g.S.RunStore.runs c.read_rows.new.store in
     let t = g.S.RunStore.runs c.push_all.new.store in
-    let told = c.in_ok-taken.ensures in
+    let told = rw c.in-Ok.ensures at c.in_ok-taken.ensures.read in
     let pushed = c.in_ok-groups.ensures in
     let n = c.in_ok-taken.taken in
-    let hash = g.H.KeyHash.hash_of c.in-Ok.table.groups.hasher in
+    let hash = g.H.KeyHash.hash_of c.in-Ok-start_level.table.groups.hasher in
     level-done c.args.spec.now c.args.budget.entries _ _ _ (g.K.GroupSink.holds c.push_all.new.sink t) (g.R.RowSource.is_ready c.read_rows.new.source t) (g.K.GroupSink.is_ready c.push_all.new.sink t) _ _
     (g.R.RowSource.owns c.args.source.now) (g.R.RowSource.owns c.read_rows.new.source) (g.K.GroupSink.owns c.args.sink.now) (g.K.GroupSink.owns c.push_all.new.sink)
     r s t c.read_rows.new.slots.items c.args.level
     c.requires.apart (g.met.K.GroupSink.own_live c.args.sink.now r c.requires.sink) told.places told.ours told.apart told.others told.grows told.owned pushed.others
-    (class_by hash c.args.level) c.in-Ok.table.budget.entries n.rows_read n.rows_written n.runs n.columns c.read_rows.new.table.groups.pairs c.into_groups.result.pairs told.read
-    (ap (λ (b : Budget). b.entries) c.in-Ok.ensures.budget) (ap (λ (x : MapView _). x.pairs) c.into_groups.ensures) (g.met.R.RowSource.own_live c.read_rows.new.source s told.source)
+    (class_by hash c.args.level) c.in-Ok-start_level.table.budget.entries n.rows_read n.rows_written n.runs n.columns c.read_rows.new.table.groups.pairs c.into_groups.result.pairs told.read
+    (ap (λ (b : Budget). b.entries) c.in-Ok-start_level.ensures.budget) (ap (λ (x : MapView _). x.pairs) c.into_groups.ensures) (g.met.R.RowSource.own_live c.read_rows.new.source s told.source)
     c.in_ok-groups.groups (g.K.GroupSink.holds c.args.sink.now s) (class_less hash c.args.level) c.args.budget.some told.bound told.less_runs
     (λ kept. g.met.K.GroupSink.keeps_groups c.args.sink.now r s kept c.requires.sink) pushed.sent pushed.count pushed.entries
     (λ kept. g.met.R.RowSource.stays_ready c.read_rows.new.source s t kept told.source) pushed.sink told.made pushed.made

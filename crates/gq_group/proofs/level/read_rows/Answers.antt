@@ -14,31 +14,31 @@ rows-init g c = record {
   hasher = refl;
 }
 
-pub returns-in_err-more : goal.returns-in_err-more
-returns-in_err-more g c =
+pub returns-in_err-more-clause-read : goal.returns-in_err-more-clause-read
+returns-in_err-more-clause-read g c =
     let s = g.S.RunStore.runs c.next.new.store in
     rows-stopped c.args.spec.now c.args.table.now.budget.entries _ _ _ _ (g.R.RowSource.owns c.args.source.now) _ (g.S.RunStore.runs c.args.store.now) (g.R.RowSource.owns c.rows.source) (g.R.RowSource.owns c.next.new.self) (g.R.RowSource.bound c.rows.source) _ _
     (g.S.RunStore.runs c.rows.store) s c.rows.rows_read c.rows.rows_written c.rows.runs c.rows.columns c.rows.table.groups.pairs c.rows.slots.items c.rows.invariant.done c.in_err-more.ensures.others c.in_err-more.ensures.owned
     _ c.from_residual.result c.in_err-more.field-0.0 c.from_residual.ensures.1 c.in_err-more.ensures.cause
 
-pub returns : goal.returns
-returns g c =
+pub returns-clause-read : goal.returns-clause-read
+returns-clause-read g c =
     let s = g.S.RunStore.runs c.next.new.store in
     let told = c.in_ok-more.ensures in
     rows-done c.args.spec.now c.args.table.now.budget.entries _ _ _ _ (g.R.RowSource.owns c.args.source.now) _ (g.S.RunStore.runs c.args.store.now) (g.R.RowSource.owns c.rows.source) (g.R.RowSource.owns c.next.new.self) (g.R.RowSource.bound c.rows.source) _ _
     (g.S.RunStore.runs c.rows.store) s c.rows.rows_read c.rows.rows_written c.rows.runs c.rows.columns c.rows.table.groups.pairs c.rows.slots.items c.rows.invariant.done told.others told.owned
     _ told.ready (λ h rows now. let over = rw c.if-not-more.true at (told.rows h) in (over rows now).0) told.made
 
-pub returns-then-not-fits : goal.returns-then-not-fits
-returns-then-not-fits g c =
+pub returns-then-not-fits-clause-read : goal.returns-then-not-fits-clause-read
+returns-then-not-fits-clause-read g c =
     let s = g.S.RunStore.runs c.next.new.store in
     let told = c.in_ok-more.ensures in
     rows-damaged c.args.spec.now c.args.table.now.budget.entries _ _ _ _ (g.R.RowSource.owns c.args.source.now) _ (g.S.RunStore.runs c.args.store.now) (g.R.RowSource.owns c.rows.source) (g.R.RowSource.owns c.next.new.self) (g.R.RowSource.bound c.rows.source) _ _
     (g.S.RunStore.runs c.rows.store) s c.rows.rows_read c.rows.rows_written c.rows.runs c.rows.columns c.rows.table.groups.pairs c.rows.slots.items c.rows.invariant.done told.others told.owned
     c.next.new.row (g.R.RowSource.gives c.next.new.self s) (rw c.if-not-more.false at told.rows) _ c.requires.rows (sym c.fits.ensures ∙ c.if-not-fits.true)
 
-pub returns-in_err-placed : goal.returns-in_err-placed
-returns-in_err-placed g c =
+pub returns-in_err-placed-clause-read : goal.returns-in_err-placed-clause-read
+returns-in_err-placed-clause-read g c =
     let s = g.S.RunStore.runs c.next.new.store in
     let t = g.S.RunStore.runs c.place_row.new.store in
     let source = c.next.new.self in
