@@ -361,6 +361,11 @@ listed_alone each running keys k alone long =
 
 -- ---- groups that leave
 
+-- where some are left there is a first
+pub some_first : {X : Type 0} (xs : List X) → 0 < length xs → (x : X) × (ys : List X) × (xs ≡ x ∷ ys)
+some_first [] some = absurd (omega arith)
+some_first (x ∷ xs) some = (x, xs, refl)
+
 module _ (each start : ℕ) (items : List Running) (old rest : List (List Value)) (key : List Value) where
   -- the first has its aggregates in the list
   pub first_within : old ≡ key ∷ rest → length items ≡ start + length old * each → start + each ≤ length items

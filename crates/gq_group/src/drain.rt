@@ -65,14 +65,18 @@ impl<'a> Drain<'a> {
         ensures overflow { IsErrOf result Refusal.SumRange → Overflows self.old }
         ensures cause { IfErr result (λ e. (e ≡ Refusal.SumRange) ⊎ (e ≡ Refusal.Memory)) }
     {
+        if self.keys.len() == 0 {
+            return Ok(None);
+        }
+        let start = self.start;
+        let end = start + self.each;
+        values.clear();
+        take_values(&mut self.running[start..end], self.asked, values)?;
+        // Its key comes last: kept while the values are taken, it would be moved once more.
+        self.start = end;
         let Some(key) = self.keys.next() else {
             return Ok(None);
         };
-        let start = self.start;
-        let end = start + self.each;
-        self.start = end;
-        values.clear();
-        take_values(&mut self.running[start..end], self.asked, values)?;
         Ok(Some(key))
     }
 }

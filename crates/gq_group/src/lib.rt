@@ -15,8 +15,9 @@
 //!
 //! A row is looked up by its key in place, hashed once; the key is copied where it is the first of
 //! its class. Keys stand in one list, in the order in which they came, and the running aggregates of
-//! all groups in another, as many a group as are asked for, so that a key's number says where its own
-//! begin: a group takes no memory of its own beyond its key.
+//! all groups in another, as many of each, so that a key's number says where its own begin: a group
+//! takes no memory of its own beyond its key. No `count(*)` is kept beside other aggregates, each of
+//! which knows how many rows it was given.
 //!
 //! [`group_distinct`] pushes, for each key, how many different values its rows have in a column,
 //! nulls left out. It goes through [`group`] twice: it groups the rows by the key and the value

@@ -263,6 +263,16 @@ const COUNT: &[(AggKind, usize)] = &[(AggKind::Count, 1)];
 
 const COUNT_AND_SUM: &[(AggKind, usize)] = &[(AggKind::CountAll, 0), (AggKind::Sum, 1)];
 
+const COUNTS: &[(AggKind, usize)] = &[(AggKind::CountAll, 0), (AggKind::CountAll, 99)];
+
+const COUNTS_BETWEEN: &[(AggKind, usize)] = &[
+    (AggKind::Sum, 1),
+    (AggKind::CountAll, 0),
+    (AggKind::Max, 0),
+    (AggKind::CountAll, 99),
+    (AggKind::Count, 1),
+];
+
 const ALL: &[(AggKind, usize)] = &[
     (AggKind::CountAll, 99),
     (AggKind::Count, 1),
@@ -271,7 +281,7 @@ const ALL: &[(AggKind, usize)] = &[
     (AggKind::Max, 0),
 ];
 
-const CASES: [Case; 11] = [
+const CASES: [Case; 14] = [
     (Rows::Worked, &[0], COUNT, "4 rows, 2 groups; 1:2; 2:1"),
     (
         Rows::Worked,
@@ -286,6 +296,19 @@ const CASES: [Case; 11] = [
         &[],
         "4 rows, 3 groups; 5,1:; 7,2:; null,1:",
     ),
+    (
+        Rows::Worked,
+        &[0],
+        COUNTS,
+        "4 rows, 2 groups; 1:3,3; 2:1,1",
+    ),
+    (
+        Rows::Worked,
+        &[0],
+        COUNTS_BETWEEN,
+        "4 rows, 2 groups; 1:10,3,1,3,2; 2:7,1,2,1,1",
+    ),
+    (Rows::None, &[], COUNTS, "0 rows, 1 groups; :0,0"),
     (Rows::None, &[], COUNT_AND_SUM, "0 rows, 1 groups; :0,null"),
     (Rows::None, &[0], COUNT_AND_SUM, "0 rows, 0 groups"),
     (

@@ -66,6 +66,7 @@ fn take_text(bytes: &[u8]) -> Option<(&str, &[u8])>
 }
 
 // Writes the value at the front over another, and gives what follows it.
+#[inline(always)]
 #[tactic(auto, unfolding(crate::specs::Records::value_bytes))]
 fn take_value<'a>(
     alloc: Global,
@@ -140,6 +141,37 @@ fn take_body(
     Ok(true)
 }
 
+// Writes the values of the row of this body over as many others where they stand, and tells whether there is a row of so many.
+#[inline]
+fn take_values(alloc: Global, bytes: &[u8], cells: &mut [Value]) -> Result<bool, AllocError>
+    ensures { IfOk result (λ is_body. is_body ≡ true →
+        (bytes.now ≡ body_of cells.new) × All IsCell cells.new) }
+{
+    let mut rest = bytes;
+    'cells: for i in 0..cells.len() {
+        let Some(behind) = take_value(alloc, rest, &mut cells[i])? else {
+            return Ok(false);
+        };
+        rest = behind;
+    }
+    Ok(rest.is_empty())
+}
+
+// Writes the row of this body over another of any length, and tells whether there is one.
+#[cold]
+fn take_row(alloc: Global, bytes: &[u8], columns: usize, row: &mut Row) -> Result<bool, AllocError>
+    ensures found { IfOk result (λ is_body. is_body ≡ true →
+        (bytes.now ≡ body_of row.new) × All IsCell row.new) }
+    ensures none { IfOk result (λ is_body. is_body ≡ false → (row : List Cell) →
+        All IsCell row → bytes.now ≡ body_of row → ⊥) }
+{
+    let mut cells = mem::replace(row, Row::new(Vec::new(alloc))).into_cells();
+    // Each value takes a byte at least.
+    let is_body = take_body(alloc, bytes, columns.min(bytes.len()), &mut cells)?;
+    *row = Row::new(cells);
+    Ok(is_body)
+}
+
 /// As [`decode_row`], for rows that mostly have so many columns, and over another row, whose values are dropped: where
 /// its memory is enough no more is taken. Where the bytes begin with no row's record, or memory is wanting, nothing is
 /// said of what the row is then.
@@ -158,15 +190,10 @@ pub fn decode_row_over(
     let Some((body, _)) = take_block(bytes) else {
         return Ok(None);
     };
-    let mut cells = mem::replace(row, Row::new(Vec::new(alloc))).into_cells();
-    // Each value takes a byte at least.
-    let is_body = take_body(alloc, body, columns.min(body.len()), &mut cells)?;
-    *row = Row::new(cells);
-    if is_body {
-        Ok(Some(4 + body.len()))
-    } else {
-        Ok(None)
+    if !take_values(alloc, body, row.cells_mut())? && !take_row(alloc, body, columns, row)? {
+        return Ok(None);
     }
+    Ok(Some(4 + body.len()))
 }
 
 /// The row whose record is at the front, and how many bytes the record takes; `None` where the bytes

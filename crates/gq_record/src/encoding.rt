@@ -8,17 +8,6 @@ use byteorder::{BigEndian, ByteOrder};
 use gq_row::{Row, Text, Value};
 use std::alloc::AllocError;
 
-// Puts a length at the end.
-fn put_length(len: usize, out: &mut Vec<u8>) -> Result<(), AllocError>
-    requires { len < 2 ^ 32 }
-    ensures ok { OnOk result (out.new.items ≡ out.old.items ++ to_be_bytes w32 len) }
-    ensures keeps { take (length out.old.items) out.new.items ≡ out.old.items }
-{
-    let mut field = [0; 4];
-    BigEndian::write_u32(&mut field, len as u32);
-    out.extend_from_slice(&field)
-}
-
 // Puts a number behind its tag at the end, all nine bytes at once.
 fn put_number(n: i64, out: &mut Vec<u8>) -> Result<(), AllocError>
     ensures ok { OnOk result (out.new.items ≡ out.old.items ++ INT ∷ number_bytes n) }
@@ -120,17 +109,19 @@ pub fn is_storable(row: &Row) -> bool
     body_len(row).is_some()
 }
 
-// Puts the record of a row at the end; where memory is wanting, perhaps a part of it.
+// Puts the record of a row at the end; where memory is wanting, perhaps a part of it. The length is written last, over
+// four bytes that wait for it, so that nothing goes over the row before it is written.
 fn put_record(row: &Row, out: &mut Vec<u8>) -> Result<(), AllocError>
     requires { IsStorable row.now }
     ensures ok { OnOk result (out.new.items ≡ out.old.items ++ record_of row.now) }
     ensures keeps { take (length out.old.items) out.new.items ≡ out.old.items }
 {
-    let Some(len) = body_len(row) else {
-        unreachable!()
-    };
-    put_length(len as usize, out)?;
-    put_body(row, out)
+    let start = out.len();
+    out.extend_from_slice(&[0; 4])?;
+    put_body(row, out)?;
+    let len = out.len() - start - 4;
+    BigEndian::write_u32(&mut out[start..start + 4], len as u32);
+    Ok(())
 }
 
 /// Puts the record of a row at the end of the bytes. Where memory is wanting they are as they were.

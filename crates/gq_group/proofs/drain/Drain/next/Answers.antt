@@ -1,4 +1,5 @@
-use Rattle.std.proofs.Common.{◌≡◌, ◌∙◌, ◌+◌, ◌-◌, Some, true, ap, sym, subst, length, map, take, drop, arith, rules}
+use Rattle.std.proofs.Common.{◌≡◌, ◌∙◌, ◌+◌, ◌-◌, ◌<◌, Some, true, ap, sym, subst, length, map, take, drop, arith, rules}
+use Rattle.std.proofs.lemmas.Bool.Decides.{nat_tests}
 use Rattle.std.specs.List.{list_any}
 use Rattle.std.specs.Vec.Iter.{into_iter_items}
 use Rattle.gq_group.specs.Entries.{tallies}
@@ -6,24 +7,26 @@ use Rattle.gq_group.specs.Groups.{answers, is_none}
 use Rattle.gq_group.specs.KeptAggs.{kept_aggs}
 use Rattle.gq_group.specs.Maps.{Leaving, chunk, pairs_from}
 use Rattle.gq_group.proofs.ChunkLemmas.{back, length-chunk, written}
-use Rattle.gq_group.proofs.KeptLemmas.{first_within, whole_behind, pairs_behind}
+use Rattle.gq_group.proofs.KeptLemmas.{some_first, first_within, whole_behind, pairs_behind}
 use Rattle.gq_group.proofs.drain.Drain.next.Goals as goal
 
-pub invariant_of-self-in_err-take_values : goal.invariant_of-self-in_err-take_values
-invariant_of-self-in_err-take_values c =
+pub returns-in_err-take_values-clause-overflow : goal.returns-in_err-take_values-clause-overflow
+returns-in_err-take_values-clause-overflow c = λ e.
     let own = c.self.inside in
     let items = own.running.items in
     let n = own.start in
-    let old = into_iter_items own.keys in
-    let rest = into_iter_items c.next.new.self in
-    let within = first_within own.each n items old rest c.in-Some.key c.in-Some.ensures.items c.self.invariant.1 in
+    let some : 0 < length (into_iter_items own.keys) = grind (arith, nat_tests) in
+    let it = some_first (into_iter_items own.keys) some in
     let k_is : n + own.each - n ≡ own.each = omega arith in
-    let lent = c.deref_mut.ensures.value in
-    let its : take (n + own.each - n) (drop n c.deref_mut.result.now) ≡ chunk own.each items n = λ i. take (k_is i) (drop n (lent i)) in
-    let long : length c.take_values.new.aggs ≡ own.each = c.take_values.auto.aggs ∙ ap length its ∙ length-chunk own.each n items within in
-    let put = written own.each n (n + own.each - n) own.running.len items c.deref_mut.result.now c.take_values.new.aggs k_is lent own.running.ok.0 within long in
-    let items' = back n (n + own.each - n) own.running.len items c.deref_mut.result.now c.take_values.new.aggs in
-    (c.self.invariant.0, whole_behind own.each n items old rest c.in-Some.key items' c.in-Some.ensures.items c.self.invariant.1 put.long)
+    let its : take (n + own.each - n) (drop n c.deref_mut.result.now) ≡ chunk own.each items n = λ i. take (k_is i) (drop n (c.deref_mut.ensures.value i)) in
+    let asked = ap (λ (l : Leaving). l.asked) c.self.view_is in
+    record {
+      pair = (it.0, chunk own.each items n);
+      rest = pairs_from own.each (n + own.each) items it.1;
+      first = sym (ap (λ (l : Leaving). l.pairs) c.self.view_is) ∙ ap (pairs_from own.each n items) it.2;
+      refused = λ rows is.
+          subst (λ a. list_any is_none (answers a rows) ≡ true) asked (c.in_err-take_values.ensures.overflow (search rules) rows (its ∙ is ∙ ap (λ a. tallies (kept_aggs a) rows) (sym asked)));
+    }
 
 pub invariant_of-self-2 : goal.invariant_of-self-2
 invariant_of-self-2 c =
@@ -55,27 +58,10 @@ returns-clause-taken c =
     let long : length c.take_values.new.aggs ≡ own.each = c.take_values.auto.aggs ∙ ap length its ∙ length-chunk own.each n items within in
     let put = written own.each n (n + own.each - n) own.running.len items c.deref_mut.result.now c.take_values.new.aggs k_is lent own.running.ok.0 within long in
     let items' = back n (n + own.each - n) own.running.len items c.deref_mut.result.now c.take_values.new.aggs in
+    let asked = ap (λ (l : Leaving). l.asked) c.self.view_is in
     record {
       running = chunk own.each items n;
       first = sym (ap (λ (l : Leaving). l.pairs) c.self.view_is) ∙ pairs_behind own.each n items old rest c.in-Some.key items' c.take_values.new.aggs c.in-Some.ensures.items put;
-      answered = λ rows is.
-          let asked = ap (λ (l : Leaving). l.asked) c.self.view_is in
-          subst (λ a. answers a rows ≡ map Some c.take_values.new.values.items) asked (c.in_ok-take_values.ensures.ok rows (its ∙ is ∙ ap (λ a. tallies (kept_aggs a) rows) (sym asked)));
-      same_asked = ap (λ (l : Leaving). l.asked) c.self.view_is;
-    }
-
-pub returns-in_err-take_values-clause-overflow : goal.returns-in_err-take_values-clause-overflow
-returns-in_err-take_values-clause-overflow c = λ e.
-    let own = c.self.inside in
-    let items = own.running.items in
-    let n = own.start in
-    let k_is : n + own.each - n ≡ own.each = omega arith in
-    let its : take (n + own.each - n) (drop n c.deref_mut.result.now) ≡ chunk own.each items n = λ i. take (k_is i) (drop n (c.deref_mut.ensures.value i)) in
-    let asked = ap (λ (l : Leaving). l.asked) c.self.view_is in
-    record {
-      pair = (c.in-Some.key, chunk own.each items n);
-      rest = pairs_from own.each (n + own.each) items (into_iter_items c.next.new.self);
-      first = sym (ap (λ (l : Leaving). l.pairs) c.self.view_is) ∙ ap (pairs_from own.each n items) c.in-Some.ensures.items;
-      refused = λ rows is.
-          subst (λ a. list_any is_none (answers a rows) ≡ true) asked (c.in_err-take_values.ensures.overflow (search rules) rows (its ∙ is ∙ ap (λ a. tallies (kept_aggs a) rows) (sym asked)));
+      answered = λ rows is. subst (λ a. answers a rows ≡ map Some c.take_values.new.values.items) asked (c.in_ok-take_values.ensures.ok rows (its ∙ is ∙ ap (λ a. tallies (kept_aggs a) rows) (sym asked)));
+      same_asked = asked;
     }
