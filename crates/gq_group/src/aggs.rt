@@ -121,6 +121,7 @@ fn told_by(kind: AggKind) -> usize
 }
 
 // Adds a row's cells, each to its aggregate. They are no group's any more where memory is wanting.
+#[inline(always)]
 pub(crate) fn add_cells(
     aggs: &mut [Agg],
     asked: &[(AggKind, usize)],
@@ -139,6 +140,7 @@ pub(crate) fn add_cells(
 }
 
 // Adds the cell of a column, or null where the row has no such column.
+#[inline(always)]
 fn add_cell(agg: &mut Agg, column: usize, row: &Row) -> Result<(), AllocError>
     requires few { agg.old.adds < 2 ^ 32 }
     requires fits { IsTrue (fits_cell row.now (kind_of agg.old.state, column)) }

@@ -2,7 +2,7 @@
 ghost use Rattle.std.specs.Prelude.{◌≡◌, ◌≤◌, IfOk, length, take};
 ghost use Rattle.std.specs.List.{list_all};
 ghost use Rattle.gq_group.specs.Groups.{counts_all as is_count, fits_cell as cell_fits, has_columns as columns_there};
-ghost use Rattle.gq_group.specs.KeptAggs.{others};
+ghost use Rattle.gq_group.specs.KeptAggs.{kept_spec, others};
 
 use gq_agg::AggKind;
 use gq_row::Row;
@@ -27,7 +27,6 @@ impl Model for GroupSpec {
 
 impl GroupSpec {
     ghost use Rattle.gq_group.specs.Groups.{fits_spec};
-    ghost use Rattle.gq_group.specs.KeptAggs.{kept_spec};
 
     pub fn new(by: Vec<usize>, aggs: Vec<(AggKind, usize)>) -> GroupSpec
         ensures by { result.by ≡ by.items }
