@@ -296,12 +296,7 @@ const CASES: [Case; 14] = [
         &[],
         "4 rows, 3 groups; 5,1:; 7,2:; null,1:",
     ),
-    (
-        Rows::Worked,
-        &[0],
-        COUNTS,
-        "4 rows, 2 groups; 1:3,3; 2:1,1",
-    ),
+    (Rows::Worked, &[0], COUNTS, "4 rows, 2 groups; 1:3,3; 2:1,1"),
     (
         Rows::Worked,
         &[0],
