@@ -1,7 +1,7 @@
 -- Groups whose keys stand in one list and their aggregates in another: the finite map of them, with one group more, or with one changed.
 use Rattle.std.proofs.Common.{◌≡◌, ℕ, suc, zero, ◌+◌, ◌*◌, ◌≤◌, ◌<◌, Bool, true, false, cond, List, [], ◌∷◌, ◌++◌, length, map, Option, Some, None, refl, sym, ap, subst, ◌∙◌, arith, true≢false, inl, inr, length-append}
-use Rattle.std.specs.Prelude.{is_some}
-use Rattle.std.specs.Option.{option_map}
+use Rattle.std.specs.Prelude.{is_some, IfSome, IsSome}
+use Rattle.std.specs.Option.{option_map, option_to_list}
 use Rattle.std.specs.List.{AllByRecursion, slice_get}
 use Rattle.std.specs.Cmp.Lexicographic.{nat_list_cmp_total}
 use Rattle.std.specs.FinMap.{insert, get, len, empty, contains_key, same_map, get-empty, get-insert, len-empty, len-insert}
@@ -365,6 +365,15 @@ listed_alone each running keys k alone long =
 pub some_first : {X : Type 0} (xs : List X) → 0 < length xs → (x : X) × (ys : List X) × (xs ≡ x ∷ ys)
 some_first [] some = absurd (omega arith)
 some_first (x ∷ xs) some = (x, xs, refl)
+
+-- and where one was taken, it is the first
+pub taken_first : {X : Type 0} (xs ys : List X) (o : Option X) → xs ≡ option_to_list o ++ ys → IsSome o → (x : X) × (xs ≡ x ∷ ys)
+taken_first xs ys None is some = absurd (true≢false (sym some))
+taken_first xs ys (Some x) is some = (x, is)
+
+pub if_some_so : {X : Type 0} (P : X → Type 0) (o : Option X) → ((x : X) → o ≡ Some x → P x) → IfSome o P
+if_some_so P None then = tt
+if_some_so P (Some x) then = then x refl
 
 module _ (each start : ℕ) (items : List Running) (old rest : List (List Value)) (key : List Value) where
   -- the first has its aggregates in the list

@@ -74,9 +74,6 @@ impl<'a> Drain<'a> {
         take_values(&mut self.running[start..end], self.asked, values)?;
         // Its key comes last: kept while the values are taken, it would be moved once more.
         self.start = end;
-        let Some(key) = self.keys.next() else {
-            return Ok(None);
-        };
-        Ok(Some(key))
+        Ok(self.keys.next())
     }
 }

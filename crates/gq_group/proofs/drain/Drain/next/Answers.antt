@@ -1,13 +1,14 @@
-use Rattle.std.proofs.Common.{◌≡◌, ◌∙◌, ◌+◌, ◌-◌, ◌<◌, Some, true, ap, sym, subst, length, map, take, drop, arith, rules}
+use Rattle.std.proofs.Common.{◌∷◌, ◌++◌, ◌≡◌, ◌∙◌, ◌+◌, ◌-◌, ◌<◌, Some, true, ap, sym, subst, length, map, take, drop, arith, rules}
 use Rattle.std.proofs.lemmas.Bool.Decides.{nat_tests}
 use Rattle.std.specs.List.{list_any}
-use Rattle.std.specs.Vec.Iter.{into_iter_items}
+use Rattle.std.specs.Option.{option_to_list}
+use Rattle.std.specs.Vec.Iter.{into_iter_items, into_iter_len}
 use Rattle.gq_group.specs.Entries.{tallies}
 use Rattle.gq_group.specs.Groups.{answers, is_none}
 use Rattle.gq_group.specs.KeptAggs.{kept_aggs}
 use Rattle.gq_group.specs.Maps.{Leaving, chunk, pairs_from}
 use Rattle.gq_group.proofs.ChunkLemmas.{back, length-chunk, written}
-use Rattle.gq_group.proofs.KeptLemmas.{some_first, first_within, whole_behind, pairs_behind}
+use Rattle.gq_group.proofs.KeptLemmas.{some_first, taken_first, if_some_so, first_within, whole_behind, pairs_behind}
 use Rattle.gq_group.proofs.drain.Drain.next.Goals as goal
 
 pub returns-in_err-take_values-clause-overflow : goal.returns-in_err-take_values-clause-overflow
@@ -35,23 +36,26 @@ invariant_of-self-2 c =
     let n = own.start in
     let old = into_iter_items own.keys in
     let rest = into_iter_items c.next.new.self in
-    let within = first_within own.each n items old rest c.in-Some.key c.in-Some.ensures.items c.self.invariant.1 in
+    let some : 0 < into_iter_len own.keys = grind (arith, nat_tests) in
+    let first = taken_first old rest c.next.result c.next.ensures.items (c.next.ensures.variant.1 some) in
+    let within = first_within own.each n items old rest first.0 first.1 c.self.invariant.1 in
     let k_is : n + own.each - n ≡ own.each = omega arith in
     let lent = c.deref_mut.ensures.value in
     let its : take (n + own.each - n) (drop n c.deref_mut.result.now) ≡ chunk own.each items n = λ i. take (k_is i) (drop n (lent i)) in
     let long : length c.take_values.new.aggs ≡ own.each = c.take_values.auto.aggs ∙ ap length its ∙ length-chunk own.each n items within in
     let put = written own.each n (n + own.each - n) own.running.len items c.deref_mut.result.now c.take_values.new.aggs k_is lent own.running.ok.0 within long in
     let items' = back n (n + own.each - n) own.running.len items c.deref_mut.result.now c.take_values.new.aggs in
-    (c.self.invariant.0, whole_behind own.each n items old rest c.in-Some.key items' c.in-Some.ensures.items c.self.invariant.1 put.long)
+    (c.self.invariant.0, whole_behind own.each n items old rest first.0 items' first.1 c.self.invariant.1 put.long)
 
 pub returns-clause-taken : goal.returns-clause-taken
-returns-clause-taken c =
+returns-clause-taken c = if_some_so _ c.next.result (λ key is.
     let own = c.self.inside in
     let items = own.running.items in
     let n = own.start in
     let old = into_iter_items own.keys in
     let rest = into_iter_items c.next.new.self in
-    let within = first_within own.each n items old rest c.in-Some.key c.in-Some.ensures.items c.self.invariant.1 in
+    let first : old ≡ key ∷ rest = c.next.ensures.items ∙ ap (λ o. option_to_list o ++ rest) is in
+    let within = first_within own.each n items old rest key first c.self.invariant.1 in
     let k_is : n + own.each - n ≡ own.each = omega arith in
     let lent = c.deref_mut.ensures.value in
     let its : take (n + own.each - n) (drop n c.deref_mut.result.now) ≡ chunk own.each items n = λ i. take (k_is i) (drop n (lent i)) in
@@ -61,7 +65,7 @@ returns-clause-taken c =
     let asked = ap (λ (l : Leaving). l.asked) c.self.view_is in
     record {
       running = chunk own.each items n;
-      first = sym (ap (λ (l : Leaving). l.pairs) c.self.view_is) ∙ pairs_behind own.each n items old rest c.in-Some.key items' c.take_values.new.aggs c.in-Some.ensures.items put;
-      answered = λ rows is. subst (λ a. answers a rows ≡ map Some c.take_values.new.values.items) asked (c.in_ok-take_values.ensures.ok rows (its ∙ is ∙ ap (λ a. tallies (kept_aggs a) rows) (sym asked)));
+      first = sym (ap (λ (l : Leaving). l.pairs) c.self.view_is) ∙ pairs_behind own.each n items old rest key items' c.take_values.new.aggs first put;
+      answered = λ rows are. subst (λ a. answers a rows ≡ map Some c.take_values.new.values.items) asked (c.in_ok-take_values.ensures.ok rows (its ∙ are ∙ ap (λ a. tallies (kept_aggs a) rows) (sym asked)));
       same_asked = asked;
-    }
+    })
