@@ -35,11 +35,12 @@ pub struct Spent {
     pub runs: u64,
 }
 
-// Sends all groups to the sink, each as it leaves the map.
+// Sends all groups to the sink, each as it leaves the map. So many rows wait in runs, each of which may be a group's first.
 pub(crate) fn push_all<H: KeyHash<Key> + Copy, S: RunStore, K: GroupSink<S>>(
     alloc: Global,
     spec: &GroupSpec,
     all: GroupMap<H>,
+    waiting: u64,
     sink: &mut K,
     store: &mut S,
 ) -> Result<u64, Refusal>
@@ -63,7 +64,7 @@ pub(crate) fn push_all<H: KeyHash<Key> + Copy, S: RunStore, K: GroupSink<S>>(
     ensures cause { IfErr result (λ e. GroupCause e (S.runs store.old) (S.runs store.new)) }
 {
     let groups = all.len();
-    sink.make_room(groups);
+    sink.make_room(groups.saturating_add(waiting as usize));
     let mut left = all.drain(spec.aggs());
     let mut values = Vec::new(alloc);
     'groups: while let Some(key) = left.next(&mut values)? {

@@ -235,7 +235,8 @@ pub(crate) fn one_level<H: KeyHash<Key> + Copy, S: RunStore, R: RowSource<S>, K:
         return Err(Refusal::Memory);
     };
     let taken = read_rows(alloc, &kept, level, source, store, &mut table, slots)?;
-    let groups = push_all(alloc, spec, table.into_groups(), sink, store)?;
+    let waiting = taken.rows_written;
+    let groups = push_all(alloc, spec, table.into_groups(), waiting, sink, store)?;
     Ok(Level {
         rows_read: taken.rows_read,
         rows_written: taken.rows_written,
