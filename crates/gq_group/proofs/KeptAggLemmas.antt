@@ -1,56 +1,18 @@
 -- Which aggregates are kept for a group, and what they tell.
 use Rattle.std.proofs.Common.{◌≡◌, ◌==◌, ◌<◌, ◌+◌, ◌++◌, ◌∷◌, [], ℕ, zero, suc, Bool, true, false, not, cond, List, length, take, drop, ◌||◌, Some, None, refl, sym, ap, ◌∙◌, arith, slice_index_or, length-append}
-use Rattle.std.specs.List.{list_all, list_any, slice_get}
-use Rattle.std.proofs.lemmas.Bool.{and_parts}
+use Rattle.std.specs.List.{list_any, slice_get}
 use Rattle.std.proofs.lemmas.Bool.Decides.{nat_tests}
-use Rattle.std.proofs.lemmas.List.{drop-map, length-map}
-use Rattle.sw_flat.proofs.Classes.{some_is, none_some}
+use Rattle.std.proofs.lemmas.List.{drop-drop, drop-map, length-map}
+use Rattle.sw_flat.proofs.Classes.{some_is}
 use Rattle.gq_row.specs.declared.value.Value.{Value}
 use Rattle.gq_row.specs.Rows.{cell}
 use Rattle.gq_agg.specs.declared.kind.AggKind.{AggKind}
 use Rattle.gq_agg.specs.Aggregates.{aggregate}
 use Rattle.gq_agg.specs.Running.{Running, tally}
 use Rattle.gq_group.specs.Entries.{tallies}
-use Rattle.gq_group.specs.Groups.{Spec, answers, column_of, counts_all, fits_cell, fits_spec, all_fit, has_columns, is_none}
-use Rattle.gq_group.specs.KeptAggs.{others, alone, kept_aggs, kept_spec, told_by, IsKnown}
-use Rattle.gq_group.specs.Readings.{AreRows}
+use Rattle.gq_group.specs.Groups.{answers, column_of, counts_all, is_none}
+use Rattle.gq_group.specs.KeptAggs.{others, alone, kept_aggs, told_by, IsKnown}
 use Rattle.gq_group.proofs.AggLemmas.{first_at, or_true}
-
--- ---- each that is kept fits where all that is asked does
-
-other_fits : (row : List Value) (asked : List (AggKind × ℕ)) → list_all (fits_cell row) asked ≡ true → list_all (fits_cell row) (others asked) ≡ true
-other_fits row [] h = refl
-other_fits row (a ∷ asked) h =
-    let both = and_parts (fits_cell row a) (list_all (fits_cell row) asked) h in
-    at (not (counts_all a.0)) both.0 (other_fits row asked both.1)
-  where
-    at : (b : Bool) → fits_cell row a ≡ true → list_all (fits_cell row) (others asked) ≡ true → list_all (fits_cell row) (cond b (a ∷ others asked) (others asked)) ≡ true
-    at true here rest = rw (here, rest) refl
-    at false here rest = rest
-
-alone_fits : (row : List Value) (asked : List (AggKind × ℕ)) → list_all (fits_cell row) asked ≡ true → list_all (fits_cell row) (alone asked) ≡ true
-alone_fits row asked h = at (length (others asked) == 0) asked h
-  where
-    at : (b : Bool) (xs : List (AggKind × ℕ)) → list_all (fits_cell row) xs ≡ true → list_all (fits_cell row) (cond b (take 1 xs) []) ≡ true
-    at false xs h = refl
-    at true [] h = refl
-    at true (x ∷ xs) h = rw ((and_parts (fits_cell row x) (list_all (fits_cell row) xs) h).0) refl
-
-all_append : {X : Type 0} (p : X → Bool) (xs ys : List X) → list_all p xs ≡ true → list_all p ys ≡ true → list_all p (xs ++ ys) ≡ true
-all_append p [] ys h k = k
-all_append p (x ∷ xs) ys h k = let both = and_parts (p x) (list_all p xs) h in rw (both.0, all_append p xs ys both.1 k) refl
-
-kept_fits : (spec : Spec) (row : List Value) → fits_spec spec row ≡ true → fits_spec (kept_spec spec) row ≡ true
-kept_fits spec row h =
-    let both = and_parts (has_columns spec.by row) (list_all (fits_cell row) spec.aggs) h in
-    rw (both.0, all_append (fits_cell row) (others spec.aggs) (alone spec.aggs) (other_fits row spec.aggs both.1) (alone_fits row spec.aggs both.1)) refl
-
-all_kept_fit : (spec : Spec) (rows : List (List Value)) → all_fit spec rows ≡ true → all_fit (kept_spec spec) rows ≡ true
-all_kept_fit spec [] h = refl
-all_kept_fit spec (row ∷ rows) h = let both = and_parts (fits_spec spec row) (all_fit spec rows) h in rw (kept_fits spec row both.0, all_kept_fit spec rows both.1) refl
-
-pub rows_of_kept : (spec : Spec) (rows : List (List Value)) → AreRows spec rows → AreRows (kept_spec spec) rows
-rows_of_kept spec rows are = (all_kept_fit spec rows are.0, are.1)
 
 -- ---- how many rows there were
 
@@ -75,17 +37,6 @@ at_drop [] (suc n) x ys h = let none : ⊥ = cc in absurd none
 at_drop (z ∷ xs) zero x ys h = let same : z ≡ x = cc in ap (λ y. Some y) same
 at_drop (z ∷ xs) (suc n) x ys h = at_drop xs n x ys h
 
-there_within : {X : Type 0} (xs : List X) (n : ℕ) (x : X) → slice_get xs n ≡ Some x → n < length xs
-there_within [] n x h = absurd (none_some x h)
-there_within (y ∷ xs) zero x h = omega arith
-there_within (y ∷ xs) (suc n) x h = let rest = there_within xs n x h in omega (arith, rest)
-
-behind : {X : Type 0} (xs : List X) (n : ℕ) → drop (suc n) xs ≡ drop 1 (drop n xs)
-behind [] zero = refl
-behind [] (suc n) = refl
-behind (x ∷ xs) zero = refl
-behind (x ∷ xs) (suc n) = behind xs n
-
 module _ (asked : List (AggKind × ℕ)) (i place : ℕ) (d : AggKind × ℕ) (less : i < length asked) (left : drop place (kept_aggs asked) ≡ others (drop i asked) ++ alone asked) where
   abbrev pub next : AggKind × ℕ
   next = slice_index_or asked i d
@@ -99,13 +50,7 @@ module _ (asked : List (AggKind × ℕ)) (i place : ℕ) (d : AggKind × ℕ) (l
       at : (b : Bool) → drop place (kept_aggs asked) ≡ cond (not b) (next ∷ others (drop (suc i) asked)) (others (drop (suc i) asked)) ++ alone asked
           → drop (place + cond b 0 1) (kept_aggs asked) ≡ others (drop (i + 1) asked) ++ alone asked
       at true h = let same : place + 0 ≡ place = omega arith in let more : suc i ≡ i + 1 = omega arith in ap (λ n. drop n (kept_aggs asked)) same ∙ h ∙ ap (λ n. others (drop n asked) ++ alone asked) more
-      at false h = let more : suc i ≡ i + 1 = omega arith in let far : place + 1 ≡ suc place = omega arith in ap (λ n. drop n (kept_aggs asked)) far ∙ behind (kept_aggs asked) place ∙ ap (drop 1) h ∙ ap (λ n. others (drop n asked) ++ alone asked) more
-
-  pub next_within : counts_all next.0 ≡ false → place < length (kept_aggs asked)
-  next_within diff =
-      let there = at_drop (kept_aggs asked) place next (others (drop (suc i) asked) ++ alone asked)
-      (left_is ∙ ap (λ b. cond (not b) (next ∷ others (drop (suc i) asked)) (others (drop (suc i) asked)) ++ alone asked) diff) in
-      there_within (kept_aggs asked) place next there
+      at false h = let more : suc i ≡ i + 1 = omega arith in sym (drop-drop 1 place (kept_aggs asked)) ∙ ap (drop 1) h ∙ ap (λ n. others (drop n asked) ++ alone asked) more
 
   -- what is kept tells it
   pub next_known : (rows : List (List Value)) (count : ℕ) (old aggs : List Running) → count ≡ length rows → old ≡ tallies (kept_aggs asked) rows → drop place aggs ≡ drop place old
@@ -133,7 +78,3 @@ module _ (asked : List (AggKind × ℕ)) (i place : ℕ) (d : AggKind × ℕ) (l
       at [] n l e = absurd (omega arith)
       at (x ∷ xs) zero l e = ap (λ o. is_none o || list_any is_none (answers xs rows)) e
       at (x ∷ xs) (suc n) l e = ap (λ b. is_none (aggregate x.0 (column_of x.1 rows)) || b) (at xs n (omega arith) e) ∙ or_true (is_none (aggregate x.0 (column_of x.1 rows)))
-
-pub all_answered : (asked : List (AggKind × ℕ)) (rows : List (List Value)) → take (length asked) (answers asked rows) ≡ answers asked rows
-all_answered [] rows = refl
-all_answered (a ∷ asked) rows = ap (λ l. aggregate a.0 (column_of a.1 rows) ∷ l) (all_answered asked rows)

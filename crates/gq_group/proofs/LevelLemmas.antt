@@ -1,12 +1,12 @@
 -- What one reading of rows has done.
-use Rattle.std.proofs.Common.{◌≡◌, ◌≤◌, ◌<◌, ◌+◌, ◌-◌, ◌*◌, ◌/◌, ◌%◌, ◌^◌, ◌++◌, ◌==◌, ℕ, zero, suc, Bool, true, false, cond, ◌||◌, List, [], ◌∷◌, length, map, refl, sym, ap, subst, ◌∙◌, arith, Option, Some, None}
+use Rattle.std.proofs.Common.{◌≡◌, ◌≤◌, ◌<◌, ◌+◌, ◌-◌, ◌*◌, ◌/◌, ◌%◌, ◌^◌, ◌++◌, ◌==◌, ℕ, zero, suc, Bool, true, false, cond, ◌||◌, List, [], ◌∷◌, length, map, refl, sym, ap, subst, ◌∙◌, arith, Option, Some, None, take}
 use Rattle.std.specs.Prelude.{IsTrue, IsPermutation, All, filter, not, nat_lt, is_some}
 use Rattle.std.specs.FinMap.{len}
 use Rattle.std.specs.List.{sum_by, flat_map, list_all, list_any, AllByRecursion}
 use Rattle.std.proofs.lemmas.Bool.{and_parts}
 use Rattle.std.proofs.lemmas.List.{append-nil, length-map}
 use Rattle.std.proofs.lemmas.List.Filters.{length-filter_both}
-use Rattle.std.proofs.lemmas.List.Folds.{list_any-append}
+use Rattle.std.proofs.lemmas.List.Folds.{list_all-append, list_any-append}
 use Rattle.std.proofs.lemmas.List.Sums.{sum_by-cons}
 use Rattle.std.proofs.lemmas.List.Elements.{All-from_recursion, recursion_from_All, All-nil, All-cons}
 use Rattle.std.proofs.lemmas.List.Sorted.{IsPermutation-refl, IsPermutation-append, IsPermutation-trans, length_permutation, list_any-IsPermutation}
@@ -17,9 +17,10 @@ use Rattle.gq_row.specs.Order.{same_key}
 use Rattle.gq_row.specs.Tables.{keys, of_key}
 use Rattle.gq_spill.specs.Runs.{Runs}
 use Rattle.gq_spill.specs.Writing.{Writing}
+use Rattle.gq_agg.specs.declared.kind.AggKind.{AggKind}
 use Rattle.gq_group.specs.Entries.{listed, Pair, tallies, group_at}
-use Rattle.gq_group.specs.Groups.{Spec, Group, groups, group_of, keys_of, answered, fits_spec, is_none, out_of_range, Pushes}
-use Rattle.gq_group.specs.KeptAggs.{kept_spec}
+use Rattle.gq_group.specs.Groups.{Spec, Group, groups, group_of, keys_of, answered, counts_all, fits_cell, fits_spec, has_columns, all_fit, is_none, out_of_range, Pushes}
+use Rattle.gq_group.specs.KeptAggs.{others, alone, kept_spec}
 use Rattle.gq_group.specs.Levels.{row_groups, lots, classes_at, class_at, class_by}
 use Rattle.gq_group.specs.Readings.{AreRows, Fit, IsWide, Parted, Numbers, Reads, left_lots}
 use Rattle.gq_group.specs.Residents.{Resident, has_entry, taken, left_over}
@@ -68,6 +69,27 @@ fit-rows spec columns (row ∷ rows) h wide = record {
   fits = h.0;
   widths = All-cons (λ other. length other ≡ columns) row rows wide (subst (λ n. All (λ other. length other ≡ n) rows) wide h.1);
 }
+
+-- of a row that fits, all fit that are kept
+alone_fits : (row : List Value) (asked : List (AggKind × ℕ)) → list_all (fits_cell row) asked ≡ true → list_all (fits_cell row) (alone asked) ≡ true
+alone_fits row asked h = at (length (others asked) == 0) asked h
+  where
+    at : (b : Bool) (xs : List (AggKind × ℕ)) → list_all (fits_cell row) xs ≡ true → list_all (fits_cell row) (cond b (take 1 xs) []) ≡ true
+    at false xs h = refl
+    at true [] h = refl
+    at true (x ∷ xs) h = rw ((and_parts (fits_cell row x) (list_all (fits_cell row) xs) h).0) refl
+
+kept_fits : (spec : Spec) (row : List Value) → fits_spec spec row ≡ true → fits_spec (kept_spec spec) row ≡ true
+kept_fits spec row h =
+    let both = and_parts (has_columns spec.by row) (list_all (fits_cell row) spec.aggs) h in
+    rw (both.0, list_all-append (fits_cell row) (others spec.aggs) (alone spec.aggs), fits-filter (fits_cell row) (λ (a : AggKind × ℕ). not (counts_all a.0)) spec.aggs both.1, alone_fits row spec.aggs both.1) refl
+
+all_kept_fit : (spec : Spec) (rows : List (List Value)) → all_fit spec rows ≡ true → all_fit (kept_spec spec) rows ≡ true
+all_kept_fit spec [] h = refl
+all_kept_fit spec (row ∷ rows) h = let both = and_parts (fits_spec spec row) (all_fit spec rows) h in rw (kept_fits spec row both.0, all_kept_fit spec rows both.1) refl
+
+pub rows_of_kept : (spec : Spec) (rows : List (List Value)) → AreRows spec rows → AreRows (kept_spec spec) rows
+rows_of_kept spec rows are = (all_kept_fit spec rows are.0, are.1)
 
 -- ---- what the runs hold, over any store
 

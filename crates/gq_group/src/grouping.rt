@@ -5,8 +5,8 @@ ghost use Rattle.gq_row.specs.declared.value.Value.{Value as Cell};
 ghost use Rattle.gq_row.specs.Classes.{class_of};
 ghost use Rattle.gq_group.specs.Access.{Apart, either, LeavesOthers, HasCause, GroupCause};
 ghost use Rattle.gq_group.specs.Entries.{Grouped, listed};
-ghost use Rattle.gq_group.specs.KeptAggs.{kept_spec};
 ghost use Rattle.gq_group.specs.Groups.{Group, keys_of, Pushes, all_fit, out_of_range, OneWidth};
+ghost use Rattle.gq_group.specs.KeptAggs.{kept_spec};
 ghost use Rattle.gq_group.specs.Work.{Spills};
 
 use crate::budget::Budget;
@@ -47,7 +47,8 @@ pub(crate) fn push_all<H: KeyHash<Key> + Copy, S: RunStore, K: GroupSink<S>>(
     requires sink { K.is_ready sink.old (S.runs store.old) }
     requires each { all.each ≡ length (kept_spec spec.now).aggs }
     ensures sent { OnOk result ((rows : List (List Cell)) →
-        Grouped (kept_spec spec.now) rows all.pairs → Pushes spec.now rows (λ out. IsTrue (S.runs store.old).honest → (before : List Group) →
+        Grouped (kept_spec spec.now) rows all.pairs → Pushes spec.now rows (λ out.
+        IsTrue (S.runs store.old).honest → (before : List Group) →
         K.holds sink.old (S.runs store.old) before →
         K.holds sink.new (S.runs store.new) (before ++ out))) }
     ensures count { IfOk result (λ n. (rows : List (List Cell)) →

@@ -141,7 +141,8 @@ fn take_body(
     Ok(true)
 }
 
-// Writes the values of the row of this body over as many others where they stand, and tells whether there is a row of so many.
+// Writes the values of the row of this body over as many others where they stand, and tells whether it did. Only speed rests on
+// it: where it didn't, `take_row` tells whether there is a row.
 #[inline]
 fn take_values(alloc: Global, bytes: &[u8], cells: &mut [Value]) -> Result<bool, AllocError>
     ensures { IfOk result (λ is_body. is_body ≡ true →

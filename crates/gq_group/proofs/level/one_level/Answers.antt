@@ -7,8 +7,7 @@ use Rattle.gq_group.specs.Readings.{AreRows}
 use Rattle.gq_group.specs.Slots.{among}
 use Rattle.gq_group.specs.declared.budget.Budget.{Budget}
 use Rattle.gq_group.proofs.AccessLemmas.{keeps-apart}
-use Rattle.gq_group.proofs.KeptAggLemmas.{rows_of_kept}
-use Rattle.gq_group.proofs.LevelLemmas.{class_less}
+use Rattle.gq_group.proofs.LevelLemmas.{class_less, rows_of_kept}
 use Rattle.gq_group.proofs.LevelingLemmas.{level-none, level-stopped, level-full, level-done}
 use Rattle.gq_group.proofs.level.one_level.Goals as goal
 
