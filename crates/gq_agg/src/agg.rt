@@ -101,19 +101,21 @@ impl Agg {
             (λ _. aggregate kind values ≡ None) }
     {
         let mut agg = self;
-        agg.take()
+        let mut value = Value::Null;
+        agg.take_to(&mut value)?;
+        Ok(value)
     }
 
-    /// Likewise where it stands, out of which its value moves. What is left is of the same kind, and
-    /// knows how many values were added, and no more of them.
-    #[inline]
-    pub fn take(&mut self) -> Result<Value, SumRange>
+    /// Likewise where it stands, out of which its value moves over another. What is left is of the same
+    /// kind, and knows how many values were added, and no more of them.
+    #[inline(always)]
+    pub fn take_to(&mut self, over: &mut Value) -> Result<(), SumRange>
         ensures value { (kind : _) (values : List Cell) → self.old ≡ tally kind values →
-            MatchResult result (λ v. aggregate kind values ≡ Some v)
+            MatchResult result (λ _. aggregate kind values ≡ Some over.new)
             (λ _. aggregate kind values ≡ None) }
         ensures adds { self.new.adds ≡ self.old.adds }
         ensures kind { kind_of self.new.state ≡ kind_of self.old.state }
     {
-        self.state.take_out(self.adds)
+        self.state.move_to(self.adds, over)
     }
 }

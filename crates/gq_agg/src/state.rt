@@ -65,31 +65,34 @@ impl State {
         }
     }
 
-    // The aggregate of the values that were taken in, so many. A least or a greatest moves out, and leaves null.
-    #[inline]
-    pub(crate) fn take_out(&mut self, adds: u64) -> Result<Value, SumRange>
+    // Writes the aggregate of the values that were taken in, so many, over another value. A least or a greatest
+    // moves out, and leaves null.
+    #[inline(always)]
+    pub(crate) fn move_to(&mut self, adds: u64, over: &mut Value) -> Result<(), SumRange>
         requires few { adds ≤ 2 ^ 32 }
         requires bounded { IsBounded adds self.old }
         ensures value { (kind : AggKind) (values : List Cell) → adds ≡ length values →
-            self.old ≡ kept kind values → MatchResult result (λ v. aggregate kind values ≡ Some v)
+            self.old ≡ kept kind values →
+            MatchResult result (λ _. aggregate kind values ≡ Some over.new)
             (λ _. aggregate kind values ≡ None) }
         ensures bounded { IsBounded adds self.new }
         ensures kind { kind_of self.new ≡ kind_of self.old }
     {
         match self {
-            State::Rows => Ok(Value::Int(adds as i64)),
-            State::Values(count) => Ok(Value::Int(*count as i64)),
-            State::Total(None) => Ok(Value::Null),
+            State::Rows => over.write_number(adds as i64),
+            State::Values(count) => over.write_number(*count as i64),
+            State::Total(None) => *over = Value::Null,
             State::Total(Some(sum)) => {
                 let sum = sum.to_i128();
                 if sum < i64::MIN as i128 || sum > i64::MAX as i128 {
                     return Err(SumRange);
                 }
-                Ok(Value::Int(sum as i64))
+                over.write_number(sum as i64);
             }
-            State::Least(least) => Ok(replace(least, Value::Null)),
-            State::Greatest(greatest) => Ok(replace(greatest, Value::Null)),
+            State::Least(least) => *over = replace(least, Value::Null),
+            State::Greatest(greatest) => *over = replace(greatest, Value::Null),
         }
+        Ok(())
     }
 }
 

@@ -14,12 +14,13 @@ ghost use Rattle.gq_engine.specs.Spending.{Rises};
 ghost use Rattle.gq_engine.specs.Steps.{Asks, group as grouped, keys_planned, other_in, rows_about, rows_planned};
 
 use crate::catalog::Catalog;
+use gq_cells::Rows;
 use gq_command::Exists;
 use gq_group::{Budget, Spent};
 use gq_plan::{DistinctPlan, GroupClauses, GroupPlan, plan_group};
 use gq_query::{Grouping, Selection, distinct_rows, group_rows};
 use gq_reply::{Refusal, Refused};
-use gq_row::{Column, Key, Rows};
+use gq_row::{Column, Key};
 use gq_spill::RunStore;
 use gq_table::Table;
 use std::alloc::Global;

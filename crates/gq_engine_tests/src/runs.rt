@@ -2,9 +2,10 @@
 use crate::devices::Pieces;
 use crate::engines::{engine, run, run_alone};
 use crate::expected::{expect, expect_at};
+use gq_cells::{CellRef, RowRef};
 use gq_command::parse_line;
 use gq_engine::{Engine, MemStore, Refusal, Reply, Summary, reply_text};
-use gq_row::{Limits, Value};
+use gq_row::Limits;
 use std::alloc::{AllocError, Global};
 use std::process::Abort;
 use std::test::Fail;
@@ -108,12 +109,16 @@ fn tables_stay_from_run_to_run(rt: HostRuntime) {
 fn is_rome_twice(reply: &Reply) -> bool {
     match reply {
         Reply::Rows { header, rows } => {
-            header.len() == 2
-                && rows.len() == 1
-                && matches!(rows.row(0), [Value::Text(city), Value::Int(2)] if city.as_str() == "Rome")
+            header.len() == 2 && rows.len() == 1 && is_rome_and_two(&rows.row(0))
         }
         _ => true,
     }
+}
+
+fn is_rome_and_two(row: &RowRef<'_>) -> bool {
+    row.len() == 2
+        && matches!(row.cell(0), CellRef::Text(city) if city.as_str() == "Rome")
+        && matches!(row.cell(1), CellRef::Int(2))
 }
 
 /// What is answered to a line's command.

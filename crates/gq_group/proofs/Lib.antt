@@ -4,6 +4,7 @@ pub mod Bounds
 pub mod ChunkLemmas
 pub mod Costs
 pub mod FirstLemmas
+pub mod FittingLemmas
 pub mod GoneLemmas
 pub mod KeptAggLemmas
 pub mod KeptLemmas

@@ -2,6 +2,7 @@ pub mod Access
 pub mod Counting
 pub mod Distinct
 pub mod Entries
+pub mod Fitting
 pub mod Groups
 pub mod KeptAggs
 pub mod Leveling

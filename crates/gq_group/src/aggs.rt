@@ -53,31 +53,26 @@ pub(crate) fn append_aggs(
     Ok(())
 }
 
-// Takes the values of what is asked, from the first to the last. What is left of the aggregates is of no value.
+// Writes the values of what is asked over as many others, from the first to the last. What is left of the aggregates is of
+// no value.
 #[inline]
 pub(crate) fn take_values(
     aggs: &mut [Agg],
     asked: &[(AggKind, usize)],
-    values: &mut Vec<Value>,
-) -> Result<(), Refusal>
-    requires none { values.old.items ≡ [] }
+    values: &mut [Value],
+) -> Result<(), SumRange>
+    requires all { length values.old ≡ length asked.now }
     requires kept { length aggs.old ≡ length (kept_aggs asked.now) }
     ensures ok { OnOk result ((rows : List (List Cell)) →
-        aggs.old ≡ tallies (kept_aggs asked.now) rows → answers asked.now rows ≡ map Some values.new.items) }
-    ensures overflow { IsErrOf result Refusal.SumRange → (rows : List (List Cell)) →
-        aggs.old ≡ tallies (kept_aggs asked.now) rows → list_any is_none (answers asked.now rows) ≡ true }
-    ensures cause { IfErr result (λ e. (e ≡ Refusal.SumRange) ⊎ (e ≡ Refusal.Memory)) }
+        aggs.old ≡ tallies (kept_aggs asked.now) rows → answers asked.now rows ≡ map Some values.new) }
+    ensures overflow { OnErr result ((rows : List (List Cell)) →
+        aggs.old ≡ tallies (kept_aggs asked.now) rows → list_any is_none (answers asked.now rows) ≡ true) }
 {
     let rows = rows_added(aggs);
     let mut place = 0;
     'asked: for i in 0..asked.len() {
         let kind = asked[i].0;
-        let Ok(value) = take_value(aggs, place, kind, rows) else {
-            return Err(Refusal::SumRange);
-        };
-        let Ok(()) = values.push(value) else {
-            return Err(Refusal::Memory);
-        };
+        take_value(aggs, place, kind, rows, &mut values[i])?;
         place += told_by(kind);
     }
     Ok(())
@@ -96,20 +91,29 @@ fn rows_added(aggs: &[Agg]) -> u64
     }
 }
 
-// Takes the value of an aggregate: of `count(*)` the number of rows, of another that of the one that is kept at a place.
+// Writes the value of an aggregate over another: of `count(*)` the number of rows, of another that of the one that is kept at
+// a place.
 #[inline(always)]
-fn take_value(aggs: &mut [Agg], place: usize, kind: AggKind, rows: u64) -> Result<Value, SumRange>
+fn take_value(
+    aggs: &mut [Agg],
+    place: usize,
+    kind: AggKind,
+    rows: u64,
+    over: &mut Value,
+) -> Result<(), SumRange>
     requires within { counts_all kind ≡ false → place < length aggs.old }
     requires few { rows ≤ 2 ^ 32 }
     ensures value { (values : List Cell) → IsKnown (counts_all kind) kind values rows aggs.old place →
-        MatchResult result (λ v. aggregate kind values ≡ Some v) (λ _. aggregate kind values ≡ None) }
+        MatchResult result (λ _. aggregate kind values ≡ Some over.new)
+        (λ _. aggregate kind values ≡ None) }
     ensures behind { drop (place + told_by kind) aggs.new ≡ drop (place + told_by kind) aggs.old }
     ensures long { length aggs.new ≡ length aggs.old }
 {
     if is_count(kind) {
-        return Ok(Value::Int(rows as i64));
+        over.write_number(rows as i64);
+        return Ok(());
     }
-    aggs[place].take()
+    aggs[place].take_to(over)
 }
 
 // By how many of those that are kept it is told.

@@ -1,5 +1,5 @@
 //! Groups that leave one by one.
-ghost use Rattle.std.specs.Prelude.{◌≡◌, ◌⊎◌, [], length, IfOk, IfErr, IfSome, IfNone, IsErrOf};
+ghost use Rattle.std.specs.Prelude.{◌≡◌, ◌⊎◌, [], length, OnOk, IfOk, IfErr, IfSome, IfNone, IsErrOf};
 ghost use Rattle.gq_group.specs.KeptAggs.{kept_aggs};
 ghost use Rattle.gq_group.specs.Maps.{pairs_from, AreKept, Takes, Overflows};
 
@@ -7,6 +7,7 @@ use crate::aggs::take_values;
 use crate::refusal::Refusal;
 use gq_agg::{Agg, AggKind};
 use gq_row::{Key, Value};
+use std::alloc::AllocError;
 use std::marker::Model;
 
 // Groups on their way out, seen as the list of those that are left, and what is asked of them.
@@ -56,7 +57,7 @@ impl<'a> Drain<'a> {
         }
     }
 
-    // Takes the next group out: its key, and the values of its aggregates to a list that is lent.
+    // Takes the next group out: its key, and the values of its aggregates over those of a list that is lent.
     #[inline(always)]
     pub(crate) fn next(&mut self, values: &mut Vec<Value>) -> Result<Option<Key>, Refusal>
         ensures taken { IfOk result (λ next.
@@ -68,12 +69,27 @@ impl<'a> Drain<'a> {
         if self.keys.len() == 0 {
             return Ok(None);
         }
+        if values.len() != self.asked.len() {
+            let Ok(()) = fit(values, self.asked.len()) else {
+                return Err(Refusal::Memory);
+            };
+        }
         let start = self.start;
         let end = start + self.each;
-        values.clear();
-        take_values(&mut self.running[start..end], self.asked, values)?;
+        let slots = values.as_mut_slice();
+        let Ok(()) = take_values(&mut self.running[start..end], self.asked, slots) else {
+            return Err(Refusal::SumRange);
+        };
         // Its key comes last: kept while the values are taken, it would be moved once more.
         self.start = end;
         Ok(self.keys.next())
     }
+}
+
+// Makes a list of values so long, whatever they are.
+#[cold]
+fn fit(values: &mut Vec<Value>, len: usize) -> Result<(), AllocError>
+    ensures { OnOk result (length values.new.items ≡ len) }
+{
+    values.resize_with(len, || Value::Null)
 }

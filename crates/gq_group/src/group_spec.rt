@@ -1,7 +1,8 @@
 //! What is asked of the groups of rows.
-ghost use Rattle.std.specs.Prelude.{◌≡◌, ◌≤◌, IfOk, length, take};
+ghost use Rattle.std.specs.Prelude.{◌≡◌, ◌≤◌, ◌&&◌, ℕ, true, IfOk, length, nat_lt, take};
 ghost use Rattle.std.specs.List.{list_all};
-ghost use Rattle.gq_group.specs.Groups.{counts_all as is_count, fits_cell as cell_fits, has_columns as columns_there};
+ghost use Rattle.gq_group.specs.Fitting.{are_before, are_asked_before, is_asked_before, reaches as does_reach};
+ghost use Rattle.gq_group.specs.Groups.{counts_all as is_count, fits_cell as cell_fits};
 ghost use Rattle.gq_group.specs.KeptAggs.{kept_spec, others};
 
 use gq_agg::AggKind;
@@ -15,14 +16,21 @@ use std::marker::Model;
 pub struct GroupSpec {
     by: Vec<usize>,
     aggs: Vec<(AggKind, usize)>,
+    // The last of all columns that are named, if any is.
+    last: Option<usize>,
 }
 
 impl Model for GroupSpec {
+    ghost use Rattle.std.specs.Prelude.{◌≡◌, ◌&&◌, ℕ};
+    ghost use Rattle.gq_group.specs.Fitting.{are_before, are_asked_before, reaches};
     ghost use Rattle.gq_group.specs.Groups.{Spec};
 
     ghost Value = { Spec };
 
     ghost view = { λ s. record { by = s.by.items; aggs = s.aggs.items } };
+
+    ghost invariant = { λ s. (n : ℕ) →
+        reaches s.last n ≡ (are_before n s.by.items && are_asked_before n s.aggs.items) };
 }
 
 impl GroupSpec {
@@ -32,7 +40,8 @@ impl GroupSpec {
         ensures by { result.by ≡ by.items }
         ensures aggs { result.aggs ≡ aggs.items }
     {
-        GroupSpec { by, aggs }
+        let last = last_asked(last_of(by.as_slice()), aggs.as_slice());
+        GroupSpec { by, aggs, last }
     }
 
     /// The columns to group by.
@@ -59,7 +68,7 @@ impl GroupSpec {
     {
         let by = Vec::from_slice(alloc, &self.by()[..columns])?;
         let aggs = Vec::from_slice(alloc, self.aggs())?;
-        Ok(GroupSpec { by, aggs })
+        Ok(GroupSpec::new(by, aggs))
     }
 
     // The same grouping of the aggregates that are kept for each group: all but `count(*)`, which each of them tells
@@ -72,14 +81,60 @@ impl GroupSpec {
         if aggs.is_empty() {
             aggs.extend_from_slice(&self.aggs()[..self.aggs().len().min(1)])?;
         }
-        Ok(GroupSpec { by, aggs })
+        Ok(GroupSpec::new(by, aggs))
     }
 
     /// Whether a row can be grouped: the columns that are named are there, with no text in a sum.
+    #[inline]
     pub fn fits(&self, row: &Row) -> bool
         ensures { result ≡ fits_spec self.now row.now }
     {
-        has_columns(self.by(), row) && fit_cells(self.aggs(), row)
+        reaches(self.last, row.len()) && fit_cells(self.aggs(), row)
+    }
+}
+
+// The last of some columns, if there is one.
+fn last_of(columns: &[usize]) -> Option<usize>
+    ensures { (n : ℕ) → does_reach result n ≡ are_before n columns.now }
+{
+    let mut last = None;
+    for column in columns {
+        last = Some(later(last, *column));
+    }
+    last
+}
+
+// The last of a column, if there is one, and those of which something is asked.
+fn last_asked(before: Option<usize>, aggs: &[(AggKind, usize)]) -> Option<usize>
+    ensures { (n : ℕ) → does_reach result n ≡ (does_reach before n && are_asked_before n aggs.now) }
+{
+    let mut last = before;
+    for agg in aggs {
+        if !counts_all(agg.0) {
+            last = Some(later(last, agg.1));
+        }
+    }
+    last
+}
+
+// The later of two columns, the first of which there may not be.
+fn later(last: Option<usize>, column: usize) -> usize
+    ensures { (n : ℕ) → nat_lt result n ≡ (does_reach last n && nat_lt column n) }
+{
+    match last {
+        Some(last) => last.max(column),
+        None => column,
+    }
+}
+
+// Whether a row of so many values has a column, if there is one, and so all that stand before it.
+#[inline]
+fn reaches(last: Option<usize>, values: usize) -> bool
+    ensures { result ≡ does_reach last values }
+{
+    match last {
+        Some(last) => last < values,
+        None => true,
     }
 }
 
@@ -104,20 +159,27 @@ pub(crate) fn counts_all(kind: AggKind) -> bool
     matches!(kind, AggKind::CountAll)
 }
 
-pub(crate) fn has_columns(columns: &[usize], row: &Row) -> bool
-    ensures { result ≡ columns_there columns.now row.now }
-{
-    columns.iter().all(|column| *column < row.len())
-}
-
+// Whether no text is to be summed in a row that has all columns of which something is asked.
+#[inline]
 fn fit_cells(aggs: &[(AggKind, usize)], row: &Row) -> bool
+    requires { are_asked_before (length row.now) aggs.now ≡ true }
     ensures { result ≡ list_all (cell_fits row.now) aggs.now }
 {
-    aggs.iter().all(|agg| fits_cell(agg.0, agg.1, row))
+    for agg in aggs {
+        if !fits_cell(agg.0, agg.1, row) {
+            return false;
+        }
+    }
+    true
 }
 
+#[inline]
 fn fits_cell(kind: AggKind, column: usize, row: &Row) -> bool
+    requires { is_asked_before (length row.now) (kind, column) ≡ true }
     ensures { result ≡ cell_fits row.now (kind, column) }
 {
-    counts_all(kind) || (column < row.len() && kind.takes(row.cell(column)))
+    match kind {
+        AggKind::Sum => kind.takes(row.cell(column)),
+        _ => true,
+    }
 }

@@ -1,30 +1,28 @@
 -- Groups in one list of cells.
-use Rattle.std.proofs.Common.{◌≡◌, ◌<◌, ◌≤◌, ◌+◌, ◌-◌, ℕ, true, List, [], ◌∷◌, ◌++◌, length, map, take, drop, get_or, All, Ordering, Less, Equal, Greater, refl, sym, ap, subst, ◌∙◌, arith}
-use Rattle.std.specs.Prelude.{nat_le, if◌then◌else◌}
+use Rattle.std.proofs.Common.{◌≡◌, ◌<◌, ◌≤◌, ◌+◌, ◌-◌, ℕ, List, [], ◌∷◌, ◌++◌, length, map, take, drop, get_or, All, Ordering, Less, Equal, Greater, refl, sym, ap, subst, ◌∙◌, arith}
 use denote.Param.Members.{Mut}
 use denote.Ref.{Bor}
 use Rattle.std.specs.Cmp.{IsTotalOrder}
 use Rattle.std.specs.Fn.{Called}
 use Rattle.std.specs.List.Sorted.{IsSorted, IsSortedByKey, IsSortedByClosure}
 use Rattle.std.specs.Ordering.{is_lt, ordering_then}
-use Rattle.std.proofs.lemmas.Bool.Decides.{nat_tests}
 use Rattle.std.proofs.lemmas.Cmp.{nat_cmp_total, on_total, then_total}
 use Rattle.std.proofs.lemmas.Fn.{always_returns_same}
 use Rattle.std.proofs.lemmas.List.Sorted.{ranks_by}
-use Rattle.std.proofs.Math.Seq.{drop-append_seam, take-add}
+use Rattle.std.proofs.Math.Seq.{take-add}
 use Rattle.std.proofs.lemmas.Grind.{common_steps}
 use Rattle.std.proofs.lemmas.List.{append_assoc, get_or-map, length-append, length-map, map-append}
 use Rattle.std.proofs.lemmas.List.Elements.{All-nil, All-cons, All-push, All-head, All-tail}
 use Rattle.gq_row.specs.declared.value.Value.{Value}
-use Rattle.gq_row.specs.Lists.{part, IsPart, row_at}
+use Rattle.gq_cells.specs.Lists.{part, IsPart, row_at}
 use Rattle.gq_row.specs.Order.{compare_keys}
 use Rattle.gq_row.proofs.OrderLemmas.{keys_total}
-use Rattle.gq_row.proofs.RowsLemmas.{part_kept, last_part}
+use Rattle.gq_cells.proofs.RowsLemmas.{part_kept, last_part}
 use Rattle.gq_group.specs.Groups.{Group}
 use Rattle.gq_query.specs.declared.front.Front.{Front}
 use Rattle.gq_query.specs.declared.group_list.GroupSpan.{GroupSpan}
 use Rattle.gq_query.specs.Fronts.{IsFrontOf}
-use Rattle.gq_query.specs.GroupSpans.{IsGroupAt, IsLonger, IsSpan, group_at, key_in, compare_at, middle_of, end_of}
+use Rattle.gq_query.specs.GroupSpans.{IsGroupAt, IsSpan, group_at, compare_at, middle_of, end_of}
 use Rattle.gq_query.specs.Joining.{row_of}
 use Rattle.gq_query.proofs.FrontLemmas.{compare_fronts, told}
 
@@ -46,16 +44,13 @@ groups_kept xs ys (s ∷ spans) h =
     λ i. (part_kept xs ys s.start (middle_of s) (omega arith) (omega (arith, first.within)) i, part_kept xs ys (middle_of s) (end_of s) (omega arith) first.within i)
     ∷ groups_kept xs ys spans (All-tail (IsGroupAt xs) s spans h) i
 
--- a list that is longer has the same groups
-pub kept_on : (old new : List Value) (spans now : List GroupSpan) → IsLonger old new → now ≡ spans → All (IsGroupAt old) spans → All (IsGroupAt new) now
-kept_on old new spans now longer same h =
-    subst (All (IsGroupAt new)) (sym same) (subst (λ l. All (IsGroupAt l) spans) (sym longer) (all_kept old (drop (length old) new) spans h))
-
-pub longer_by : (old more new : List Value) → new ≡ old ++ more → IsLonger old new
-longer_by old more new is = is ∙ ap (λ l. old ++ l) (sym (drop-append_seam old more) ∙ ap (drop (length old)) (sym is))
+-- behind what is put there stand the same groups
+pub kept_on : (old new more : List Value) (spans now : List GroupSpan) → new ≡ old ++ more → now ≡ spans → All (IsGroupAt old) spans → All (IsGroupAt new) now
+kept_on old new more spans now longer same h =
+    subst (All (IsGroupAt new)) (sym same) (subst (λ l. All (IsGroupAt l) spans) (sym longer) (all_kept old more spans h))
 
 -- the cells of a group stand behind those of the others
-pub record IsNext (xs key values cells : List Value) (s : GroupSpan) : Type 0 where
+record IsNext (xs key values cells : List Value) (s : GroupSpan) : Type 0 where
   pub start : s.start ≡ length xs
   pub keyed : s.key ≡ length key
   pub valued : s.values ≡ length values
@@ -63,7 +58,7 @@ pub record IsNext (xs key values cells : List Value) (s : GroupSpan) : Type 0 wh
   pub fronted : IsFrontOf key s.front
 
 -- a span of so many cells as the key and the values have
-pub next_by : (xs key values cells : List Value) (front : Front) (s : GroupSpan) → IsSpan front (length xs) (length key) (length values) s → IsFrontOf key front → cells ≡ (xs ++ key) ++ values
+next_by : (xs key values cells : List Value) (front : Front) (s : GroupSpan) → IsSpan front (length xs) (length key) (length values) s → IsFrontOf key front → cells ≡ (xs ++ key) ++ values
     → IsNext xs key values cells s
 next_by xs key values cells front s span fronted whole = record {
   start = span.begins;
@@ -84,7 +79,7 @@ key_next xs key values cells s next =
     let high = middle_next xs key values cells s next in
     part_kept (xs ++ key) values s.start (middle_of s) (omega arith) (omega (arith, high)) ∙ last_part xs key s.start (middle_of s) next.start high
 
-pub group_pushed : (xs key values cells : List Value) (spans : List GroupSpan) (s : GroupSpan) → IsNext xs key values cells s → All (IsGroupAt xs) spans
+group_pushed : (xs key values cells : List Value) (spans : List GroupSpan) (s : GroupSpan) → IsNext xs key values cells s → All (IsGroupAt xs) spans
     → map (group_at cells) (spans ++ s ∷ []) ≡ map (group_at xs) spans ++ (key, values) ∷ []
 group_pushed xs key values cells spans s next h =
     (λ i. map (group_at (next.whole i)) (spans ++ s ∷ []))
@@ -92,7 +87,7 @@ group_pushed xs key values cells spans s next h =
     ∙ (λ i. (map (group_at (append_assoc xs key values i)) spans) ++ (key_next xs key values cells s next i, last_part (xs ++ key) values (middle_of s) (end_of s) (middle_next xs key values cells s next) (end_next xs key values cells s next) i) ∷ [])
     ∙ (λ i. groups_kept xs (key ++ values) spans h i ++ (key, values) ∷ [])
 
-pub span_pushed : (xs key values cells : List Value) (spans : List GroupSpan) (s : GroupSpan) → IsNext xs key values cells s → All (IsGroupAt xs) spans
+span_pushed : (xs key values cells : List Value) (spans : List GroupSpan) (s : GroupSpan) → IsNext xs key values cells s → All (IsGroupAt xs) spans
     → All (IsGroupAt cells) (spans ++ s ∷ [])
 span_pushed xs key values cells spans s next h =
     let others : All (IsGroupAt ((xs ++ key) ++ values)) spans = subst (λ l. All (IsGroupAt l) spans) (sym (append_assoc xs key values)) (all_kept xs (key ++ values) spans h) in
@@ -102,12 +97,23 @@ span_pushed xs key values cells spans s next h =
     } in
     subst (λ l. All (IsGroupAt l) (spans ++ s ∷ [])) (sym next.whole) (All-push (IsGroupAt ((xs ++ key) ++ values)) spans s others one)
 
+-- a group more, in a list behind whose cells its own were put
+module _ (xs key values cells : List Value) (front : Front) (s : GroupSpan) (spans now : List GroupSpan) (whole : cells ≡ (xs ++ key) ++ values) (h : All (IsGroupAt xs) spans) where
+  pub put_groups : IsSpan front (length xs) (length key) (length values) s → IsFrontOf key front → now ≡ spans ++ s ∷ [] → All (IsGroupAt cells) now
+  put_groups span fronted is = subst (All (IsGroupAt cells)) (sym is) (span_pushed xs key values cells spans s (next_by xs key values cells front s span fronted whole) h)
+
+  pub put_is : IsSpan front (length xs) (length key) (length values) s → IsFrontOf key front → now ≡ spans ++ s ∷ [] → map (group_at cells) now ≡ map (group_at xs) spans ++ (key, values) ∷ []
+  put_is span fronted is = ap (map (group_at cells)) is ∙ group_pushed xs key values cells spans s (next_by xs key values cells front s span fronted whole) h
+
+  pub not_put : now ≡ spans → All (IsGroupAt cells) now
+  not_put same = kept_on xs cells (key ++ values) spans now (whole ∙ append_assoc xs key values) same h
+
 -- ---- their order
 
 spans_total : (cells : List Value) → IsTotalOrder (compare_at cells)
 spans_total cells =
     then_total (on_total (λ (s : GroupSpan). s.front) (then_total (on_total (λ (f : Front). f.high) nat_cmp_total) (on_total (λ (f : Front). f.low) nat_cmp_total)))
-    (on_total (key_in cells) keys_total)
+    (on_total (λ (s : GroupSpan). part cells s.start (middle_of s)) keys_total)
 
 -- what a sort by a closure that compares spans ensures
 pub sorted_at : {F : Type 0} {g : Mut F (Bor GroupSpan × (Bor GroupSpan × Unit {0})) Ordering} {f : F} (cells : List Value) (spans : List GroupSpan) → IsSortedByClosure g f spans
@@ -116,18 +122,10 @@ sorted_at {g = g} {f = f} cells spans up h =
     up (λ x y. is_lt (compare_at cells x y)) (ranks_by (spans_total cells) (λ s. s))
     (always_returns_same g (λ a r. is_lt r ≡ is_lt (compare_at cells a.0.now a.1.0.now)) f (λ a r f' k. (ap is_lt (h a r f' k).0, (h a r f' k).1)))
 
-pub key_there : (cells : List Value) (s : GroupSpan) → IsGroupAt cells s → key_in cells s ≡ part cells s.start (middle_of s)
-key_there cells s h =
-    let within : middle_of s ≤ length cells = omega (arith, h.within) in
-    let high : nat_le (middle_of s) (length cells) ≡ true = grind (arith, nat_tests, within) in
-    λ i. if high i then part cells s.start (middle_of s) else []
-
 -- so they are in the order of the keys
 order_is : (cells : List Value) (a b : GroupSpan) → IsGroupAt cells a → IsGroupAt cells b
     → compare_at cells a b ≡ compare_keys (part cells a.start (middle_of a)) (part cells b.start (middle_of b))
-order_is cells a b p q =
-    (λ i. ordering_then (compare_fronts a.front b.front) (compare_keys (key_there cells a p i) (key_there cells b q i)))
-    ∙ decided (compare_fronts a.front b.front) refl
+order_is cells a b p q = decided (compare_fronts a.front b.front) refl
   where
     decided : (o : Ordering) → o ≡ compare_fronts a.front b.front → ordering_then o (compare_keys (part cells a.start (middle_of a)) (part cells b.start (middle_of b))) ≡ compare_keys (part cells a.start (middle_of a)) (part cells b.start (middle_of b))
     decided Equal e = refl

@@ -1,10 +1,14 @@
 -- Rows that are kept move to the front, one after the other.
-use Rattle.std.proofs.Common.{◌≡◌, ◌<◌, ◌≤◌, ◌+◌, ℕ, Bool, true, false, cond, List, [], ◌∷◌, ◌++◌, length, take, drop, get_or, set, filter, append-nil, sym, ap, subst, ◌∙◌, ◌⊎◌, inl, inr, arith}
+use Rattle.std.proofs.Common.{◌≡◌, ◌<◌, ◌≤◌, ◌+◌, ◌==◌, ℕ, Bool, true, false, cond, List, [], ◌∷◌, ◌++◌, length, take, drop, get_or, set, filter, append-nil, refl, sym, ap, subst, ◌∙◌, ◌⊎◌, inl, inr, arith}
 use Rattle.std.specs.List.{swap}
 use Rattle.std.proofs.Math.Nat.{eq-or-lt_of_le}
+use Rattle.std.proofs.lemmas.Bool.Decides.{nat_tests}
 use Rattle.std.proofs.lemmas.List.{drop-drop, drop-set-lt, get_or-drop, length-set, take-set, take-set-le, take_more, take_more_set}
 use Rattle.std.proofs.lemmas.List.Edits.{length-swap, swap_is}
 use Rattle.std.proofs.lemmas.List.Elements.{filter-append}
+use Rattle.gq_row.specs.declared.value.Value.{Value}
+use Rattle.gq_select.specs.declared.condition.Test.{Test}
+use Rattle.gq_select.specs.Truths.{keeps}
 
 -- of the first so many rows those that are kept stand in front, and the others stand where they stood
 pub record AreKept {X : Type 0} (p : X → Bool) (all now : List X) (i kept : ℕ) : Type 0 where
@@ -65,3 +69,13 @@ module _ {X : Type 0} (p : X → Bool) (all now : List X) (i kept : ℕ) (d : X)
     few = omega (arith, h.few);
     long = length-swap now kept i ∙ h.long;
   }
+
+-- ---- where nothing is asked
+
+pub all_kept : (rows : List (List Value)) → filter (keeps []) rows ≡ rows
+all_kept [] = refl
+all_kept (row ∷ rows) = ap (λ l. row ∷ l) (all_kept rows)
+
+pub none_asked : (tests : List Test) (rows : List (List Value)) → (length tests == 0) ≡ true → rows ≡ filter (keeps tests) rows
+none_asked [] rows none = sym (all_kept rows)
+none_asked (test ∷ tests) rows none = let zero : length (test ∷ tests) ≡ 0 = grind (arith, nat_tests) in absurd (omega (arith, zero))

@@ -1,10 +1,10 @@
 -- Groups that are sorted, and counts that join them.
-use Rattle.std.proofs.Common.{◌≡◌, ◌<◌, ◌+◌, ℕ, zero, suc, Bool, true, false, ◌||◌, List, [], ◌∷◌, ◌++◌, length, map, take, drop, get_or, All, refl, sym, ap, subst, ◌∙◌, arith, Option, Some, None, IsTrue, slice_index_or}
+use Rattle.std.proofs.Common.{◌≡◌, ◌<◌, ◌+◌, ℕ, zero, suc, Bool, true, false, ◌||◌, List, [], ◌∷◌, ◌++◌, length, map, min, take, drop, get_or, All, refl, sym, ap, subst, ◌∙◌, arith, Option, Some, None, IsTrue, slice_index_or}
 use Rattle.std.specs.Prelude.{IsPermutation, insert, nat_lt, option_map, option_and_then}
 use Rattle.std.specs.List.{list_any, list_all}
 use Rattle.std.specs.List.Sorted.{IsSortedByKey}
 use Rattle.std.proofs.lemmas.Bool.{false≢true, and_parts, and_from, ltb-true}
-use Rattle.std.proofs.lemmas.List.{get_or-map, length-map}
+use Rattle.std.proofs.lemmas.List.{drop_min, get_or-map, length-map, take_min}
 use Rattle.std.proofs.lemmas.List.Elements.{All-nil, All-cons, All-head, All-tail}
 use Rattle.std.proofs.lemmas.List.Sorted.{All-permutation, IsPermutation-map, IsPermutation-trans, list_any-IsPermutation}
 use Rattle.gq_row.specs.declared.value.Value.{Value}
@@ -187,6 +187,10 @@ joined_more place gs cs i d e less there = rw (one_more) (each gs cs i less ther
     each (g ∷ gs) [] i less there = absurd (omega (arith, there))
     each (g ∷ gs) (c ∷ cs) zero less there = refl
     each (g ∷ gs) (c ∷ cs) (suc i) less there = ap (λ l. (g.0, insert g.1 place (first_of c)) ∷ l) (each gs cs i (omega (arith, less)) (omega (arith, there)))
+
+-- past all values a count stands behind them
+pub inserted_within : {X : Type 0} (xs : List X) (place : ℕ) (x : X) → insert xs (min place (length xs)) x ≡ insert xs place x
+inserted_within xs place x = λ i. take_min place xs i ++ x ∷ drop_min place xs i
 
 -- ---- the answer
 

@@ -12,9 +12,9 @@ use Rattle.std.proofs.lemmas.List.Sorted.{ranks_by}
 use Rattle.std.proofs.lemmas.Fn.{always_returns_same}
 use Rattle.std.proofs.lemmas.Bool.Decides.{nat_tests}
 use Rattle.std.proofs.lemmas.List.Elements.{All-head, All-tail}
-use Rattle.gq_row.specs.declared.rows.Span.{Span}
+use Rattle.gq_cells.specs.declared.rows.Span.{Span}
 use Rattle.gq_row.specs.declared.value.Value.{Value}
-use Rattle.gq_row.specs.Lists.{part, IsPart, row_at}
+use Rattle.gq_cells.specs.Lists.{part, IsPart, row_at}
 use Rattle.gq_row.specs.Laws.{IsArranged}
 use Rattle.gq_row.specs.Order.{compare_keys, folded_order, plain_order}
 use Rattle.gq_row.specs.Ordered.{in_order}

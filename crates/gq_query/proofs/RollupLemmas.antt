@@ -14,6 +14,7 @@ use Rattle.gq_select.specs.Asking.{all_of}
 use Rattle.gq_select.specs.declared.condition.Test.{Test}
 use Rattle.gq_select.specs.declared.shown.Shown.{Shown}
 use Rattle.gq_select.specs.Truths.{keeps}
+use Rattle.gq_query.proofs.HavingLemmas.{all_kept}
 use Rattle.gq_query.specs.Answers.{answer, result_row, shown_key, shown_value}
 use Rattle.gq_query.specs.Laws.{RollsUp, without_level}
 use Rattle.gq_query.specs.Rollups.{filled, grouping_sets, level_rows, levels, rows_of_levels}
@@ -99,10 +100,6 @@ module _ (honest : Bool) (budget : ℕ) (by : List ℕ) (rows : Rows) (before : 
 
 -- ---- a level beside the `group` by its columns
 
-keeps_all : (xs : Rows) → filter (keeps []) xs ≡ xs
-keeps_all [] = refl
-keeps_all (x ∷ xs) = ap (λ l. x ∷ l) (keeps_all xs)
-
 key_length : (by : List ℕ) (rows : Rows) → length (shown_key by rows) ≡ length by
 key_length [] rows = refl
 key_length (c ∷ by) rows = ap suc (key_length by rows)
@@ -140,7 +137,7 @@ level_alone by shown rows level within = unnumbered (answer (take level by) show
 
     unnumbered : (o : Option Rows) → option_map (map (without_level level (length by))) (option_map (λ found. map (λ row. Int (pos level) ∷ row) (filter (keeps []) (map (filled level (length by)) found))) o) ≡ option_map (map again) o
     unnumbered None = refl
-    unnumbered (Some found) = ap (λ l. Some (map (without_level level (length by)) (map (λ row. Int (pos level) ∷ row) l))) (keeps_all (map (filled level (length by)) found)) ∙ ap Some (mapped found)
+    unnumbered (Some found) = ap (λ l. Some (map (without_level level (length by)) (map (λ row. Int (pos level) ∷ row) l))) (all_kept (map (filled level (length by)) found)) ∙ ap Some (mapped found)
 
     one : (key : List Value) → option_map again (told key) ≡ told key
     one key = by-values (all_of (map (λ s. shown_value s (of_key (take level by) rows key)) shown))

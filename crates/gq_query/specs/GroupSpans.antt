@@ -1,18 +1,14 @@
 -- Groups in one list of cells.
-use Rattle.std.specs.Prelude.{◌≡◌, ◌≤◌, ◌+◌, ◌++◌, ℕ, List, [], length, drop, nat_le, if◌then◌else◌}
+use Rattle.std.specs.Prelude.{◌≡◌, ◌≤◌, ◌+◌, ℕ, List, length}
 use Rattle.std.specs.Ordering.{nat_cmp, ordering_then}
 use Rattle.std.specs.declared.cmp.Ordering.{Ordering}
 use Rattle.gq_row.specs.declared.value.Value.{Value}
-use Rattle.gq_row.specs.Lists.{part}
+use Rattle.gq_cells.specs.Lists.{part}
 use Rattle.gq_row.specs.Order.{compare_keys}
 use Rattle.gq_group.specs.Groups.{Group}
 use Rattle.gq_query.specs.declared.front.Front.{Front}
 use Rattle.gq_query.specs.declared.group_list.GroupSpan.{GroupSpan}
 use Rattle.gq_query.specs.Fronts.{IsFrontOf}
-
--- a list that begins with another
-abbrev pub IsLonger : List Value → List Value → Type 0
-IsLonger old new = new ≡ old ++ drop (length old) new
 
 -- where the key of a span ends
 abbrev pub middle_of : GroupSpan → ℕ
@@ -38,10 +34,6 @@ pub record IsGroupAt (cells : List Value) (span : GroupSpan) : Type 0 where
   pub within : end_of span ≤ length cells
   pub fronted : IsFrontOf (part cells span.start (middle_of span)) span.front
 
--- the key that stands at a span, or none where it does not lie within the list
-abbrev pub key_in : List Value → GroupSpan → List Value
-key_in cells span = if nat_le (middle_of span) (length cells) then part cells span.start (middle_of span) else []
-
--- spans are compared by the two words of their fronts, and by their keys where these tie
+-- spans are compared by the two words of their fronts, and by the keys that stand there where these tie
 abbrev pub compare_at : List Value → GroupSpan → GroupSpan → Ordering
-compare_at cells a b = ordering_then (ordering_then (nat_cmp a.front.high b.front.high) (nat_cmp a.front.low b.front.low)) (compare_keys (key_in cells a) (key_in cells b))
+compare_at cells a b = ordering_then (ordering_then (nat_cmp a.front.high b.front.high) (nat_cmp a.front.low b.front.low)) (compare_keys (part cells a.start (middle_of a)) (part cells b.start (middle_of b)))

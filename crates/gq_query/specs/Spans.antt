@@ -1,8 +1,8 @@
 -- Rows that stand at spans of a list of cells.
 use Rattle.std.specs.Prelude.{List, [], length, nat_le, ◌&&◌, if◌then◌else◌}
-use Rattle.gq_row.specs.declared.rows.Span.{Span}
+use Rattle.gq_cells.specs.declared.rows.Span.{Span}
 use Rattle.gq_row.specs.declared.value.Value.{Value}
-use Rattle.gq_row.specs.Lists.{part}
+use Rattle.gq_cells.specs.Lists.{part}
 
 -- the row that stands at a span, or none where the span does not lie within the list
 abbrev pub row_in : List Value → Span → List Value

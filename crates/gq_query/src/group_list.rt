@@ -2,16 +2,18 @@
 //!
 //! The cells of all groups stand in one list, those of a group one behind the other: its key, and then
 //! what is shown of its rows. What sorts groups moves where they stand, and no cell.
-ghost use Rattle.std.specs.Prelude.{◌≡◌, ◌<◌, ◌^◌, ◌++◌, ◌∷◌, [], IfOk, IsOk, IsPermutation, OnOk, length, map, slice_index_or};
+ghost use Rattle.std.specs.Prelude.{◌≡◌, ◌<◌, ◌^◌, ◌++◌, ◌∷◌, [], IfOk, IsOk, IsPermutation, OnOk, drop, length, slice_index_or, map};
 ghost use Rattle.std.specs.List.Sorted.{IsSortedByKey};
 ghost use Rattle.gq_row.specs.Order.{compare_keys};
+ghost use Rattle.gq_cells.specs.Lists.{IsPart, part, row_at};
 ghost use Rattle.gq_group.specs.Groups.{Group};
-ghost use Rattle.gq_query.specs.GroupSpans.{IsLonger, IsSpan, compare_at, end_of, key_in, middle_of};
+ghost use Rattle.gq_query.specs.GroupSpans.{IsSpan, compare_at, end_of, middle_of};
 ghost use Rattle.gq_query.specs.Joining.{row_of};
 
 use crate::front::{Front, front_in};
+use gq_cells::{Cells, Rows, Span};
 use gq_group::{GroupSink, Refusal};
-use gq_row::{Key, Rows, Span, Value, compare_cells};
+use gq_row::{Key, Value};
 use gq_spill::RunStore;
 use std::alloc::{AllocError, Global};
 use std::cmp::Ordering;
@@ -28,7 +30,7 @@ pub struct GroupSpan {
 }
 
 impl GroupSpan {
-    // A group in a list of 2^32 cells, which take 128 GiB, and one of 2^16 cells count as too large for memory.
+    // A group in a list of 2^32 cells, which take 32 GiB or more, and one of 2^16 cells count as too large for memory.
     #[inline]
     fn new(front: Front, start: usize, key: usize, values: usize) -> Result<GroupSpan, AllocError>
         ensures made { IfOk result (IsSpan front start key values) }
@@ -78,7 +80,8 @@ impl GroupSpan {
 /// have it.
 #[derive(Drop)]
 pub struct GroupList {
-    cells: Vec<Value>,
+    alloc: Global,
+    cells: Cells,
     groups: Vec<GroupSpan>,
     // For how many groups room for cells is to be made with the next.
     expected: usize,
@@ -91,9 +94,9 @@ impl Model for GroupList {
 
     ghost Value = { List Group };
 
-    ghost view = { λ s. map (group_at s.cells.items) s.groups.items };
+    ghost view = { λ s. map (group_at s.cells) s.groups.items };
 
-    ghost invariant = { λ s. All (IsGroupAt s.cells.items) s.groups.items };
+    ghost invariant = { λ s. All (IsGroupAt s.cells) s.groups.items };
 }
 
 impl GroupList {
@@ -102,7 +105,8 @@ impl GroupList {
         ensures { result ≡ [] }
     {
         GroupList {
-            cells: Vec::new(alloc),
+            alloc,
+            cells: Cells::new(alloc),
             groups: Vec::new(alloc),
             expected: 0,
         }
@@ -115,12 +119,13 @@ impl GroupList {
         self.groups.len()
     }
 
-    // Makes room for the cells of all groups that are expected, where they are as many of each as of
-    // the next. Where there is no memory for that, the list grows as groups come.
-    fn make_room(&mut self, width: usize)
+    // Makes room for the cells of all groups that are expected, where they are as many of each as those that
+    // stand from a position on. Where there is no memory for that, the list grows as groups come.
+    fn make_room(&mut self, start: usize)
         ensures { self.new ≡ self.old }
     {
         if self.expected > 0 {
+            let width = self.cells.len().saturating_sub(start);
             let _ = self.cells.reserve(self.expected.saturating_mul(width));
             self.expected = 0;
         }
@@ -131,50 +136,57 @@ impl GroupList {
     fn add(&mut self, key: Key, values: &mut Vec<Value>) -> Result<(), AllocError>
         ensures { OnOk result (self.new ≡ self.old ++ (key, values.old.items) ∷ []) }
     {
-        self.make_room(key.len() + values.len());
         let front = front_in(&[], key.cells());
-        let span = GroupSpan::new(front, self.cells.len(), key.len(), values.len())?;
-        key.move_to(&mut self.cells)?;
-        self.cells.append(values)?;
+        let start = self.cells.len();
+        let span = GroupSpan::new(front, start, key.len(), values.len())?;
+        put_key(self.alloc, &mut self.cells, key)?;
+        self.cells.push_all(self.alloc, values.as_mut_slice())?;
         self.groups.push(span)?;
+        self.make_room(start);
         Ok(())
     }
 
-    /// The values of the key of a group.
-    pub fn key(&self, group: usize) -> &[Value]
-        requires { group < length self.now }
-        ensures { result.now ≡ (slice_index_or self.now group ([], [])).0 }
-    {
-        let span = self.groups[group];
-        &self.cells[span.start()..span.middle()]
-    }
-
-    /// What is shown of a group.
-    pub fn values(&self, group: usize) -> &[Value]
-        requires { group < length self.now }
-        ensures { result.now ≡ (slice_index_or self.now group ([], [])).1 }
-    {
-        let span = self.groups[group];
-        &self.cells[span.middle()..span.end()]
-    }
-
-    /// Puts the group of a key behind the others, of which the key is a copy. The values move out of
-    /// the list that is lent.
-    pub fn add_copy(
+    /// Puts a group behind the others. Its key and its values move out of the lists that are lent, and what is left there is
+    /// of no value.
+    pub fn push_group(
         &mut self,
-        alloc: Global,
-        key: &[Value],
+        key: &mut Vec<Value>,
         values: &mut Vec<Value>,
     ) -> Result<(), AllocError>
-        ensures added { OnOk result (self.new ≡ self.old ++ (key.now, values.old.items) ∷ []) }
-        ensures moved { OnOk result (values.new.items ≡ []) }
+        ensures { OnOk result (self.new ≡ self.old ++ (key.old.items, values.old.items) ∷ []) }
     {
-        let front = front_in(&[], key);
+        let front = front_in(&[], key.as_slice());
         let span = GroupSpan::new(front, self.cells.len(), key.len(), values.len())?;
-        copy_cells(alloc, &mut self.cells, key)?;
-        self.cells.append(values)?;
+        self.cells.push_all(self.alloc, key.as_mut_slice())?;
+        self.cells.push_all(self.alloc, values.as_mut_slice())?;
         self.groups.push(span)?;
         Ok(())
+    }
+
+    /// Writes the values of the key of a group over those of a list.
+    pub fn copy_key(&self, group: usize, key: &mut Vec<Value>) -> Result<(), AllocError>
+        requires { group < length self.now }
+        ensures { OnOk result (key.new.items ≡ (slice_index_or self.now group ([], [])).0) }
+    {
+        let group = self.groups[group];
+        let span = Span {
+            start: group.start(),
+            end: group.middle(),
+        };
+        self.cells.copy_part(self.alloc, span, key)
+    }
+
+    /// Writes what is shown of a group over the values of a list.
+    pub fn copy_values(&self, group: usize, values: &mut Vec<Value>) -> Result<(), AllocError>
+        requires { group < length self.now }
+        ensures { OnOk result (values.new.items ≡ (slice_index_or self.now group ([], [])).1) }
+    {
+        let group = self.groups[group];
+        let span = Span {
+            start: group.middle(),
+            end: group.end(),
+        };
+        self.cells.copy_part(self.alloc, span, values)
     }
 
     /// Sorts the groups by their keys: by the fronts of these first, and by whole keys where fronts tie.
@@ -182,7 +194,7 @@ impl GroupList {
         ensures moved { IsPermutation self.old self.new }
         ensures ascending { IsSortedByKey (λ (g : Group). g.0) compare_keys self.new }
     {
-        let cells = self.cells.as_slice();
+        let cells = &self.cells;
         self.groups
             .sort_unstable_by(|a, b| compare_spans(cells, a, b));
     }
@@ -216,14 +228,26 @@ impl GroupList {
     }
 }
 
+// Puts the values of a key behind others. They move.
+#[inline(always)]
+fn put_key(alloc: Global, cells: &mut Cells, key: Key) -> Result<(), AllocError>
+    ensures put { OnOk result (cells.new ≡ cells.old ++ key) }
+    ensures kept { cells.new ≡ cells.old ++ drop (length cells.old) cells.new }
+{
+    let mut key = key;
+    for i in 0..key.len() {
+        cells.push(alloc, &mut key.take(i))?;
+    }
+    Ok(())
+}
+
 // Puts copies of values behind others.
 pub(crate) fn copy_cells(
     alloc: Global,
     cells: &mut Vec<Value>,
     values: &[Value],
 ) -> Result<(), AllocError>
-    ensures copied { OnOk result (cells.new.items ≡ cells.old.items ++ values.now) }
-    ensures kept { IsLonger cells.old.items cells.new.items }
+    ensures { OnOk result (cells.new.items ≡ cells.old.items ++ values.now) }
 {
     for value in values {
         cells.push(value.copy(alloc)?)?;
@@ -231,27 +255,37 @@ pub(crate) fn copy_cells(
     Ok(())
 }
 
-// The key that stands at a span, or none where the span is not of this list.
+// Where the key of a group stands, as far as that is within a list.
 #[inline]
-fn key_in<'a>(cells: &'a [Value], span: &GroupSpan) -> &'a [Value]
-    ensures { result.now ≡ key_in cells.now span.now }
+fn key_within(cells: &Cells, group: &GroupSpan) -> Span
+    ensures within { IsPart cells.now result }
+    ensures key { row_at cells.now result ≡ part cells.now group.now.start (middle_of group.now) }
 {
-    if span.middle() <= cells.len() {
-        &cells[span.start()..span.middle()]
-    } else {
-        &[]
+    let len = cells.len();
+    Span {
+        start: group.start().min(len),
+        end: group.middle().min(len),
     }
 }
 
 // The order of the keys that stand at two spans.
 #[inline]
-fn compare_spans(cells: &[Value], a: &GroupSpan, b: &GroupSpan) -> Ordering
+fn compare_spans(cells: &Cells, a: &GroupSpan, b: &GroupSpan) -> Ordering
     ensures { result ≡ compare_at cells.now a.now b.now }
 {
     match a.front.cmp(&b.front) {
-        Ordering::Equal => compare_cells(key_in(cells, a), key_in(cells, b)),
+        Ordering::Equal => compare_keys_at(cells, a, b),
         told => told,
     }
+}
+
+// The same where fronts tie. Stands by itself, so that the sort's loops are short.
+#[inline(never)]
+fn compare_keys_at(cells: &Cells, a: &GroupSpan, b: &GroupSpan) -> Ordering
+    ensures { result ≡ compare_keys (part cells.now a.now.start (middle_of a.now))
+        (part cells.now b.now.start (middle_of b.now)) }
+{
+    cells.compare(key_within(cells, a), key_within(cells, b))
 }
 
 impl<S: RunStore> GroupSink<S> for GroupList {

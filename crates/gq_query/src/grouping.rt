@@ -14,16 +14,18 @@ ghost use Rattle.gq_query.specs.Selecting.{other_columns, rows_selected};
 ghost use Rattle.gq_query.specs.Work.{IsSpentOn, RisesBy};
 
 use crate::cells::aggs_of;
-use crate::group_list::{GroupList, copy_cells};
+use crate::group_list::GroupList;
 use crate::kept::Kept;
 use crate::query::Query;
 use crate::selection::{Selection, other_keys};
 use crate::spending::both_spent;
+use gq_cells::Rows;
 use gq_group::{Budget, Refusal, Spent};
-use gq_row::{Key, Rows, Value};
+use gq_row::{Key, Value};
 use gq_select::{Condition, Shown, having};
 use gq_spill::RunStore;
 use std::alloc::{AllocError, Global};
+use std::mem::replace;
 use sw_probe::KeyHash;
 
 /// By which columns rows are grouped, what is shown of each group, and which result rows are kept:
@@ -177,7 +179,9 @@ impl<'a, H: KeyHash<Key> + Copy> Query<'a, H> {
             return self.rollup(grouping.shown, grouping.having, store, spent);
         }
         let (rows, work) = self.rows(grouping.shown, store)?;
-        let rows = rows_having(rows, grouping.having);
+        let Ok(rows) = rows_having(self.alloc, rows, grouping.having) else {
+            return Err(Refusal::Memory);
+        };
         Ok((rows, both_spent(spent, work)))
     }
 }
@@ -193,56 +197,50 @@ fn join_counts(
     ensures { IfOk result (λ all. all ≡ joined place groups.now counts.now) }
 {
     let mut all = GroupList::new(alloc);
+    let mut key = Vec::new(alloc);
     let mut values = Vec::new(alloc);
+    let mut count = Vec::new(alloc);
     for i in 0..counts.len() {
-        values.clear();
-        write_joined(
-            alloc,
-            &mut values,
-            groups.values(i),
-            place,
-            counts.values(i),
-        )?;
-        all.add_copy(alloc, groups.key(i), &mut values)?;
+        groups.copy_key(i, &mut key)?;
+        groups.copy_values(i, &mut values)?;
+        counts.copy_values(i, &mut count)?;
+        let place = place.min(values.len());
+        values.insert(place, take_first(&mut count))?;
+        all.push_group(&mut key, &mut values)?;
     }
     Ok(all)
 }
 
-// Writes copies of the values of a group behind others, with the one value of a count, or null where it
-// has none, at a place among them, or behind all where there are no more than that.
-fn write_joined(
-    alloc: Global,
-    into: &mut Vec<Value>,
-    values: &[Value],
-    place: usize,
-    count: &[Value],
-) -> Result<(), AllocError>
-    ensures { OnOk result (into.new.items ≡
-        into.old.items ++ insert values.now place (slice_index_or count.now 0 Null)) }
+// Takes the first of some values out, or null where there is none.
+fn take_first(values: &mut Vec<Value>) -> Value
+    ensures { result ≡ slice_index_or values.old.items 0 Null }
 {
-    let (before, behind) = values.split_at(place.min(values.len()));
-    copy_cells(alloc, into, before)?;
-    match count.first() {
-        Some(value) => into.push(value.copy(alloc)?)?,
-        None => into.push(Value::Null)?,
+    if values.is_empty() {
+        Value::Null
+    } else {
+        replace(&mut values[0], Value::Null)
     }
-    copy_cells(alloc, into, behind)
 }
 
 // The rows for which a condition is true.
-fn rows_having(rows: Rows, condition: &Condition) -> Rows
-    ensures { result ≡ filter (keeps condition.now.tests) rows }
+fn rows_having(alloc: Global, rows: Rows, condition: &Condition) -> Result<Rows, AllocError>
+    ensures { IfOk result (λ kept. kept ≡ filter (keeps condition.now.tests) rows) }
 {
     let mut rows = rows;
+    if condition.tests.as_slice().is_empty() {
+        return Ok(rows);
+    }
+    let mut row = Vec::new(alloc);
     let mut kept = 0;
     for i in 0..rows.len() {
-        if having(condition, rows.row(i)) {
+        rows.copy_row(alloc, i, &mut row)?;
+        if having(condition, row.as_slice()) {
             rows.swap(kept, i);
             kept += 1;
         }
     }
     rows.truncate(kept);
-    rows
+    Ok(rows)
 }
 
 /// The result rows of a `group`: one for each different key that the rows that are selected have in

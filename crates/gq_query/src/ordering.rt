@@ -12,17 +12,19 @@ ghost use Rattle.gq_query.specs.Answers.{ordered_by};
 ghost use Rattle.gq_query.specs.Spans.{row_in};
 
 use crate::front::front_in;
-use gq_row::{Rows, Span, Value, compare_cells, compare_folded};
-use std::alloc::AllocError;
+use gq_cells::{Cells, Rows, Span};
+use gq_row::{Value, compare_cells, compare_folded};
+use std::alloc::{AllocError, Global};
 use std::cmp::Ordering;
 
 /// The same rows by their keys in some columns, or by all of their values where none are named.
-pub fn sort_rows(rows: Rows, columns: &[usize]) -> Result<Rows, AllocError>
+pub fn sort_rows(alloc: Global, rows: Rows, columns: &[usize]) -> Result<Rows, AllocError>
     ensures { IfOk result (IsArranged (ordered_by columns.now) rows) }
 {
     let (cells, mut spans) = rows.into_parts();
+    let cells = cells.into_values(alloc)?;
     sort_spans(cells.as_slice(), &mut spans, columns)?;
-    Ok(Rows::of(cells, spans))
+    Ok(Rows::of(Cells::of(cells), spans))
 }
 
 // Sorts where rows stand likewise.

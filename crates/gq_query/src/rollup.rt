@@ -17,8 +17,9 @@ ghost use Rattle.gq_query.specs.Work.{IsSpentOn, RisesBy};
 use crate::group_list::copy_cells;
 use crate::query::Query;
 use crate::spending::both_spent;
+use gq_cells::Rows;
 use gq_group::{Refusal, Spent};
-use gq_row::{Key, Rows, Value};
+use gq_row::{Key, Value};
 use gq_select::{Condition, Shown, having};
 use gq_spill::RunStore;
 use std::alloc::{AllocError, Global};
@@ -62,13 +63,15 @@ fn rows_leveled(
         return Err(AllocError);
     };
     let mut kept = Rows::new(alloc);
+    let mut row = Vec::new(alloc);
     let mut cells = Vec::new(alloc);
     for i in 0..rows.len() {
+        rows.copy_row(alloc, i, &mut row)?;
         cells.clear();
         cells.push(Value::Int(number))?;
-        write_filled(alloc, &mut cells, rows.row(i), level, columns)?;
+        write_filled(alloc, &mut cells, row.as_slice(), level, columns)?;
         if having(condition, &cells[1..]) {
-            kept.push(&mut cells)?;
+            kept.push(alloc, &mut cells)?;
         }
     }
     Ok(kept)
@@ -142,7 +145,7 @@ impl<'a, H: KeyHash<Key> + Copy> Query<'a, H> {
         let mut total = both_spent(spent, work);
         'levels: for fewer in 0..self.by.len() {
             let (more, work) = self.level(fewer + 1, shown, condition, store)?;
-            let Ok(()) = rows.append(more) else {
+            let Ok(()) = rows.append(self.alloc, more) else {
                 return Err(Refusal::Memory);
             };
             total = both_spent(total, work);

@@ -3,7 +3,8 @@ ghost use Rattle.std.specs.Prelude.{◌≡◌, IfOk};
 ghost use Rattle.gq_query.specs.Answers.{rows_shown};
 
 use crate::ordering::sort_rows;
-use gq_row::{Key, Rows};
+use gq_cells::Rows;
+use gq_row::Key;
 use gq_table::Table;
 use std::alloc::{AllocError, Global};
 use sw_probe::KeyHash;
@@ -17,7 +18,7 @@ pub fn show_rows<H: KeyHash<Key> + Copy>(
 {
     let _standing = table.len();
     let rows = rows_of(alloc, table)?;
-    sort_rows(rows, table.schema().key())
+    sort_rows(alloc, rows, table.schema().key())
 }
 
 // Copies of the rows of a table, in one list.

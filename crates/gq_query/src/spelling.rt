@@ -18,8 +18,9 @@ ghost use Rattle.gq_query.specs.Work.{IsSpentOn};
 
 use crate::query::Query;
 use gq_agg::AggKind;
+use gq_cells::Rows;
 use gq_group::{Refusal, Spent};
-use gq_row::{Column, Key, Kind, Rows};
+use gq_row::{Column, Key, Kind};
 use gq_select::Shown;
 use gq_spill::RunStore;
 use std::alloc::{AllocError, Global};

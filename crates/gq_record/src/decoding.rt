@@ -90,7 +90,7 @@ fn take_value<'a>(
             let Some((n, rest)) = take_number(rest) else {
                 return Ok(None);
             };
-            *over = Value::Int(n);
+            over.write_number(n);
             Ok(Some(rest))
         }
         TEXT => {

@@ -1,5 +1,5 @@
 -- Fields that call for no quotes, numbers among them; the digits of small numbers.
-use Rattle.std.proofs.Common.{◌≡◌, ◌≤◌, ◌<◌, ◌+◌, ◌/◌, ◌%◌, ◌^◌, ◌==◌, ◌∷◌, ◌++◌, ◌∙◌, [], ℕ, ℤ, suc, pos, negsuc, true, false, List, refl, ap, sym, length, map, arith, append_assoc, append-nil}
+use Rattle.std.proofs.Common.{◌≡◌, ◌≤◌, ◌<◌, ◌+◌, ◌/◌, ◌%◌, ◌^◌, ◌==◌, ◌∷◌, ◌++◌, ◌∙◌, [], ℕ, ℤ, suc, pos, negsuc, true, false, List, refl, ap, sym, length, map, take, drop, arith, append_assoc, append-nil}
 use Rattle.std.specs.Fmt.{decimal, signed_decimal}
 use Rattle.std.specs.Int.Signed.{mag}
 use Rattle.std.proofs.lemmas.Grind.{common_steps}
@@ -7,7 +7,10 @@ use Rattle.std.specs.Str.Parse.{AllDigits}
 use Rattle.std.proofs.lemmas.Str.Parse.{digit_from_value}
 use Rattle.std.proofs.lemmas.Fmt.{decimal_digit, decimal_is_IsNumeral, decimal_nonempty, decimal_step}
 use Rattle.csv.specs.Writing.{default_writer, field_text, fields_text, is_blank, needs_byte, needs_quotes, row_body}
+use Rattle.std.proofs.lemmas.List.{drop_all, drop_more, take-append-drop}
 use Rattle.gq_row.specs.declared.value.Value.{Value}
+use Rattle.gq_row.specs.declared.value.Value.TheVariants.{Null}
+use Rattle.gq_row.specs.Rows.{cell}
 use Rattle.gq_reply.specs.Bare.{is_plain, row_record}
 use Rattle.gq_reply.specs.Replies.{cell_text}
 
@@ -60,19 +63,28 @@ last_digits n hundreds tens ones low high h t o =
     let o2 : 48 + n % 10 ≡ ones = omega (arith, o) in
     rw (decimal_step n (omega arith) high, decimal_step (n / 10) (omega arith) (omega arith), decimal_step (n / 10 / 10) (omega arith) (omega arith), by_ten, h2, t2, o2) (grind (arith, common_steps))
 
--- all fields but one more, and what stands behind them
-row_body_more : (v last : Value) (front : List Value) → row_body default_writer (map cell_text (v ∷ front ++ last ∷ [])) ≡ field_text default_writer (cell_text v) ++ 44 ∷ row_body default_writer (map cell_text (front ++ last ∷ []))
+-- a field that another stands behind
+row_body_more : (v w : Value) (behind : List Value) → row_body default_writer (map cell_text (v ∷ w ∷ behind)) ≡ field_text default_writer (cell_text v) ++ 44 ∷ row_body default_writer (map cell_text (w ∷ behind))
 unfolding fields_text
-row_body_more v last [] = refl
-row_body_more v last (w ∷ front) = refl
+row_body_more v w behind = refl
 
 -- one field more, with the comma behind it
-pub one_more_field : (v last : Value) (front : List Value) (text next whole : List ℕ) → text ++ row_body default_writer (map cell_text (v ∷ front ++ last ∷ [])) ≡ whole
-    → next ≡ text ++ field_text default_writer (cell_text v) ++ 44 ∷ [] → next ++ row_body default_writer (map cell_text (front ++ last ∷ [])) ≡ whole
-one_more_field v last front text next whole e is =
+one_more : (v w : Value) (behind : List Value) (text next whole : List ℕ) → text ++ row_body default_writer (map cell_text (v ∷ w ∷ behind)) ≡ whole
+    → next ≡ text ++ field_text default_writer (cell_text v) ++ 44 ∷ [] → next ++ row_body default_writer (map cell_text (w ∷ behind)) ≡ whole
+one_more v w behind text next whole e is =
     let shown = field_text default_writer (cell_text v) in
-    let left = row_body default_writer (map cell_text (front ++ last ∷ [])) in
-    ap (λ l. l ++ left) is ∙ append_assoc (text ++ shown) (44 ∷ []) left ∙ append_assoc text shown (44 ∷ left) ∙ ap (λ l. text ++ l) (sym (row_body_more v last front)) ∙ e
+    let left = row_body default_writer (map cell_text (w ∷ behind)) in
+    ap (λ l. l ++ left) is ∙ append_assoc (text ++ shown) (44 ∷ []) left ∙ append_assoc text shown (44 ∷ left) ∙ ap (λ l. text ++ l) (sym (row_body_more v w behind)) ∙ e
+
+-- that of a row, in the column at a position
+pub one_more_field : (row : List Value) (i : ℕ) (text next whole : List ℕ) → i + 1 < length row → text ++ row_body default_writer (map cell_text (drop i row)) ≡ whole
+    → next ≡ text ++ field_text default_writer (cell_text (cell row i)) ++ 44 ∷ [] → next ++ row_body default_writer (map cell_text (drop (i + 1) row)) ≡ whole
+one_more_field row i text next whole more e is =
+    let behind : drop (i + 1) row ≡ cell row (i + 1) ∷ drop (i + 1 + 1) row = drop_more row (i + 1) Null more in
+    let split : drop i row ≡ cell row i ∷ drop (i + 1) row = drop_more row i Null (omega (arith, more)) in
+    ap (λ l. next ++ row_body default_writer (map cell_text l)) behind
+    ∙ one_more (cell row i) (cell row (i + 1)) (drop (i + 1 + 1) row) text next whole
+    (ap (λ l. text ++ row_body default_writer (map cell_text l)) (sym (split ∙ ap (λ l. cell row i ∷ l) behind)) ∙ e) is
 
 -- the record of a row whose last field shows a byte
 record_shown : (front : List Value) (last : Value) → (length (field_text default_writer (cell_text last)) == 0) ≡ false
@@ -83,10 +95,20 @@ record_shown (v ∷ []) last shown = refl
 record_shown (v ∷ w ∷ front) last shown = refl
 
 -- the last field, and the end of the line
-pub row_ended : (front : List Value) (last : Value) (text before next : List ℕ) → (length (field_text default_writer (cell_text last)) == 0) ≡ false
+row_ended : (front : List Value) (last : Value) (text before next : List ℕ) → (length (field_text default_writer (cell_text last)) == 0) ≡ false
     → text ++ row_body default_writer (map cell_text (last ∷ [])) ≡ before ++ row_body default_writer (map cell_text (front ++ last ∷ [])) → next ≡ text ++ field_text default_writer (cell_text last) ++ 10 ∷ [] → next ≡ before ++ row_record (front ++ last ∷ [])
 unfolding fields_text
 row_ended front last text before next shown e is =
     let field = field_text default_writer (cell_text last) in
     let body = row_body default_writer (map cell_text (front ++ last ∷ [])) in
     is ∙ ap (λ l. l ++ 10 ∷ []) (ap (λ l. text ++ l) (sym (append-nil field)) ∙ e) ∙ append_assoc before body (10 ∷ []) ∙ ap (λ l. before ++ l) (sym (record_shown front last shown))
+
+pub last_field : (row : List Value) (i : ℕ) (text before next : List ℕ) → length row ≡ i + 1 → (length (field_text default_writer (cell_text (cell row i))) == 0) ≡ false
+    → text ++ row_body default_writer (map cell_text (drop i row)) ≡ before ++ row_body default_writer (map cell_text row)
+    → next ≡ text ++ field_text default_writer (cell_text (cell row i)) ++ 10 ∷ [] → next ≡ before ++ row_record row
+last_field row i text before next long shown e is =
+    let last : drop i row ≡ cell row i ∷ [] = drop_more row i Null (omega (arith, long)) ∙ ap (λ l. cell row i ∷ l) (drop_all (i + 1) row (omega (arith, long))) in
+    let whole : row ≡ take i row ++ cell row i ∷ [] = sym (take-append-drop i row) ∙ ap (λ l. take i row ++ l) last in
+    row_ended (take i row) (cell row i) text before next shown
+    (ap (λ l. text ++ row_body default_writer (map cell_text l)) (sym last) ∙ e ∙ ap (λ l. before ++ row_body default_writer (map cell_text l)) whole) is
+    ∙ ap (λ l. before ++ row_record l) (sym whole)

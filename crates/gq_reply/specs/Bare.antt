@@ -1,6 +1,7 @@
 -- Rows that are written field by field, since none of their fields calls for quotes.
-use Rattle.std.specs.Prelude.{◌≡◌, ◌<◌, ◌≤◌, ◌==◌, ◌&&◌, not, ℕ, Bool, true, List, [], length, map, flat_map, slice_index_or}
+use Rattle.std.specs.Prelude.{◌≡◌, ◌<◌, ◌≤◌, ◌==◌, ◌&&◌, ◌^◌, ◌-◌, not, negsuc, ℕ, Bool, true, List, [], length, map, flat_map, slice_index_or}
 use Rattle.std.specs.List.{list_all}
+use Rattle.std.specs.Ordering.{int_eq}
 use Rattle.csv.specs.Writing.{default_writer, needs_quotes}
 use Rattle.gq_row.specs.declared.value.Value.{Value}
 use Rattle.gq_row.specs.declared.value.Value.TheVariants.{Null, Int, Text, NoCase}
@@ -10,10 +11,10 @@ use Rattle.gq_reply.specs.Replies.{cell_text, record_text}
 abbrev pub is_plain : List ℕ → Bool
 is_plain field = not (length field == 0) && not (needs_quotes default_writer field)
 
--- whether that of a value is so, as those of null and of all numbers are
+-- whether that of a value is so, as those of null and of all numbers are. The least number is left out, so that each has to be looked at
 abbrev pub is_bare : Value → Bool
 is_bare Null = true
-is_bare (Int n) = true
+is_bare (Int n) = not (int_eq n (negsuc (2 ^ 63 - 1)))
 is_bare (Text t) = is_plain t
 is_bare (NoCase t) = is_plain t
 

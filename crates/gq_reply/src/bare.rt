@@ -5,10 +5,12 @@
 ghost use Rattle.std.specs.Prelude.{◌≡◌, ◌≤◌, ◌<◌, ◌+◌, ◌%◌, ◌++◌, ◌∷◌, ◌==◌, [], List, ℕ, IfOk, OnOk, false, true, length, take};
 ghost use Rattle.std.specs.Fmt.{decimal, signed_decimal};
 ghost use Rattle.csv.specs.Writing.{default_writer, field_text, needs_byte, needs_quotes};
+ghost use Rattle.gq_cells.specs.Cells.{value_of};
 ghost use Rattle.gq_reply.specs.Bare.{AreBare, IsBare, is_bare, is_plain, records, row_record};
 ghost use Rattle.gq_reply.specs.Replies.{cell_text};
 
-use gq_row::{Rows, Text, Value};
+use gq_cells::{CellRef, RowRef, Rows};
+use gq_row::Text;
 use itoa::Buffer;
 use std::alloc::AllocError;
 
@@ -35,7 +37,7 @@ pub(crate) fn are_bare(rows: &Rows, start: usize, end: usize) -> bool
     ensures not_bare { result ≡ false → AreBare rows.now start end → ⊥ }
 {
     for i in start..end {
-        if !is_bare_row(rows.row(i)) {
+        if !is_bare_row(&rows.row(i)) {
             return false;
         }
     }
@@ -43,12 +45,12 @@ pub(crate) fn are_bare(rows: &Rows, start: usize, end: usize) -> bool
 }
 
 #[inline]
-fn is_bare_row(row: &[Value]) -> bool
+fn is_bare_row(row: &RowRef<'_>) -> bool
     ensures bare { result ≡ true → IsBare row.now }
     ensures not_bare { result ≡ false → IsBare row.now → ⊥ }
 {
-    for cell in row {
-        if !is_bare(cell) {
+    for column in 0..row.len() {
+        if !is_bare(row.cell(column)) {
             return false;
         }
     }
@@ -56,12 +58,13 @@ fn is_bare_row(row: &[Value]) -> bool
 }
 
 #[inline]
-fn is_bare(cell: &Value) -> bool
-    ensures { result ≡ is_bare cell.now }
+fn is_bare(cell: CellRef<'_>) -> bool
+    ensures { result ≡ is_bare (value_of cell.entry) }
 {
     match cell {
-        Value::Null | Value::Int(_) => true,
-        Value::Text(text) | Value::NoCase(text) => is_plain(text.as_str().as_bytes()),
+        CellRef::Null => true,
+        CellRef::Int(n) => n != i64::MIN,
+        CellRef::Text(text) | CellRef::NoCase(text) => is_plain(text.as_str().as_bytes()),
     }
 }
 
@@ -102,37 +105,36 @@ pub(crate) fn write_block(
         → OnOk result (text.new.items ≡ front ++ records (take end rows.now)) }
 {
     for i in start..end {
-        write_row(text, rows.row(i))?;
+        write_row(text, &rows.row(i))?;
     }
     Ok(())
 }
 
 // Writes the record of a row.
 #[inline]
-fn write_row(text: &mut Vec<u8>, row: &[Value]) -> Result<(), AllocError>
+fn write_row(text: &mut Vec<u8>, row: &RowRef<'_>) -> Result<(), AllocError>
     requires { IsBare row.now }
     ensures { OnOk result (text.new.items ≡ text.old.items ++ row_record row.now) }
 {
-    let Some((last, front)) = row.split_last() else {
-        unreachable!()
-    };
-    for cell in front {
-        write_cell(text, cell, b',')?;
+    let last = row.len() - 1;
+    for column in 0..last {
+        write_cell(text, row.cell(column), b',')?;
     }
-    write_cell(text, last, b'\n')
+    write_cell(text, row.cell(last), b'\n')
 }
 
 // Writes the field of a cell, and the byte behind it.
 #[inline(always)]
-fn write_cell(text: &mut Vec<u8>, cell: &Value, end: u8) -> Result<(), AllocError>
-    requires { is_bare cell.now ≡ true }
-    ensures field { OnOk result (text.new.items ≡ text.old.items ++ field_text default_writer (cell_text cell.now) ++ end ∷ []) }
-    ensures shown { OnOk result ((length (field_text default_writer (cell_text cell.now)) == 0) ≡ false) }
+fn write_cell(text: &mut Vec<u8>, cell: CellRef<'_>, end: u8) -> Result<(), AllocError>
+    requires { is_bare (value_of cell) ≡ true }
+    ensures field { OnOk result (text.new.items ≡
+        text.old.items ++ field_text default_writer (cell_text (value_of cell.entry)) ++ end ∷ []) }
+    ensures shown { OnOk result ((length (field_text default_writer (cell_text (value_of cell.entry))) == 0) ≡ false) }
 {
     match cell {
-        Value::Null => text.extend_from_slice(&[b'\\', b'N', end]),
-        Value::Int(n) => write_number(text, *n, end),
-        Value::Text(field) | Value::NoCase(field) => write_text(text, field, end),
+        CellRef::Null => text.extend_from_slice(&[b'\\', b'N', end]),
+        CellRef::Int(n) => write_number(text, n, end),
+        CellRef::Text(field) | CellRef::NoCase(field) => write_text(text, field, end),
     }
 }
 

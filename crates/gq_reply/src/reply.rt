@@ -4,7 +4,8 @@ ghost use Rattle.gq_reply.specs.Refusals.{refused, told};
 ghost use Rattle.gq_reply.specs.Replies.{is_refusal as refuses};
 
 use crate::refusal::{Refusal, Refused};
-use gq_row::{Rows, Sequence, Text};
+use gq_cells::Rows;
+use gq_row::{Sequence, Text};
 
 /// The reply to a command.
 #[derive(Drop)]

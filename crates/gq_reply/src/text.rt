@@ -1,6 +1,7 @@
 //! The text of replies, rows as CSV records.
 ghost use Rattle.std.specs.Prelude.{◌≡◌, ◌≤◌, ◌∷◌, ◌++◌, [], ℕ, List, IfOk, OnOk, length, map, take};
 ghost use Rattle.csv.specs.Records.{fields_of, partial_of};
+ghost use Rattle.gq_cells.specs.Cells.{value_of};
 ghost use Rattle.gq_reply.specs.Bare.{records};
 ghost use Rattle.gq_reply.specs.Records.{HasWritten};
 ghost use Rattle.gq_reply.specs.Replies.{accepted, text, cell_text, record_text};
@@ -9,7 +10,8 @@ use crate::bare::{are_bare, block_end, write_block};
 use crate::reply::Reply;
 use crate::reply_line::{accepted_line, line_of};
 use csv::{ByteRecord, Writer, WriterBuilder};
-use gq_row::{Rows, Sequence, Text, Value};
+use gq_cells::{CellRef, RowRef, Rows};
+use gq_row::{Sequence, Text};
 use itoa::Buffer;
 use std::alloc::{AllocError, Global};
 
@@ -87,7 +89,7 @@ fn with_records(
     let mut writer = WriterBuilder::new().from_writer(text);
     let mut line = ByteRecord::new(alloc);
     for i in from..to {
-        fill_row(&mut line, rows.row(i))?;
+        fill_row(&mut line, &rows.row(i))?;
         write_record(&mut writer, &line)?;
     }
     whole_text(writer)
@@ -115,28 +117,29 @@ fn fill_header(line: &mut ByteRecord, names: &[Text]) -> Result<(), AllocError>
 }
 
 // Puts the cells of a row into a record, in place of what it held.
-fn fill_row(line: &mut ByteRecord, cells: &[Value]) -> Result<(), AllocError>
-    ensures { OnOk result (fields_of line.new ≡ map cell_text cells.now) }
+fn fill_row(line: &mut ByteRecord, row: &RowRef<'_>) -> Result<(), AllocError>
+    ensures { OnOk result (fields_of line.new ≡ map cell_text row.now) }
 {
     line.clear();
-    for cell in cells {
-        push_cell(line, cell)?;
+    for column in 0..row.len() {
+        push_cell(line, row.cell(column))?;
     }
     Ok(())
 }
 
-fn push_cell(line: &mut ByteRecord, cell: &Value) -> Result<(), AllocError>
+fn push_cell(line: &mut ByteRecord, cell: CellRef<'_>) -> Result<(), AllocError>
     requires { partial_of line.old ≡ [] }
-    ensures fields { OnOk result (fields_of line.new ≡ fields_of line.old ++ cell_text cell.now ∷ []) }
+    ensures fields { OnOk result (fields_of line.new ≡
+        fields_of line.old ++ cell_text (value_of cell.entry) ∷ []) }
     ensures partial { OnOk result (partial_of line.new ≡ []) }
 {
     match cell {
-        Value::Null => line.push_field(b"\\N"),
-        Value::Int(n) => {
+        CellRef::Null => line.push_field(b"\\N"),
+        CellRef::Int(n) => {
             let mut digits = Buffer::new();
-            line.push_field(digits.format(*n).as_bytes())
+            line.push_field(digits.format(n).as_bytes())
         }
-        Value::Text(text) | Value::NoCase(text) => line.push_field(text.as_str().as_bytes()),
+        CellRef::Text(text) | CellRef::NoCase(text) => line.push_field(text.as_str().as_bytes()),
     }
 }
 

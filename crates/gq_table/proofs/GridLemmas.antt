@@ -1,6 +1,6 @@
 -- Rows by columns.
 use Rattle.std.proofs.Common.{◌≡◌, ◌<◌, ◌≤◌, ◌+◌, ℕ, zero, suc, List, [], ◌∷◌, ◌++◌, length, map, take, drop, slice_index_or, slice_set, replicate, All, refl, sym, ap, subst, ◌∙◌, arith, add-one, length-append, length-take, take-suc-set}
-use Rattle.std.proofs.lemmas.List.{append-nil, get_or_default, drop_all, drop-drop, drop-set-lt, get_or-drop, get_or-map, get_or-replicate, length-map, length-replicate, replicate-append-replicate, take_all, take-append-le}
+use Rattle.std.proofs.lemmas.List.{append-nil, get_or_default, drop_all, get_or-map, get_or-replicate, length-map, length-replicate, replicate-append-replicate, take_all, take-append-le}
 use Rattle.std.proofs.lemmas.List.Elements.{All-nil, All-cons, All-head, All-tail}
 use Rattle.gq_row.specs.Rows.{cells_in}
 use Rattle.gq_row.specs.declared.value.Value.{Value}
@@ -163,15 +163,6 @@ one_more xs i d within = ap (λ n. take n xs) (add-one i) ∙ first_more xs i d 
 pub written_next : {X : Type 0} (xs ys : List X) (i : ℕ) (x d : X) → i < length xs → i < length ys → take i xs ≡ take i ys → x ≡ slice_index_or ys i d → take (i + 1) (slice_set xs i x) ≡ take (i + 1) ys
 written_next xs ys i x d in_xs in_ys same is =
     ap (λ n. take n (slice_set xs i x)) (add-one i) ∙ take-suc-set xs i x in_xs ∙ (λ z. same z ++ is z ∷ []) ∙ sym (one_more ys i d in_ys)
-
-pub left_next : {X : Type 0} (xs ys : List X) (i : ℕ) (x : X) → drop i xs ≡ drop i ys → drop (i + 1) (slice_set xs i x) ≡ drop (i + 1) ys
-left_next xs ys i x h =
-    drop-set-lt (i + 1) xs i x (omega arith) ∙ sym (drop-drop 1 i xs) ∙ ap (drop 1) h ∙ drop-drop 1 i ys
-
-pub left_there : {X : Type 0} (xs ys : List X) (i : ℕ) (d : X) → drop i xs ≡ drop i ys → slice_index_or xs i d ≡ slice_index_or ys i d
-left_there xs ys i d h =
-    let here : i + 0 ≡ i = omega arith in
-    ap (λ k. slice_index_or xs k d) (sym here) ∙ sym (get_or-drop i xs 0 d) ∙ ap (λ l. slice_index_or l 0 d) h ∙ get_or-drop i ys 0 d ∙ ap (λ k. slice_index_or ys k d) here
 
 -- what is written over a whole slice
 pub whole : {X : Type 0} (n : ℕ) (xs ys : List X) → length xs ≡ n → take n (xs ++ drop (length xs) ys) ≡ xs

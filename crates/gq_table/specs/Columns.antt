@@ -1,19 +1,6 @@
 -- Rows by columns.
-use Rattle.std.specs.Prelude.{◌≡◌, ℕ, ℤ, List, [], ◌∷◌, ◌++◌, All, length, replicate, Option, None, Some}
+use Rattle.std.specs.Prelude.{◌≡◌, ℕ, List, [], ◌∷◌, ◌++◌, All, length, replicate}
 use Rattle.gq_row.specs.declared.value.Value.{Value}
-use Rattle.gq_row.specs.declared.value.Value.TheVariants.{Null, Int, Text, NoCase}
-
--- the cell of a number, or null
-abbrev pub number_cell : Option ℤ → Value
-number_cell None = Null
-number_cell (Some n) = Int n
-
--- a text
-abbrev pub IsText : Value → Type 0
-IsText Null = ⊥
-IsText (Int n) = ⊥
-IsText (Text t) = Unit {0}
-IsText (NoCase t) = Unit {0}
 
 -- each cell before the row at its position
 unfoldable pub before_rows : List Value → List (List Value) → List (List Value)

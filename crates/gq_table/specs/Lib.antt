@@ -7,5 +7,4 @@ pub mod Refusing
 pub mod Sheets
 pub mod Standing
 pub mod Stored
-pub mod StoredCells
 pub mod Walking

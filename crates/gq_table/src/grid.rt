@@ -5,7 +5,7 @@ ghost use Rattle.gq_row.specs.Rows.{cells_in};
 ghost use Rattle.gq_row.specs.Written.{IsInPlace};
 ghost use Rattle.gq_table.specs.Columns.{AreAsLong, alone, columns_behind, rows_across};
 
-use crate::column_cells::ColumnCells;
+use gq_cells::Cells;
 use gq_row::Value;
 use std::alloc::{AllocError, Global};
 use std::marker::Model;
@@ -15,7 +15,7 @@ use std::mem;
 /// row but its cells, and those of a column of numbers take half of what values take.
 #[derive(Drop)]
 pub struct Grid {
-    columns: Vec<ColumnCells>,
+    columns: Vec<Cells>,
     rows: usize,
 }
 
@@ -161,7 +161,7 @@ impl Grid {
 #[inline]
 fn start_columns(
     alloc: Global,
-    columns: &mut Vec<ColumnCells>,
+    columns: &mut Vec<Cells>,
     rows: usize,
     width: usize,
 ) -> Result<(), AllocError>
@@ -178,18 +178,18 @@ fn start_columns(
 }
 
 // So many columns without cells.
-fn no_cells(alloc: Global, columns: usize) -> Result<Vec<ColumnCells>, AllocError>
+fn no_cells(alloc: Global, columns: usize) -> Result<Vec<Cells>, AllocError>
     ensures { IfOk result (λ made. made.items ≡ replicate columns []) }
 {
     let mut made = Vec::with_capacity(alloc, columns)?;
     for _ in 0..columns {
-        made.push(ColumnCells::new(alloc))?;
+        made.push(Cells::new(alloc))?;
     }
     Ok(made)
 }
 
 // Makes room for so many cells more in each column.
-fn reserve_cells(columns: &mut [ColumnCells], cells: usize) -> Result<(), AllocError>
+fn reserve_cells(columns: &mut [Cells], cells: usize) -> Result<(), AllocError>
     ensures { columns.new ≡ columns.old }
 {
     for i in 0..columns.len() {
@@ -210,7 +210,7 @@ pub(crate) fn fit(row: &mut Vec<Value>, width: usize) -> Result<(), AllocError>
 #[inline]
 fn write_cells(
     alloc: Global,
-    columns: &[ColumnCells],
+    columns: &[Cells],
     position: usize,
     row: &mut [Value],
 ) -> Result<(), AllocError>
@@ -228,7 +228,7 @@ fn write_cells(
 #[inline]
 fn pick_cells(
     alloc: Global,
-    all: &[ColumnCells],
+    all: &[Cells],
     position: usize,
     columns: &[usize],
     cells: &mut [Value],
@@ -252,11 +252,7 @@ fn pick_cells(
 // Puts the cells of a row behind those of the columns, of which it has as many. Refused, some columns may
 // have got theirs.
 #[inline]
-fn push_cells(
-    alloc: Global,
-    columns: &mut [ColumnCells],
-    row: &mut [Value],
-) -> Result<(), AllocError>
+fn push_cells(alloc: Global, columns: &mut [Cells], row: &mut [Value]) -> Result<(), AllocError>
     requires all { length row.old ≡ length columns.old }
     ensures pushed { OnOk result (columns.new ≡ columns_behind columns.old (map alone row.old)) }
     ensures kept { (n : ℕ) → AreAsLong n columns.old → map (take n) columns.new ≡ columns.old }
@@ -271,15 +267,15 @@ fn push_cells(
 // theirs.
 fn append_columns(
     alloc: Global,
-    columns: &mut [ColumnCells],
-    more: &mut [ColumnCells],
+    columns: &mut [Cells],
+    more: &mut [Cells],
 ) -> Result<(), AllocError>
     requires all { length more.old ≡ length columns.old }
     ensures appended { OnOk result (columns.new ≡ columns_behind columns.old more.old) }
     ensures kept { (n : ℕ) → AreAsLong n columns.old → map (take n) columns.new ≡ columns.old }
 {
     for i in 0..columns.len() {
-        let cells = mem::replace(&mut more[i], ColumnCells::new(alloc));
+        let cells = mem::replace(&mut more[i], Cells::new(alloc));
         columns[i].append(alloc, cells)?;
     }
     Ok(())
@@ -287,7 +283,7 @@ fn append_columns(
 
 // Leaves so many cells in each column.
 #[cold]
-fn truncate_columns(columns: &mut [ColumnCells], cells: usize)
+fn truncate_columns(columns: &mut [Cells], cells: usize)
     ensures { columns.new ≡ map (take cells) columns.old }
 {
     for i in 0..columns.len() {

@@ -12,7 +12,6 @@
 //! table as it was; a put on a key that is there and a delete take no memory.
 #![tactic(auto)]
 
-mod column_cells;
 mod grid;
 mod keyed;
 mod load;

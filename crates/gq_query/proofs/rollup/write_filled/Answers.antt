@@ -11,7 +11,7 @@ loop-init c =
     let old = c.args.cells.now.items in
     let row = c.args.row.now in
     let none : c.args.level - c.args.level ≡ 0 = omega arith in
-    c.in_ok-copy_cells.ensures.copied
+    c.in_ok-copy_cells.ensures
     ∙ ap (λ l. old ++ l) (c.split_at.ensures.front ∙ ap (λ n. take n row) (c.min.ensures ∙ min_comm (length row) c.args.level) ∙ take_min c.args.level row)
     ∙ sym (append-nil (old ++ take c.args.level row))
     ∙ ap (λ n. (old ++ take c.args.level row) ++ replicate n Null) (sym none)
@@ -38,4 +38,4 @@ returns c =
     let before : c.loop.cells.items ≡ (old ++ take level row) ++ nulls = c.loop.invariant ∙ ap (λ n. (old ++ take level row) ++ replicate (n - level) Null) all in
     on_ok_weaker c.copy_cells-2.result
     (λ copied. copied ∙ (λ i. before i ++ behind i) ∙ append_assoc (old ++ take level row) nulls (drop level row) ∙ append_assoc old (take level row) (nulls ++ drop level row))
-    c.copy_cells-2.ensures.copied
+    c.copy_cells-2.ensures

@@ -1,6 +1,7 @@
 use Rattle.std.proofs.Common.{◌≡◌, ◌<◌, ◌∙◌, ◌++◌, [], length, drop, slice_index_or, refl, sym, arith}
 use Rattle.std.proofs.lemmas.List.{get_or_default, length-set}
-use Rattle.gq_table.proofs.GridLemmas.{behind_all, behind_step, kept_start, kept_step, left_next, left_there}
+use Rattle.gq_cells.proofs.RowsLemmas.{left_next, left_there}
+use Rattle.gq_table.proofs.GridLemmas.{behind_all, behind_step, kept_start, kept_step}
 use Rattle.gq_table.proofs.grid.append_columns.Goals as goal
 
 pub loop-i-init : goal.loop-i-init

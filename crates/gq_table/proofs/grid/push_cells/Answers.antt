@@ -1,7 +1,8 @@
 use Rattle.std.proofs.Common.{◌≡◌, ◌<◌, ◌∙◌, ◌++◌, ◌∷◌, [], length, map, drop, slice_index_or, refl, sym, ap, arith}
 use Rattle.std.proofs.lemmas.List.{get_or_default, get_or-map, length-map, length-set}
 use Rattle.gq_table.specs.Columns.{alone}
-use Rattle.gq_table.proofs.GridLemmas.{behind_all, behind_step, kept_start, kept_step, left_next, left_there}
+use Rattle.gq_cells.proofs.RowsLemmas.{left_next, left_there}
+use Rattle.gq_table.proofs.GridLemmas.{behind_all, behind_step, kept_start, kept_step}
 use Rattle.gq_table.proofs.grid.push_cells.Goals as goal
 
 pub loop-i-init : goal.loop-i-init

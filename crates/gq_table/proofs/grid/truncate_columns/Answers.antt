@@ -1,5 +1,5 @@
 use Rattle.std.proofs.Common.{◌≡◌, ◌∙◌, ◌+◌, ◌++◌, suc, map, take, drop, slice_index_or, slice_set, ap, arith}
-use Rattle.gq_row.proofs.RowsLemmas.{moved_in_place}
+use Rattle.gq_cells.proofs.RowsLemmas.{moved_in_place}
 use Rattle.gq_table.proofs.grid.truncate_columns.Goals as goal
 
 pub loop-i-preserved : goal.loop-i-preserved

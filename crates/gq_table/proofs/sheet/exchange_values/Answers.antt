@@ -1,5 +1,6 @@
 use Rattle.std.proofs.Common.{◌∙◌, arith}
-use Rattle.gq_table.proofs.GridLemmas.{left_next, left_there, written_next}
+use Rattle.gq_cells.proofs.RowsLemmas.{left_next, left_there}
+use Rattle.gq_table.proofs.GridLemmas.{written_next}
 use Rattle.gq_table.proofs.sheet.exchange_values.Goals as goal
 
 pub loop-i-preserved : goal.loop-i-preserved

@@ -1,7 +1,7 @@
 use Rattle.std.proofs.Common.{◌<◌, ◌∙◌, arith, length, length-set}
 use Rattle.std.proofs.lemmas.List.{get_or_default}
 use Rattle.gq_row.specs.declared.value.Value.TheVariants.{Null}
-use Rattle.gq_table.proofs.GridLemmas.{left_next, left_there}
+use Rattle.gq_cells.proofs.RowsLemmas.{left_next, left_there}
 use Rattle.gq_table.proofs.SheetLemmas.{cell_behind}
 use Rattle.gq_table.proofs.sheet.push_cells.Goals as goal
 

@@ -1,6 +1,7 @@
-use Rattle.std.proofs.Common.{◌∷◌, ◌++◌, ◌≡◌, ◌∙◌, ◌+◌, ◌-◌, ◌<◌, Some, true, ap, sym, subst, length, map, take, drop, arith, rules}
+use Rattle.std.proofs.Common.{◌∷◌, ◌++◌, ◌≡◌, ◌∙◌, ◌+◌, ◌-◌, ◌<◌, Some, true, ap, sym, subst, length, map, take, drop, arith}
 use Rattle.std.proofs.lemmas.Bool.Decides.{nat_tests}
 use Rattle.std.specs.List.{list_any}
+use Rattle.std.proofs.lemmas.List.{take-append-le, take_all}
 use Rattle.std.specs.Option.{option_to_list}
 use Rattle.std.specs.Vec.Iter.{into_iter_items, into_iter_len}
 use Rattle.gq_group.specs.Entries.{tallies}
@@ -11,8 +12,8 @@ use Rattle.gq_group.proofs.ChunkLemmas.{back, length-chunk, written}
 use Rattle.gq_group.proofs.KeptLemmas.{some_first, taken_first, if_some_so, first_within, whole_behind, pairs_behind}
 use Rattle.gq_group.proofs.drain.Drain.next.Goals as goal
 
-pub returns-in_err-take_values-clause-overflow : goal.returns-in_err-take_values-clause-overflow
-returns-in_err-take_values-clause-overflow c = λ e.
+pub returns-in_default-take_values-clause-overflow : goal.returns-in_default-take_values-clause-overflow
+returns-in_default-take_values-clause-overflow c = λ e.
     let own = c.self.inside in
     let items = own.running.items in
     let n = own.start in
@@ -26,7 +27,7 @@ returns-in_err-take_values-clause-overflow c = λ e.
       rest = pairs_from own.each (n + own.each) items it.1;
       first = sym (ap (λ (l : Leaving). l.pairs) c.self.view_is) ∙ ap (pairs_from own.each n items) it.2;
       refused = λ rows is.
-          subst (λ a. list_any is_none (answers a rows) ≡ true) asked (c.in_err-take_values.ensures.overflow (search rules) rows (its ∙ is ∙ ap (λ a. tallies (kept_aggs a) rows) (sym asked)));
+          subst (λ a. list_any is_none (answers a rows) ≡ true) asked (c.in_default-take_values.ensures.overflow rows (its ∙ is ∙ ap (λ a. tallies (kept_aggs a) rows) (sym asked)));
     }
 
 pub invariant_of-self-2 : goal.invariant_of-self-2
@@ -63,9 +64,13 @@ returns-clause-taken c = if_some_so _ c.next.result (λ key is.
     let put = written own.each n (n + own.each - n) own.running.len items c.deref_mut.result.now c.take_values.new.aggs k_is lent own.running.ok.0 within long in
     let items' = back n (n + own.each - n) own.running.len items c.deref_mut.result.now c.take_values.new.aggs in
     let asked = ap (λ (l : Leaving). l.asked) c.self.view_is in
+    let values = c.take_values.new.values in
+    let list = c.if-len-self.values in
+    let as_long : length values ≡ list.len = c.take_values.auto.values ∙ ap length c.as_mut_slice-slots.ensures.value ∙ sym list.ok.0 in
+    let whole : take list.len (values ++ drop (length values) list.items) ≡ values = take-append-le list.len values (drop (length values) list.items) (omega (arith, as_long)) ∙ take_all list.len values (omega (arith, as_long)) in
     record {
       running = chunk own.each items n;
       first = sym (ap (λ (l : Leaving). l.pairs) c.self.view_is) ∙ pairs_behind own.each n items old rest key items' c.take_values.new.aggs first put;
-      answered = λ rows are. subst (λ a. answers a rows ≡ map Some c.take_values.new.values.items) asked (c.in_ok-take_values.ensures.ok rows (its ∙ are ∙ ap (λ a. tallies (kept_aggs a) rows) (sym asked)));
+      answered = λ rows are. subst (λ a. answers a rows ≡ map Some values) asked (c.in-Ok-take_values.ensures.ok rows (its ∙ are ∙ ap (λ a. tallies (kept_aggs a) rows) (sym asked))) ∙ ap (map Some) (sym whole);
       same_asked = asked;
     })

@@ -1,44 +1,40 @@
-use Rattle.std.proofs.Common.{◌≡◌, ◌++◌, ◌∷◌, ◌∙◌, [], All, map, refl, sym, ap, subst, append_assoc, rules}
-use Rattle.gq_query.specs.GroupSpans.{IsGroupAt, IsLonger, group_at}
-use Rattle.gq_query.proofs.GroupSpanLemmas.{IsNext, group_pushed, kept_on, longer_by, next_by, span_pushed}
+use Rattle.std.proofs.Common.{◌≡◌, ◌++◌, ◌∷◌, ◌∙◌, [], append_assoc, drop, length, refl, ap, rules}
+use Rattle.gq_query.proofs.GroupSpanLemmas.{kept_on, not_put, put_groups, put_is}
 use Rattle.gq_query.proofs.group_list.GroupList.add.Goals as goal
 
-pub invariant_of-self-in_err-append : goal.invariant_of-self-in_err-append
-invariant_of-self-in_err-append c =
-    let same : c.append.new.self.items ≡ c.move_to.new.cells.items = search rules in
-    kept_on c.self.inside.cells.items c.append.new.self.items c.self.inside.groups.items c.self.inside.groups.items
-    (subst (IsLonger c.self.inside.cells.items) (sym same) c.move_to.ensures.kept) refl c.self.invariant
+pub invariant_of-self-in_err-push_all : goal.invariant_of-self-in_err-push_all
+invariant_of-self-in_err-push_all c =
+    let xs = c.self.inside.cells in
+    let key = c.args.key in
+    let more = drop (length c.put_key.new.cells) c.push_all.new.self in
+    kept_on xs c.push_all.new.self (key ++ more) c.self.inside.groups.items c.self.inside.groups.items
+    (c.push_all.ensures.kept ∙ ap (λ l. l ++ more) c.in_ok-put_key.ensures.put ∙ append_assoc xs key more) refl c.self.invariant
 
 pub invariant_of-self-in_err-push : goal.invariant_of-self-in_err-push
 invariant_of-self-in_err-push c =
-    let xs = c.self.inside.cells.items in
+    let xs = c.self.inside.cells in
     let key = c.args.key in
     let values = c.args.values.now.items in
-    let whole : c.append.new.self.items ≡ (xs ++ key) ++ values = search rules in
-    let same : c.push.new.self.items ≡ c.self.inside.groups.items = search rules in
-    kept_on xs c.append.new.self.items c.self.inside.groups.items c.push.new.self.items
-    (longer_by xs (key ++ values) c.append.new.self.items (whole ∙ append_assoc xs key values)) same c.self.invariant
+    let whole : c.push_all.new.self ≡ (xs ++ key) ++ values = c.in_ok-push_all.ensures.pushed ∙ ap (λ l. c.put_key.new.cells ++ l) c.as_mut_slice.ensures.value ∙ ap (λ l. l ++ values) c.in_ok-put_key.ensures.put in
+    not_put xs key values c.push_all.new.self c.in_ok-span.span.front c.in_ok-span.span c.self.inside.groups.items c.push.new.self.items whole c.self.invariant (search rules)
 
 pub invariant_of-self-2 : goal.invariant_of-self-2
 invariant_of-self-2 c =
-    let xs = c.self.inside.cells.items in
+    let xs = c.self.inside.cells in
     let key = c.args.key in
     let values = c.args.values.now.items in
-    let whole : c.append.new.self.items ≡ (xs ++ key) ++ values = search rules in
     let span = c.in_ok-span.span in
-    let spans : c.push.new.self.items ≡ c.self.inside.groups.items ++ span ∷ [] = search rules in
-    let next : IsNext xs key values c.append.new.self.items span = next_by xs key values c.append.new.self.items c.front_in-front.result span (search rules) (search rules) whole in
-    subst (All (IsGroupAt c.append.new.self.items)) (sym spans) (span_pushed xs key values c.append.new.self.items c.self.inside.groups.items span next c.self.invariant)
+    let front = c.front_in-front.result in
+    let whole : c.push_all.new.self ≡ (xs ++ key) ++ values = c.in_ok-push_all.ensures.pushed ∙ ap (λ l. c.put_key.new.cells ++ l) c.as_mut_slice.ensures.value ∙ ap (λ l. l ++ values) c.in_ok-put_key.ensures.put in
+    put_groups xs key values c.push_all.new.self front span c.self.inside.groups.items c.push.new.self.items whole c.self.invariant (search rules) (search rules) c.in_ok-push.ensures.items
 
 pub returns : goal.returns
 returns c =
-    let xs = c.self.inside.cells.items in
+    let xs = c.self.inside.cells in
     let key = c.args.key in
     let values = c.args.values.now.items in
-    let whole : c.append.new.self.items ≡ (xs ++ key) ++ values = search rules in
     let span = c.in_ok-span.span in
-    let spans : c.push.new.self.items ≡ c.self.inside.groups.items ++ span ∷ [] = search rules in
-    let next : IsNext xs key values c.append.new.self.items span = next_by xs key values c.append.new.self.items c.front_in-front.result span (search rules) (search rules) whole in
-    ap (map (group_at c.append.new.self.items)) spans
-    ∙ group_pushed xs key values c.append.new.self.items c.self.inside.groups.items span next c.self.invariant
-    ∙ ap (λ l. l ++ (key, values) ∷ []) (c.self.view_is ∙ c.make_room.ensures)
+    let front = c.front_in-front.result in
+    let whole : c.push_all.new.self ≡ (xs ++ key) ++ values = c.in_ok-push_all.ensures.pushed ∙ ap (λ l. c.put_key.new.cells ++ l) c.as_mut_slice.ensures.value ∙ ap (λ l. l ++ values) c.in_ok-put_key.ensures.put in
+    c.make_room.ensures ∙ put_is xs key values c.push_all.new.self front span c.self.inside.groups.items c.push.new.self.items whole c.self.invariant (search rules) (search rules) c.in_ok-push.ensures.items
+    ∙ ap (λ l. l ++ (key, values) ∷ []) c.self.view_is

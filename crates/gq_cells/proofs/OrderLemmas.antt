@@ -1,0 +1,56 @@
+-- Lists of numbers in the order of keys.
+use Rattle.std.proofs.Common.{◌≡◌, ◌<◌, ◌≤◌, ℕ, ℤ, List, [], ◌∷◌, Option, Some, None, length, drop, map, Ordering, Less, Greater, refl, sym, ap₂, ◌∙◌, arith}
+use Rattle.std.specs.Cmp.Lexicographic.{slice_cmp}
+use Rattle.std.specs.Option.{option_cmp}
+use Rattle.std.specs.Ordering.{int_cmp, ordering_then}
+use Rattle.gq_row.specs.declared.value.Value.{Value}
+use Rattle.gq_row.specs.declared.value.Value.TheVariants.{Int}
+use Rattle.gq_row.specs.Order.{compare_keys, folded_order, plain_order}
+use Rattle.gq_row.proofs.FoldLemmas.{then_same}
+use Rattle.gq_row.proofs.ListOrderLemmas as ended
+use Rattle.gq_cells.specs.Cells.{number_cell}
+
+-- one of two lists has ended
+module _ {X : Type 0} (order : X → X → Ordering) where
+  pub longer : (a b : List X) (i : ℕ) → i < length a → length b ≤ i → slice_cmp order (drop i a) (drop i b) ≡ slice_cmp order a b → Greater ≡ slice_cmp order a b
+  longer [] b i more done rest = absurd (omega (arith, more))
+  longer (x ∷ a) b i more done rest = ended.longer order x (x ∷ a) b i more done rest
+
+  pub shorter : (a b : List X) (i : ℕ) → i < length b → length a ≤ i → slice_cmp order (drop i a) (drop i b) ≡ slice_cmp order a b → Less ≡ slice_cmp order a b
+  shorter a [] i more done rest = absurd (omega (arith, more))
+  shorter a (x ∷ b) i more done rest = ended.shorter order x a (x ∷ b) i more done rest
+
+-- values that are their own folds, in an order of what they are made of
+module _ {X : Type 0} (order : X → X → Ordering) (f : X → Value) (plain : (x y : X) → plain_order (f x) (f y) ≡ order x y) (fold : (x y : X) → folded_order (f x) (f y) ≡ order x y) where
+  by_plain : (a b : List X) → slice_cmp plain_order (map f a) (map f b) ≡ slice_cmp order a b
+  by_plain [] [] = refl
+  by_plain [] (y ∷ b) = refl
+  by_plain (x ∷ a) [] = refl
+  by_plain (x ∷ a) (y ∷ b) = ap₂ ordering_then (plain x y) (by_plain a b)
+
+  by_fold : (a b : List X) → slice_cmp folded_order (map f a) (map f b) ≡ slice_cmp order a b
+  by_fold [] [] = refl
+  by_fold [] (y ∷ b) = refl
+  by_fold (x ∷ a) [] = refl
+  by_fold (x ∷ a) (y ∷ b) = ap₂ ordering_then (fold x y) (by_fold a b)
+
+  by_each : (a b : List X) → compare_keys (map f a) (map f b) ≡ slice_cmp order a b
+  by_each a b = ap₂ ordering_then (by_fold a b) (by_plain a b) ∙ then_same (slice_cmp order a b)
+
+pub numbers_by_each : (a b : List ℤ) → slice_cmp int_cmp a b ≡ compare_keys (map Int a) (map Int b)
+numbers_by_each a b = sym (by_each int_cmp Int (λ x y. refl) (λ x y. refl) a b)
+
+pub nullable_by_each : (a b : List (Option ℤ)) → slice_cmp (option_cmp int_cmp) a b ≡ compare_keys (map number_cell a) (map number_cell b)
+nullable_by_each a b = sym (by_each (option_cmp int_cmp) number_cell plain fold a b)
+  where
+    plain : (x y : Option ℤ) → plain_order (number_cell x) (number_cell y) ≡ option_cmp int_cmp x y
+    plain None None = refl
+    plain None (Some y) = refl
+    plain (Some x) None = refl
+    plain (Some x) (Some y) = refl
+
+    fold : (x y : Option ℤ) → folded_order (number_cell x) (number_cell y) ≡ option_cmp int_cmp x y
+    fold None None = refl
+    fold None (Some y) = refl
+    fold (Some x) None = refl
+    fold (Some x) (Some y) = refl

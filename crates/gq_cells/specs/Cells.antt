@@ -1,0 +1,44 @@
+-- Values in one list, as they are stored and lent.
+use Rattle.std.specs.Prelude.{ℤ, List, Option, None, Some, map}
+use Rattle.gq_row.specs.declared.value.Value.{Value}
+use Rattle.gq_row.specs.declared.value.Value.TheVariants.{Null, Int, Text, NoCase}
+use Rattle.gq_cells.specs.declared.cell_ref.CellRef.{CellRef}
+use Rattle.gq_cells.specs.declared.cell_ref.CellRef.TheVariants as lent
+use Rattle.gq_cells.specs.declared.cells.Stored.{Stored}
+use Rattle.gq_cells.specs.declared.cells.Stored.TheVariants.{Numbers, Nullable, Values}
+
+-- the value of a number, or null
+abbrev pub number_cell : Option ℤ → Value
+number_cell None = Null
+number_cell (Some n) = Int n
+
+-- a text
+abbrev pub IsText : Value → Type 0
+IsText Null = ⊥
+IsText (Int n) = ⊥
+IsText (Text t) = Unit {0}
+IsText (NoCase t) = Unit {0}
+
+-- the value that is lent
+abbrev pub value_of : CellRef → Value
+value_of lent.Null = Null
+value_of (lent.Int n) = Int n
+value_of (lent.Text text) = Text text.now
+value_of (lent.NoCase text) = NoCase text.now
+
+abbrev pub cells_of : Stored → List Value
+cells_of (Numbers numbers) = map Int numbers.items
+cells_of (Nullable numbers) = map number_cell numbers.items
+cells_of (Values values) = values.items
+
+-- stored as numbers among which null may stand
+abbrev pub HasNullable : Stored → Type 0
+HasNullable (Numbers numbers) = ⊥
+HasNullable (Nullable numbers) = Unit {0}
+HasNullable (Values values) = ⊥
+
+-- stored as values
+abbrev pub HasValues : Stored → Type 0
+HasValues (Numbers numbers) = ⊥
+HasValues (Nullable numbers) = ⊥
+HasValues (Values values) = Unit {0}

@@ -1,0 +1,412 @@
+//! Many values in one list.
+ghost use Rattle.std.specs.Prelude.{◌≡◌, ◌<◌, ◌≤◌, ◌+◌, ◌++◌, ◌∷◌, [], IfOk, IfNone, IfSome, IsOk, OnOk, OnErr, drop, length, map, take, slice_index_or};
+ghost use Rattle.gq_row.specs.declared.value.Value.TheVariants.{Int, Null};
+ghost use Rattle.gq_row.specs.Order.{compare_keys};
+ghost use Rattle.gq_row.specs.Written.{IsInPlace};
+ghost use Rattle.gq_cells.specs.Cells.{IsText, number_cell, value_of};
+ghost use Rattle.gq_cells.specs.Lists.{IsPart, part, row_at};
+
+use crate::cell_ref::CellRef;
+use crate::order::{compare_nullable, compare_numbers};
+use crate::rows::Span;
+use gq_row::{Value, compare_cells};
+use std::alloc::{AllocError, Global};
+use std::cmp::Ordering;
+use std::marker::Model;
+use std::mem;
+
+/// Values one behind the other, seen as their list. As long as all are numbers each takes eight bytes, from the first
+/// null on sixteen, and from the first text on as much as a [`Value`].
+#[derive(Drop)]
+pub struct Cells {
+    stored: Stored,
+}
+
+#[derive(Drop)]
+pub(crate) enum Stored {
+    Numbers(Vec<i64>),
+    Nullable(Vec<Option<i64>>),
+    Values(Vec<Value>),
+}
+
+impl Model for Cells {
+    ghost use Rattle.std.specs.Prelude.{List};
+    ghost use Rattle.gq_row.specs.declared.value.Value.{Value as Cell};
+    ghost use Rattle.gq_cells.specs.Cells.{cells_of};
+
+    ghost Value = { List Cell };
+
+    ghost view = { λ c. cells_of c.stored };
+}
+
+impl Cells {
+    /// No value. It takes no memory.
+    pub fn new(alloc: Global) -> Cells
+        ensures { result ≡ [] }
+    {
+        Cells {
+            stored: Stored::Numbers(Vec::new(alloc)),
+        }
+    }
+
+    /// These values, without a copy. Those that are put behind them take as much each, numbers too.
+    pub fn of(values: Vec<Value>) -> Cells
+        ensures { result ≡ values.items }
+    {
+        Cells {
+            stored: Stored::Values(values),
+        }
+    }
+
+    /// The vector of the values. Numbers among which no text stands are copied, and else no memory is taken.
+    pub fn into_values(self, alloc: Global) -> Result<Vec<Value>, AllocError>
+        ensures { IfOk result (λ values. values.items ≡ self) }
+    {
+        match self.stored {
+            Stored::Numbers(numbers) => values_of(alloc, numbers.as_slice()),
+            Stored::Nullable(numbers) => values_of_nullable(alloc, numbers.as_slice()),
+            Stored::Values(values) => Ok(values),
+        }
+    }
+
+    /// How many there are.
+    #[inline]
+    pub fn len(&self) -> usize
+        ensures { result ≡ length self.now }
+    {
+        match &self.stored {
+            Stored::Numbers(numbers) => numbers.len(),
+            Stored::Nullable(numbers) => numbers.len(),
+            Stored::Values(values) => values.len(),
+        }
+    }
+
+    /// The value at a position, counted from 0.
+    #[inline(always)]
+    pub fn get(&self, position: usize) -> CellRef<'_>
+        requires { position < length self.now }
+        ensures { value_of result ≡ slice_index_or self.now position Null }
+    {
+        match &self.stored {
+            Stored::Numbers(numbers) => CellRef::Int(numbers[position]),
+            Stored::Nullable(numbers) => CellRef::of_number(numbers[position]),
+            Stored::Values(values) => CellRef::of(&values[position]),
+        }
+    }
+
+    /// Makes room for so many values more.
+    pub fn reserve(&mut self, cells: usize) -> Result<(), AllocError>
+        ensures { self.new ≡ self.old }
+    {
+        match &mut self.stored {
+            Stored::Numbers(numbers) => numbers.reserve(cells),
+            Stored::Nullable(numbers) => numbers.reserve(cells),
+            Stored::Values(values) => values.reserve(cells),
+        }
+    }
+
+    /// Writes the value at a position, counted from 0, over another. Only a text of more than 22 bytes takes
+    /// memory, where the value has not enough.
+    #[inline(always)]
+    pub fn copy_to(
+        &self,
+        alloc: Global,
+        position: usize,
+        over: &mut Value,
+    ) -> Result<(), AllocError>
+        requires { position < length self.now }
+        ensures copied { OnOk result (over.new ≡ slice_index_or self.now position Null) }
+        ensures in_place { IsInPlace (slice_index_or self.now position Null) → IsOk result }
+    {
+        match &self.stored {
+            Stored::Numbers(numbers) => {
+                over.write_number(numbers[position]);
+                Ok(())
+            }
+            Stored::Nullable(numbers) => {
+                *over = cell_of(numbers[position]);
+                Ok(())
+            }
+            Stored::Values(values) => over.copy_from(alloc, &values[position]),
+        }
+    }
+
+    /// Puts a value behind the others. A text moves out of the place that is lent.
+    #[inline(always)]
+    pub fn push(&mut self, alloc: Global, value: &mut Value) -> Result<(), AllocError>
+        ensures pushed { OnOk result (self.new ≡ self.old ++ value.old ∷ []) }
+        ensures unchanged { OnErr result (self.new ≡ self.old) }
+    {
+        match &mut self.stored {
+            Stored::Numbers(numbers) => {
+                if let Value::Int(n) = value {
+                    return push_number(numbers, *n);
+                }
+            }
+            Stored::Nullable(numbers) => {
+                if let Some(number) = number_of(value) {
+                    return push_nullable(numbers, number);
+                }
+            }
+            Stored::Values(values) => {
+                return push_value(values, value);
+            }
+        }
+        self.stored.push_wide(alloc, value)
+    }
+
+    /// Puts some values behind the others. They move out of the slice that is lent, and what is left there is of no
+    /// value. Refused, some may stand behind the others.
+    #[inline(always)]
+    pub fn push_all(&mut self, alloc: Global, values: &mut [Value]) -> Result<(), AllocError>
+        ensures pushed { OnOk result (self.new ≡ self.old ++ values.old) }
+        ensures kept { self.new ≡ self.old ++ drop (length self.old) self.new }
+    {
+        for i in 0..values.len() {
+            self.push(alloc, &mut values[i])?;
+        }
+        Ok(())
+    }
+
+    /// Puts the values of another list behind these, out of which they move.
+    pub fn append(&mut self, alloc: Global, more: Cells) -> Result<(), AllocError>
+        ensures appended { OnOk result (self.new ≡ self.old ++ more) }
+        ensures unchanged { OnErr result (self.new ≡ self.old) }
+    {
+        let mut more = more;
+        self.stored.append(alloc, &mut more.stored)
+    }
+
+    /// Writes the values of a part over those of a list. Where that is as long, only texts of more than 22 bytes take
+    /// memory.
+    pub fn copy_part(
+        &self,
+        alloc: Global,
+        part: Span,
+        over: &mut Vec<Value>,
+    ) -> Result<(), AllocError>
+        requires { IsPart self.now part }
+        ensures { OnOk result (over.new.items ≡ row_at self.now part) }
+    {
+        over.resize_with(part.end - part.start, || Value::Null)?;
+        self.write_over(alloc, part.start, over.as_mut_slice())
+    }
+
+    // Writes those from a position on over as many others.
+    fn write_over(&self, alloc: Global, start: usize, over: &mut [Value]) -> Result<(), AllocError>
+        requires { start + length over.old ≤ length self.now }
+        ensures { OnOk result (over.new ≡ part self.now start (start + length over.old)) }
+    {
+        // Positions are those of a list in memory.
+        let _all = self.len();
+        for i in 0..over.len() {
+            self.copy_to(alloc, start + i, &mut over[i])?;
+        }
+        Ok(())
+    }
+
+    /// The order of two parts, as of keys: from the left, a list before each longer one that begins with it.
+    pub fn compare(&self, a: Span, b: Span) -> Ordering
+        requires { IsPart self.now a × IsPart self.now b }
+        ensures { result ≡ compare_keys (row_at self.now a) (row_at self.now b) }
+    {
+        match &self.stored {
+            Stored::Numbers(numbers) => {
+                compare_numbers(&numbers[a.start..a.end], &numbers[b.start..b.end])
+            }
+            Stored::Nullable(numbers) => {
+                compare_nullable(&numbers[a.start..a.end], &numbers[b.start..b.end])
+            }
+            Stored::Values(values) => {
+                compare_cells(&values[a.start..a.end], &values[b.start..b.end])
+            }
+        }
+    }
+
+    /// Leaves out all values but the first, so many.
+    pub fn truncate(&mut self, cells: usize)
+        ensures { self.new ≡ take cells self.old }
+    {
+        match &mut self.stored {
+            Stored::Numbers(numbers) => numbers.truncate(cells),
+            Stored::Nullable(numbers) => numbers.truncate(cells),
+            Stored::Values(values) => values.truncate(cells),
+        }
+    }
+}
+
+impl Stored {
+    ghost use Rattle.gq_cells.specs.Cells.{HasNullable, HasValues, cells_of};
+
+    // Puts a cell behind the others, for which there is no place among these as they are stored.
+    #[cold]
+    fn push_wide(&mut self, alloc: Global, value: &mut Value) -> Result<(), AllocError>
+        ensures pushed { OnOk result (cells_of self.new ≡ cells_of self.old ++ value.old ∷ []) }
+        ensures unchanged { OnErr result (cells_of self.new ≡ cells_of self.old) }
+    {
+        match number_of(value) {
+            Some(number) if !matches!(self, Stored::Values(_)) => {
+                self.admit_null(alloc)?;
+                match self {
+                    Stored::Nullable(numbers) => push_nullable(numbers, number),
+                    Stored::Numbers(_) | Stored::Values(_) => unreachable!(),
+                }
+            }
+            _ => {
+                self.admit_texts(alloc)?;
+                match self {
+                    Stored::Values(values) => push_value(values, value),
+                    Stored::Numbers(_) | Stored::Nullable(_) => unreachable!(),
+                }
+            }
+        }
+    }
+
+    // Stores numbers so that null may stand among them.
+    fn admit_null(&mut self, alloc: Global) -> Result<(), AllocError>
+        requires { HasValues self.old → ⊥ }
+        ensures wide { OnOk result (HasNullable self.new) }
+        ensures same { cells_of self.new ≡ cells_of self.old }
+    {
+        if let Stored::Numbers(numbers) = self {
+            *self = Stored::Nullable(nullable_of(alloc, numbers.as_slice())?);
+        }
+        Ok(())
+    }
+
+    // Stores numbers as values.
+    fn admit_texts(&mut self, alloc: Global) -> Result<(), AllocError>
+        ensures wide { OnOk result (HasValues self.new) }
+        ensures same { cells_of self.new ≡ cells_of self.old }
+    {
+        match self {
+            Stored::Numbers(numbers) => {
+                *self = Stored::Values(values_of(alloc, numbers.as_slice())?);
+            }
+            Stored::Nullable(numbers) => {
+                *self = Stored::Values(values_of_nullable(alloc, numbers.as_slice())?);
+            }
+            Stored::Values(_) => {}
+        }
+        Ok(())
+    }
+
+    // Puts other cells behind these: numbers behind numbers, and else values behind values.
+    fn append(&mut self, alloc: Global, more: &mut Stored) -> Result<(), AllocError>
+        ensures appended { OnOk result (cells_of self.new ≡ cells_of self.old ++ cells_of more.old) }
+        ensures unchanged { OnErr result (cells_of self.new ≡ cells_of self.old) }
+    {
+        match (&mut *self, &mut *more) {
+            (Stored::Numbers(numbers), Stored::Numbers(behind)) => {
+                return numbers.append(behind);
+            }
+            (Stored::Nullable(numbers), Stored::Nullable(behind)) => {
+                return numbers.append(behind);
+            }
+            (Stored::Nullable(numbers), Stored::Numbers(behind)) => {
+                return numbers.append(&mut nullable_of(alloc, behind.as_slice())?);
+            }
+            (Stored::Numbers(numbers), Stored::Nullable(behind)) => {
+                let mut all = nullable_of(alloc, numbers.as_slice())?;
+                all.append(behind)?;
+                *self = Stored::Nullable(all);
+                return Ok(());
+            }
+            _ => {}
+        }
+        more.admit_texts(alloc)?;
+        self.admit_texts(alloc)?;
+        match (self, more) {
+            (Stored::Values(own), Stored::Values(values)) => own.append(values),
+            _ => unreachable!(),
+        }
+    }
+}
+
+// The cell of a number, or null.
+#[inline]
+fn cell_of(number: Option<i64>) -> Value
+    ensures { result ≡ number_cell number }
+{
+    match number {
+        Some(n) => Value::Int(n),
+        None => Value::Null,
+    }
+}
+
+// The number of a cell, where it is one or null.
+#[inline]
+fn number_of(value: &Value) -> Option<Option<i64>>
+    ensures some { IfSome result (λ number. number_cell number ≡ value.now) }
+    ensures none { IfNone result (IsText value.now) }
+{
+    match value {
+        Value::Null => Some(None),
+        Value::Int(n) => Some(Some(*n)),
+        _ => None,
+    }
+}
+
+#[inline]
+fn push_number(numbers: &mut Vec<i64>, number: i64) -> Result<(), AllocError>
+    ensures pushed { OnOk result (numbers.new.items ≡ numbers.old.items ++ number ∷ []) }
+    ensures unchanged { OnErr result (numbers.new.items ≡ numbers.old.items) }
+{
+    numbers.push(number)?;
+    Ok(())
+}
+
+#[inline]
+fn push_nullable(numbers: &mut Vec<Option<i64>>, number: Option<i64>) -> Result<(), AllocError>
+    ensures pushed { OnOk result (numbers.new.items ≡ numbers.old.items ++ number ∷ []) }
+    ensures unchanged { OnErr result (numbers.new.items ≡ numbers.old.items) }
+{
+    numbers.push(number)?;
+    Ok(())
+}
+
+#[inline]
+fn push_value(values: &mut Vec<Value>, value: &mut Value) -> Result<(), AllocError>
+    ensures pushed { OnOk result (values.new.items ≡ values.old.items ++ value.old ∷ []) }
+    ensures unchanged { OnErr result (values.new.items ≡ values.old.items) }
+{
+    match value {
+        // A number moves by itself.
+        Value::Int(n) => values.push(Value::Int(*n))?,
+        value => values.push(mem::replace(value, Value::Null))?,
+    }
+    Ok(())
+}
+
+// Numbers among which null may stand, with room for as many as the numbers have.
+fn nullable_of(alloc: Global, numbers: &[i64]) -> Result<Vec<Option<i64>>, AllocError>
+    ensures { IfOk result (λ cells. map number_cell cells.items ≡ map Int numbers.now) }
+{
+    let mut cells = Vec::with_capacity(alloc, numbers.len())?;
+    for number in numbers {
+        cells.push(Some(*number))?;
+    }
+    Ok(cells)
+}
+
+// Numbers as values, with room for as many as the numbers have.
+fn values_of(alloc: Global, numbers: &[i64]) -> Result<Vec<Value>, AllocError>
+    ensures { IfOk result (λ values. values.items ≡ map Int numbers.now) }
+{
+    let mut values = Vec::with_capacity(alloc, numbers.len())?;
+    for number in numbers {
+        values.push(Value::Int(*number))?;
+    }
+    Ok(values)
+}
+
+// Numbers and null as values, likewise.
+fn values_of_nullable(alloc: Global, numbers: &[Option<i64>]) -> Result<Vec<Value>, AllocError>
+    ensures { IfOk result (λ values. values.items ≡ map number_cell numbers.now) }
+{
+    let mut values = Vec::with_capacity(alloc, numbers.len())?;
+    for number in numbers {
+        values.push(cell_of(*number))?;
+    }
+    Ok(values)
+}

@@ -1,0 +1,42 @@
+//! The order of lists of numbers.
+ghost use Rattle.std.specs.Prelude.{◌≡◌, length, map};
+ghost use Rattle.std.specs.Cmp.Lexicographic.{slice_cmp};
+ghost use Rattle.gq_row.specs.declared.value.Value.TheVariants.{Int};
+ghost use Rattle.gq_row.specs.Order.{compare_keys};
+ghost use Rattle.gq_cells.specs.Cells.{number_cell};
+
+use std::cmp::Ordering;
+
+/// That of lists of values which are numbers.
+pub(crate) fn compare_numbers(a: &[i64], b: &[i64]) -> Ordering
+    ensures { result ≡ compare_keys (map Int a.now) (map Int b.now) }
+{
+    compare_each(a, b)
+}
+
+/// And of those which are numbers or null.
+pub(crate) fn compare_nullable(a: &[Option<i64>], b: &[Option<i64>]) -> Ordering
+    ensures { result ≡ compare_keys (map number_cell a.now) (map number_cell b.now) }
+{
+    compare_each(a, b)
+}
+
+// From the left, a list before each longer one that begins with it.
+fn compare_each<T: Ord>(a: &[T], b: &[T]) -> Ordering
+    ensures { result ≡ slice_cmp T.cmp a.now b.now }
+{
+    for i in 0..a.len() {
+        if i >= b.len() {
+            return Ordering::Greater;
+        }
+        match a[i].cmp(&b[i]) {
+            Ordering::Equal => {}
+            told => return told,
+        }
+    }
+    if a.len() < b.len() {
+        Ordering::Less
+    } else {
+        Ordering::Equal
+    }
+}

@@ -1,0 +1,177 @@
+//! Many rows in one list.
+ghost use Rattle.std.specs.Prelude.{◌≡◌, ◌<◌, ◌≤◌, ◌==◌, ◌++◌, ◌∷◌, [], All, OnOk, OnErr, length, map, take, slice_index_or};
+ghost use Rattle.std.specs.List.{swap};
+ghost use Rattle.gq_cells.specs.Lists.{IsPart, row_at};
+
+use crate::cells::Cells;
+use crate::row_ref::RowRef;
+use gq_row::Value;
+use std::alloc::{AllocError, Global};
+use std::marker::Model;
+
+/// Where a row stands in a list of cells: from the first position up to the second, which it leaves out.
+#[derive(Clone, Copy)]
+pub struct Span {
+    pub start: usize,
+    pub end: usize,
+}
+
+/// Rows whose cells stand one behind the other in one list, seen as the list of rows. They take two
+/// requests for memory in all, where a [`Row`](gq_row::Row) of each would take one a row. What moves,
+/// swaps or leaves out rows moves spans, and no cell.
+#[derive(Drop)]
+pub struct Rows {
+    cells: Cells,
+    spans: Vec<Span>,
+}
+
+impl Model for Rows {
+    ghost use Rattle.std.specs.Prelude.{List, All, map};
+    ghost use Rattle.gq_row.specs.declared.value.Value.{Value as Cell};
+    ghost use Rattle.gq_cells.specs.Lists.{IsPart, row_at};
+
+    ghost Value = { List (List Cell) };
+
+    ghost view = { λ r. map (row_at r.cells) r.spans.items };
+
+    ghost invariant = { λ r. All (IsPart r.cells) r.spans.items };
+}
+
+impl Rows {
+    /// No row. It takes no memory.
+    pub fn new(alloc: Global) -> Rows
+        ensures { result ≡ [] }
+    {
+        Rows {
+            cells: Cells::of(Vec::new(alloc)),
+            spans: Vec::new(alloc),
+        }
+    }
+
+    /// The rows that stand at these spans of a list of cells, without a copy.
+    pub fn of(cells: Cells, spans: Vec<Span>) -> Rows
+        requires { All (IsPart cells) spans.items }
+        ensures { result ≡ map (row_at cells) spans.items }
+    {
+        Rows { cells, spans }
+    }
+
+    /// The list of all cells, and where in it the rows stand, without a copy.
+    pub fn into_parts(self) -> (Cells, Vec<Span>)
+        ensures rows { map (row_at result.0) result.1.items ≡ self }
+        ensures within { All (IsPart result.0) result.1.items }
+    {
+        (self.cells, self.spans)
+    }
+
+    /// Makes room for so many rows of so many cells each.
+    pub fn reserve(&mut self, rows: usize, width: usize) -> Result<(), AllocError>
+        ensures { self.new ≡ self.old }
+    {
+        self.spans.reserve(rows)?;
+        self.cells.reserve(rows.saturating_mul(width))
+    }
+
+    /// The number of rows.
+    #[inline]
+    pub fn len(&self) -> usize
+        ensures { result ≡ length self.now }
+    {
+        self.spans.len()
+    }
+
+    #[inline]
+    pub fn is_empty(&self) -> bool
+        ensures { result ≡ (length self.now == 0) }
+    {
+        self.spans.is_empty()
+    }
+
+    /// The row at a position, counted from 0, lent where it stands.
+    #[inline]
+    pub fn row(&self, position: usize) -> RowRef<'_>
+        requires { position < length self.now }
+        ensures { result ≡ slice_index_or self.now position [] }
+    {
+        RowRef::new(&self.cells, self.spans[position])
+    }
+
+    /// Writes the values of the row at a position over those of another. Where that is as long, only texts of more
+    /// than 22 bytes take memory.
+    pub fn copy_row(
+        &self,
+        alloc: Global,
+        position: usize,
+        row: &mut Vec<Value>,
+    ) -> Result<(), AllocError>
+        requires { position < length self.now }
+        ensures { OnOk result (row.new.items ≡ slice_index_or self.now position []) }
+    {
+        self.cells.copy_part(alloc, self.spans[position], row)
+    }
+
+    /// Puts a row behind the others. Its values move out of the list that it is lent.
+    pub fn push(&mut self, alloc: Global, row: &mut Vec<Value>) -> Result<(), AllocError>
+        ensures pushed { OnOk result (self.new ≡ self.old ++ row.old.items ∷ []) }
+        ensures moved { OnOk result (row.new.items ≡ []) }
+        ensures unchanged { OnErr result (self.new ≡ self.old) }
+    {
+        let start = self.cells.len();
+        self.cells.push_all(alloc, row.as_mut_slice())?;
+        row.clear();
+        let end = self.cells.len();
+        self.spans.push(Span { start, end })?;
+        Ok(())
+    }
+
+    /// Puts a copy of a row behind the others.
+    pub fn push_copy(&mut self, alloc: Global, row: &[Value]) -> Result<(), AllocError>
+        ensures pushed { OnOk result (self.new ≡ self.old ++ row.now ∷ []) }
+        ensures unchanged { OnErr result (self.new ≡ self.old) }
+    {
+        let start = self.cells.len();
+        for value in row {
+            self.cells.push(alloc, &mut value.copy(alloc)?)?;
+        }
+        let end = self.cells.len();
+        self.spans.push(Span { start, end })?;
+        Ok(())
+    }
+
+    /// Puts all rows of another list behind the others. They move.
+    pub fn append(&mut self, alloc: Global, more: Rows) -> Result<(), AllocError>
+        ensures appended { OnOk result (self.new ≡ self.old ++ more) }
+        ensures unchanged { OnErr result (self.new ≡ self.old) }
+    {
+        let Rows { cells, mut spans } = more;
+        self.spans.reserve(spans.len())?;
+        let start = self.cells.len();
+        self.cells.append(alloc, cells)?;
+        // Positions are those of a list in memory.
+        let _all = self.cells.len();
+        for i in 0..spans.len() {
+            let span = spans[i];
+            spans[i] = Span {
+                start: start + span.start,
+                end: start + span.end,
+            };
+        }
+        self.spans.append(&mut spans)?;
+        Ok(())
+    }
+
+    /// Lets two rows change places.
+    pub fn swap(&mut self, a: usize, b: usize)
+        requires { (a < length self.old) × (b < length self.old) }
+        ensures { self.new ≡ swap self.old a b }
+    {
+        self.spans.swap(a, b);
+    }
+
+    /// Leaves out all rows but the first, so many.
+    pub fn truncate(&mut self, rows: usize)
+        ensures { self.new ≡ take rows self.old }
+    {
+        self.spans.truncate(rows);
+    }
+}

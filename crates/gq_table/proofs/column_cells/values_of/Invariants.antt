@@ -1,6 +1,0 @@
-use Rattle.std.proofs.Common.{◌≡◌, map, take}
-use Rattle.gq_row.specs.declared.value.Value.TheVariants.{Int}
-use Rattle.gq_table.proofs.column_cells.values_of.Given as goal
-
-abbrev pub invariant-loop-number : goal.invariant-loop-number
-invariant-loop-number l = l.values.items ≡ map Int (take l.number-index l.numbers)

@@ -1,6 +1,0 @@
-use Rattle.std.proofs.Common.{◌≡◌, map, take}
-use Rattle.gq_table.specs.Columns.{number_cell}
-use Rattle.gq_table.proofs.column_cells.values_of_nullable.Given as goal
-
-abbrev pub invariant-loop-number : goal.invariant-loop-number
-invariant-loop-number l = l.values.items ≡ map number_cell (take l.number-index l.numbers)
