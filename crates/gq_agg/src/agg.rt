@@ -106,13 +106,14 @@ impl Agg {
         Ok(value)
     }
 
-    /// Likewise where it stands, out of which its value moves over another. What is left is of the same
-    /// kind, and knows how many values were added, and no more of them.
+    /// Likewise where it stands, out of which its value moves over another, which stays where the sum is out of
+    /// range. What is left is of the same kind, and knows how many values were added, and no more of them.
     #[inline(always)]
     pub fn take_to(&mut self, over: &mut Value) -> Result<(), SumRange>
         ensures value { (kind : _) (values : List Cell) → self.old ≡ tally kind values →
             MatchResult result (λ _. aggregate kind values ≡ Some over.new)
             (λ _. aggregate kind values ≡ None) }
+        ensures unchanged { OnErr result (over.new ≡ over.old) }
         ensures adds { self.new.adds ≡ self.old.adds }
         ensures kind { kind_of self.new.state ≡ kind_of self.old.state }
     {

@@ -75,6 +75,7 @@ impl State {
             self.old ≡ kept kind values →
             MatchResult result (λ _. aggregate kind values ≡ Some over.new)
             (λ _. aggregate kind values ≡ None) }
+        ensures unchanged { OnErr result (over.new ≡ over.old) }
         ensures bounded { IsBounded adds self.new }
         ensures kind { kind_of self.new ≡ kind_of self.old }
     {

@@ -1,5 +1,5 @@
 -- Lists of numbers in the order of keys.
-use Rattle.std.proofs.Common.{◌≡◌, ◌<◌, ◌≤◌, ℕ, ℤ, List, [], ◌∷◌, Option, Some, None, length, drop, map, Ordering, Less, Greater, refl, sym, ap₂, ◌∙◌, arith}
+use Rattle.std.proofs.Common.{◌≡◌, ℤ, List, [], ◌∷◌, Option, Some, None, map, Ordering, refl, sym, ap₂, ◌∙◌}
 use Rattle.std.specs.Cmp.Lexicographic.{slice_cmp}
 use Rattle.std.specs.Option.{option_cmp}
 use Rattle.std.specs.Ordering.{int_cmp, ordering_then}
@@ -7,18 +7,7 @@ use Rattle.gq_row.specs.declared.value.Value.{Value}
 use Rattle.gq_row.specs.declared.value.Value.TheVariants.{Int}
 use Rattle.gq_row.specs.Order.{compare_keys, folded_order, plain_order}
 use Rattle.gq_row.proofs.FoldLemmas.{then_same}
-use Rattle.gq_row.proofs.ListOrderLemmas as ended
 use Rattle.gq_cells.specs.Cells.{number_cell}
-
--- one of two lists has ended
-module _ {X : Type 0} (order : X → X → Ordering) where
-  pub longer : (a b : List X) (i : ℕ) → i < length a → length b ≤ i → slice_cmp order (drop i a) (drop i b) ≡ slice_cmp order a b → Greater ≡ slice_cmp order a b
-  longer [] b i more done rest = absurd (omega (arith, more))
-  longer (x ∷ a) b i more done rest = ended.longer order x (x ∷ a) b i more done rest
-
-  pub shorter : (a b : List X) (i : ℕ) → i < length b → length a ≤ i → slice_cmp order (drop i a) (drop i b) ≡ slice_cmp order a b → Less ≡ slice_cmp order a b
-  shorter a [] i more done rest = absurd (omega (arith, more))
-  shorter a (x ∷ b) i more done rest = ended.shorter order x a (x ∷ b) i more done rest
 
 -- values that are their own folds, in an order of what they are made of
 module _ {X : Type 0} (order : X → X → Ordering) (f : X → Value) (plain : (x y : X) → plain_order (f x) (f y) ≡ order x y) (fold : (x y : X) → folded_order (f x) (f y) ≡ order x y) where

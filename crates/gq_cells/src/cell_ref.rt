@@ -1,5 +1,5 @@
 //! A value where it stands.
-ghost use Rattle.std.specs.Prelude.{◌≡◌, IfOk};
+ghost use Rattle.std.specs.Prelude.{◌≡◌};
 ghost use Rattle.gq_cells.specs.Cells.{number_cell, value_of};
 
 use gq_row::{Text, Value};

@@ -1,5 +1,5 @@
 //! Many values in one list.
-ghost use Rattle.std.specs.Prelude.{◌≡◌, ◌<◌, ◌≤◌, ◌+◌, ◌++◌, ◌∷◌, [], IfOk, IfNone, IfSome, IsOk, OnOk, OnErr, drop, length, map, take, slice_index_or};
+ghost use Rattle.std.specs.Prelude.{◌≡◌, ◌<◌, ◌≤◌, ◌+◌, ◌-◌, ◌++◌, ◌∷◌, [], All, IfOk, IfNone, IfSome, IsOk, OnOk, OnErr, drop, length, map, take, slice_index_or};
 ghost use Rattle.gq_row.specs.declared.value.Value.TheVariants.{Int, Null};
 ghost use Rattle.gq_row.specs.Order.{compare_keys};
 ghost use Rattle.gq_row.specs.Written.{IsInPlace};
@@ -186,7 +186,9 @@ impl Cells {
         over: &mut Vec<Value>,
     ) -> Result<(), AllocError>
         requires { IsPart self.now part }
-        ensures { OnOk result (over.new.items ≡ row_at self.now part) }
+        ensures copied { OnOk result (over.new.items ≡ row_at self.now part) }
+        ensures in_place { length over.old.items ≡ part.end - part.start →
+            All IsInPlace (row_at self.now part) → IsOk result }
     {
         over.resize_with(part.end - part.start, || Value::Null)?;
         self.write_over(alloc, part.start, over.as_mut_slice())
@@ -195,7 +197,8 @@ impl Cells {
     // Writes those from a position on over as many others.
     fn write_over(&self, alloc: Global, start: usize, over: &mut [Value]) -> Result<(), AllocError>
         requires { start + length over.old ≤ length self.now }
-        ensures { OnOk result (over.new ≡ part self.now start (start + length over.old)) }
+        ensures copied { OnOk result (over.new ≡ part self.now start (start + length over.old)) }
+        ensures in_place { All IsInPlace (part self.now start (start + length over.old)) → IsOk result }
     {
         // Positions are those of a list in memory.
         let _all = self.len();

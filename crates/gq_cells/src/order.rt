@@ -1,5 +1,5 @@
 //! The order of lists of numbers.
-ghost use Rattle.std.specs.Prelude.{◌≡◌, length, map};
+ghost use Rattle.std.specs.Prelude.{◌≡◌, map};
 ghost use Rattle.std.specs.Cmp.Lexicographic.{slice_cmp};
 ghost use Rattle.gq_row.specs.declared.value.Value.TheVariants.{Int};
 ghost use Rattle.gq_row.specs.Order.{compare_keys};
@@ -25,18 +25,5 @@ pub(crate) fn compare_nullable(a: &[Option<i64>], b: &[Option<i64>]) -> Ordering
 fn compare_each<T: Ord>(a: &[T], b: &[T]) -> Ordering
     ensures { result ≡ slice_cmp T.cmp a.now b.now }
 {
-    for i in 0..a.len() {
-        if i >= b.len() {
-            return Ordering::Greater;
-        }
-        match a[i].cmp(&b[i]) {
-            Ordering::Equal => {}
-            told => return told,
-        }
-    }
-    if a.len() < b.len() {
-        Ordering::Less
-    } else {
-        Ordering::Equal
-    }
+    a.iter().cmp(b.iter())
 }

@@ -1,6 +1,7 @@
 //! Many rows in one list.
-ghost use Rattle.std.specs.Prelude.{◌≡◌, ◌<◌, ◌≤◌, ◌==◌, ◌++◌, ◌∷◌, [], All, OnOk, OnErr, length, map, take, slice_index_or};
+ghost use Rattle.std.specs.Prelude.{◌≡◌, ◌<◌, ◌≤◌, ◌==◌, ◌++◌, ◌∷◌, [], All, IsOk, OnOk, OnErr, length, map, take, slice_index_or};
 ghost use Rattle.std.specs.List.{swap};
+ghost use Rattle.gq_row.specs.Written.{IsInPlace};
 ghost use Rattle.gq_cells.specs.Lists.{IsPart, row_at};
 
 use crate::cells::Cells;
@@ -105,7 +106,9 @@ impl Rows {
         row: &mut Vec<Value>,
     ) -> Result<(), AllocError>
         requires { position < length self.now }
-        ensures { OnOk result (row.new.items ≡ slice_index_or self.now position []) }
+        ensures copied { OnOk result (row.new.items ≡ slice_index_or self.now position []) }
+        ensures in_place { length row.old.items ≡ length (slice_index_or self.now position []) →
+            All IsInPlace (slice_index_or self.now position []) → IsOk result }
     {
         self.cells.copy_part(alloc, self.spans[position], row)
     }

@@ -7,11 +7,11 @@ use Rattle.gq_row.specs.declared.value.Value.{Value}
 use Rattle.gq_row.specs.Rows.{cell}
 use Rattle.gq_agg.specs.Aggregates.{takes}
 use Rattle.gq_agg.specs.declared.kind.AggKind.{AggKind}
-use Rattle.gq_group.specs.Fitting.{are_asked_before, are_before}
-use Rattle.gq_group.specs.Groups.{Spec, counts_all, fits_cell, fits_spec}
+use Rattle.gq_group.specs.Fitting.{has_all_asked}
+use Rattle.gq_group.specs.Groups.{Spec, counts_all, fits_cell, fits_spec, has_columns}
 
-pub lacks_column : (spec : Spec) (row : List Value) → (are_before (length row) spec.by && are_asked_before (length row) spec.aggs) ≡ false → fits_spec spec row ≡ false
-lacks_column spec row = whole (are_before (length row) spec.by)
+pub lacks_column : (spec : Spec) (row : List Value) → (has_columns spec.by row && has_all_asked spec.aggs row) ≡ false → fits_spec spec row ≡ false
+lacks_column spec row = whole (has_columns spec.by row)
   where
     one : (counts reaches takes rest fit : Bool) → (rest ≡ false → fit ≡ false) → ((counts || reaches) && rest) ≡ false → ((counts || (reaches && takes)) && fit) ≡ false
     one true reaches takes rest fit others e = others e
@@ -19,10 +19,10 @@ lacks_column spec row = whole (are_before (length row) spec.by)
     one false true false rest fit others e = refl
     one false true true rest fit others e = others e
 
-    each : (aggs : List (AggKind × ℕ)) → are_asked_before (length row) aggs ≡ false → list_all (fits_cell row) aggs ≡ false
+    each : (aggs : List (AggKind × ℕ)) → has_all_asked aggs row ≡ false → list_all (fits_cell row) aggs ≡ false
     each [] e = absurd (false≢true (sym e))
-    each (a ∷ aggs) e = one (counts_all a.0) (nat_lt a.1 (length row)) (takes a.0 (cell row a.1)) (are_asked_before (length row) aggs) (list_all (fits_cell row) aggs) (each aggs) e
+    each (a ∷ aggs) e = one (counts_all a.0) (nat_lt a.1 (length row)) (takes a.0 (cell row a.1)) (has_all_asked aggs row) (list_all (fits_cell row) aggs) (each aggs) e
 
-    whole : (b : Bool) → (b && are_asked_before (length row) spec.aggs) ≡ false → (b && list_all (fits_cell row) spec.aggs) ≡ false
+    whole : (b : Bool) → (b && has_all_asked spec.aggs row) ≡ false → (b && list_all (fits_cell row) spec.aggs) ≡ false
     whole false e = refl
     whole true e = each spec.aggs e

@@ -1,5 +1,5 @@
 //! The running aggregates of a group.
-ghost use Rattle.std.specs.Prelude.{◌≡◌, ◌⊎◌, ◌<◌, ◌≤◌, ◌+◌, ◌^◌, ◌++◌, ◌∷◌, [], ℕ, true, false, List, length, drop, map, take, Some, None, IsTrue, IfErr, IsErrOf, MatchResult, OnOk, OnErr};
+ghost use Rattle.std.specs.Prelude.{◌≡◌, ◌<◌, ◌≤◌, ◌+◌, ◌^◌, ◌++◌, ◌∷◌, [], ℕ, true, false, List, length, drop, map, take, Some, None, IsTrue, MatchResult, OnOk, OnErr};
 ghost use Rattle.std.specs.List.{list_all, list_any};
 ghost use Rattle.gq_row.specs.declared.value.Value.{Value as Cell};
 ghost use Rattle.gq_row.specs.Rows.{cell};
@@ -11,7 +11,6 @@ ghost use Rattle.gq_group.specs.Groups.{answers, counts_all, fits_cell, is_none}
 ghost use Rattle.gq_group.specs.KeptAggs.{IsKnown, kept_aggs, told_by};
 
 use crate::group_spec::counts_all as is_count;
-use crate::refusal::Refusal;
 use gq_agg::{Agg, AggKind, SumRange};
 use gq_row::{Row, Value};
 use std::alloc::{AllocError, Global};

@@ -1,8 +1,9 @@
 //! What is asked of the groups of rows.
-ghost use Rattle.std.specs.Prelude.{◌≡◌, ◌≤◌, ◌&&◌, ℕ, true, IfOk, length, nat_lt, take};
+ghost use Rattle.std.specs.Prelude.{◌≡◌, ◌≤◌, ◌&&◌, ℕ, true, List, IfOk, length, nat_lt, take};
 ghost use Rattle.std.specs.List.{list_all};
-ghost use Rattle.gq_group.specs.Fitting.{are_before, are_asked_before, is_asked_before, reaches as does_reach};
-ghost use Rattle.gq_group.specs.Groups.{counts_all as is_count, fits_cell as cell_fits};
+ghost use Rattle.gq_row.specs.declared.value.Value.{Value as Cell};
+ghost use Rattle.gq_group.specs.Fitting.{has_all_asked, has_asked, reaches as does_reach};
+ghost use Rattle.gq_group.specs.Groups.{counts_all as is_count, fits_cell as cell_fits, has_columns};
 ghost use Rattle.gq_group.specs.KeptAggs.{kept_spec, others};
 
 use gq_agg::AggKind;
@@ -21,16 +22,17 @@ pub struct GroupSpec {
 }
 
 impl Model for GroupSpec {
-    ghost use Rattle.std.specs.Prelude.{◌≡◌, ◌&&◌, ℕ};
-    ghost use Rattle.gq_group.specs.Fitting.{are_before, are_asked_before, reaches};
-    ghost use Rattle.gq_group.specs.Groups.{Spec};
+    ghost use Rattle.std.specs.Prelude.{◌≡◌, ◌&&◌, List, length};
+    ghost use Rattle.gq_row.specs.declared.value.Value.{Value as Cell};
+    ghost use Rattle.gq_group.specs.Fitting.{has_all_asked, reaches};
+    ghost use Rattle.gq_group.specs.Groups.{Spec, has_columns};
 
     ghost Value = { Spec };
 
     ghost view = { λ s. record { by = s.by.items; aggs = s.aggs.items } };
 
-    ghost invariant = { λ s. (n : ℕ) →
-        reaches s.last n ≡ (are_before n s.by.items && are_asked_before n s.aggs.items) };
+    ghost invariant = { λ s. (row : List Cell) → reaches s.last (length row) ≡
+        (has_columns s.by.items row && has_all_asked s.aggs.items row) };
 }
 
 impl GroupSpec {
@@ -95,7 +97,8 @@ impl GroupSpec {
 
 // The last of some columns, if there is one.
 fn last_of(columns: &[usize]) -> Option<usize>
-    ensures { (n : ℕ) → does_reach result n ≡ are_before n columns.now }
+    ensures { (row : List Cell) →
+        does_reach result (length row) ≡ has_columns columns.now row }
 {
     let mut last = None;
     for column in columns {
@@ -106,7 +109,8 @@ fn last_of(columns: &[usize]) -> Option<usize>
 
 // The last of a column, if there is one, and those of which something is asked.
 fn last_asked(before: Option<usize>, aggs: &[(AggKind, usize)]) -> Option<usize>
-    ensures { (n : ℕ) → does_reach result n ≡ (does_reach before n && are_asked_before n aggs.now) }
+    ensures { (row : List Cell) → does_reach result (length row) ≡
+        (does_reach before (length row) && has_all_asked aggs.now row) }
 {
     let mut last = before;
     for agg in aggs {
@@ -162,7 +166,7 @@ pub(crate) fn counts_all(kind: AggKind) -> bool
 // Whether no text is to be summed in a row that has all columns of which something is asked.
 #[inline]
 fn fit_cells(aggs: &[(AggKind, usize)], row: &Row) -> bool
-    requires { are_asked_before (length row.now) aggs.now ≡ true }
+    requires { has_all_asked aggs.now row.now ≡ true }
     ensures { result ≡ list_all (cell_fits row.now) aggs.now }
 {
     for agg in aggs {
@@ -175,7 +179,7 @@ fn fit_cells(aggs: &[(AggKind, usize)], row: &Row) -> bool
 
 #[inline]
 fn fits_cell(kind: AggKind, column: usize, row: &Row) -> bool
-    requires { is_asked_before (length row.now) (kind, column) ≡ true }
+    requires { has_asked row.now (kind, column) ≡ true }
     ensures { result ≡ cell_fits row.now (kind, column) }
 {
     match kind {

@@ -11,7 +11,7 @@ use Rattle.gq_reply.specs.Replies.{cell_text, record_text}
 abbrev pub is_plain : List ℕ → Bool
 is_plain field = not (length field == 0) && not (needs_quotes default_writer field)
 
--- whether that of a value is so, as those of null and of all numbers are. The least number is left out, so that each has to be looked at
+-- whether that of a value is so, and is written field by field: those of null and of each number but the least
 abbrev pub is_bare : Value → Bool
 is_bare Null = true
 is_bare (Int n) = not (int_eq n (negsuc (2 ^ 63 - 1)))

@@ -63,6 +63,7 @@ fn is_bare(cell: CellRef<'_>) -> bool
 {
     match cell {
         CellRef::Null => true,
+        // Each number is looked at: the least is left to the CSV writer.
         CellRef::Int(n) => n != i64::MIN,
         CellRef::Text(text) | CellRef::NoCase(text) => is_plain(text.as_str().as_bytes()),
     }

@@ -1,6 +1,7 @@
-use Rattle.std.proofs.Common.{◌≡◌, ◌&&◌, ℕ, drop}
-use Rattle.gq_group.specs.Fitting.{are_asked_before, reaches}
+use Rattle.std.proofs.Common.{◌≡◌, ◌&&◌, List, drop, length}
+use Rattle.gq_row.specs.declared.value.Value.{Value}
+use Rattle.gq_group.specs.Fitting.{has_all_asked, reaches}
 use Rattle.gq_group.proofs.group_spec.last_asked.Given as goal
 
 abbrev pub invariant-loop-agg : goal.invariant-loop-agg
-invariant-loop-agg l = (n : ℕ) → (reaches l.last n && are_asked_before n (drop l.agg-index l.aggs)) ≡ (reaches l.fn.before n && are_asked_before n l.aggs)
+invariant-loop-agg l = (row : List Value) → (reaches l.last (length row) && has_all_asked (drop l.agg-index l.aggs) row) ≡ (reaches l.fn.before (length row) && has_all_asked l.aggs row)

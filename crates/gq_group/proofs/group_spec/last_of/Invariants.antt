@@ -1,6 +1,8 @@
-use Rattle.std.proofs.Common.{◌≡◌, ◌&&◌, ℕ, drop}
-use Rattle.gq_group.specs.Fitting.{are_before, reaches}
+use Rattle.std.proofs.Common.{◌≡◌, ◌&&◌, List, drop, length}
+use Rattle.gq_row.specs.declared.value.Value.{Value}
+use Rattle.gq_group.specs.Fitting.{reaches}
+use Rattle.gq_group.specs.Groups.{has_columns}
 use Rattle.gq_group.proofs.group_spec.last_of.Given as goal
 
 abbrev pub invariant-loop-column : goal.invariant-loop-column
-invariant-loop-column l = (n : ℕ) → (reaches l.last n && are_before n (drop l.column-index l.columns)) ≡ are_before n l.columns
+invariant-loop-column l = (row : List Value) → (reaches l.last (length row) && has_columns (drop l.column-index l.columns) row) ≡ has_columns l.columns row

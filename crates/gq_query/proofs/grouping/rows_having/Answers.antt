@@ -12,7 +12,7 @@ pub loop-i-preserved : goal.loop-i-preserved
 loop-i-preserved c =
     let p = keeps c.args.condition.now.tests in
     let less : c.loop-i.i < length c.args.rows = omega arith in
-    let told = sym (c.having.ensures ∙ ap p (c.as_slice-in-loop-i.ensures.value ∙ c.in_ok-copy_row.ensures)) in
+    let told = sym (c.having.ensures ∙ ap p (c.as_slice-in-loop-i.ensures.value ∙ c.in_ok-copy_row.ensures.copied)) in
     let all = c.args.rows in
     elim c.if-having.branch [
       | then-having w ↦

@@ -1,8 +1,7 @@
 use Rattle.std.proofs.Common.{◌∙◌, map, take, sym, ap}
 use Rattle.std.proofs.lemmas.List.{take-map}
 use Rattle.gq_row.specs.declared.value.Value.TheVariants.{Int}
-use Rattle.gq_cells.specs.Cells.{number_cell}
-use Rattle.gq_cells.specs.Cells.{cells_of}
+use Rattle.gq_cells.specs.Cells.{cells_of, number_cell}
 use Rattle.gq_cells.specs.declared.cells.Cells.TheInside.{Inside}
 use Rattle.gq_cells.proofs.cells.Cells.truncate.Goals.{in-Numbers, in-Nullable, in-Values}
 use Rattle.gq_cells.proofs.cells.Cells.truncate.Goals as goal
