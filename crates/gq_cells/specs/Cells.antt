@@ -4,6 +4,8 @@ use Rattle.gq_row.specs.declared.value.Value.{Value}
 use Rattle.gq_row.specs.declared.value.Value.TheVariants.{Null, Int, Text, NoCase}
 use Rattle.gq_cells.specs.declared.cell_ref.CellRef.{CellRef}
 use Rattle.gq_cells.specs.declared.cell_ref.CellRef.TheVariants as lent
+use Rattle.gq_cells.specs.declared.row_ref.Lent.{Lent}
+use Rattle.gq_cells.specs.declared.row_ref.Lent.TheVariants as together
 use Rattle.gq_cells.specs.declared.cells.Stored.{Stored}
 use Rattle.gq_cells.specs.declared.cells.Stored.TheVariants.{Numbers, Nullable, Values}
 
@@ -30,6 +32,12 @@ abbrev pub cells_of : Stored → List Value
 cells_of (Numbers numbers) = map Int numbers.items
 cells_of (Nullable numbers) = map number_cell numbers.items
 cells_of (Values values) = values.items
+
+-- values that are lent together
+abbrev pub lent_values : Lent → List Value
+lent_values (together.Numbers numbers) = map Int numbers.now
+lent_values (together.Nullable numbers) = map number_cell numbers.now
+lent_values (together.Values values) = values.now
 
 -- stored as numbers among which null may stand
 abbrev pub HasNullable : Stored → Type 0

@@ -3,11 +3,12 @@ ghost use Rattle.std.specs.Prelude.{◌≡◌, ◌<◌, ◌≤◌, ◌+◌, ◌-
 ghost use Rattle.gq_row.specs.declared.value.Value.TheVariants.{Int, Null};
 ghost use Rattle.gq_row.specs.Order.{compare_keys};
 ghost use Rattle.gq_row.specs.Written.{IsInPlace};
-ghost use Rattle.gq_cells.specs.Cells.{IsText, number_cell, value_of};
+ghost use Rattle.gq_cells.specs.Cells.{IsText, lent_values, number_cell, value_of};
 ghost use Rattle.gq_cells.specs.Lists.{IsPart, part, row_at};
 
 use crate::cell_ref::CellRef;
 use crate::order::{compare_nullable, compare_numbers};
+use crate::row_ref::Lent;
 use crate::rows::Span;
 use gq_row::{Value, compare_cells};
 use std::alloc::{AllocError, Global};
@@ -91,6 +92,19 @@ impl Cells {
             Stored::Numbers(numbers) => CellRef::Int(numbers[position]),
             Stored::Nullable(numbers) => CellRef::of_number(numbers[position]),
             Stored::Values(values) => CellRef::of(&values[position]),
+        }
+    }
+
+    // The values of a part where they stand.
+    #[inline(always)]
+    pub(crate) fn lend(&self, part: Span) -> Lent<'_>
+        requires { IsPart self.now part }
+        ensures { lent_values result ≡ row_at self.now part }
+    {
+        match &self.stored {
+            Stored::Numbers(numbers) => Lent::Numbers(&numbers[part.start..part.end]),
+            Stored::Nullable(numbers) => Lent::Nullable(&numbers[part.start..part.end]),
+            Stored::Values(values) => Lent::Values(&values[part.start..part.end]),
         }
     }
 

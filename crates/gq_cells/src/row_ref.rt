@@ -1,31 +1,37 @@
 //! A row where it stands.
-ghost use Rattle.std.specs.Prelude.{◌≡◌, ◌<◌, ◌==◌, length};
+ghost use Rattle.std.specs.Prelude.{◌≡◌, ◌<◌, ◌==◌, length, slice_index_or};
 ghost use Rattle.gq_row.specs.Rows.{cell};
-ghost use Rattle.gq_cells.specs.Cells.{value_of};
+ghost use Rattle.gq_cells.specs.Cells.{lent_values, value_of};
 ghost use Rattle.gq_cells.specs.Lists.{IsPart, row_at};
 
 use crate::cell_ref::CellRef;
 use crate::cells::Cells;
 use crate::rows::Span;
+use gq_row::Value;
 use std::marker::Model;
 
 /// A row that is lent where it stands among others, seen as the list of its values.
 #[derive(Drop)]
 pub struct RowRef<'a> {
-    cells: &'a Cells,
-    span: Span,
+    lent: Lent<'a>,
+}
+
+// A part of a list of values. How they are stored is told once for all of them, and not for each.
+#[derive(Clone, Copy)]
+pub(crate) enum Lent<'a> {
+    Numbers(&'a [i64]),
+    Nullable(&'a [Option<i64>]),
+    Values(&'a [Value]),
 }
 
 impl<'a> Model for RowRef<'a> {
     ghost use Rattle.std.specs.Prelude.{List};
     ghost use Rattle.gq_row.specs.declared.value.Value.{Value as Cell};
-    ghost use Rattle.gq_cells.specs.Lists.{IsPart, row_at};
+    ghost use Rattle.gq_cells.specs.Cells.{lent_values};
 
     ghost Value = { List Cell };
 
-    ghost view = { λ r. row_at r.cells.now r.span };
-
-    ghost invariant = { λ r. IsPart r.cells.now r.span };
+    ghost view = { λ r. lent_values r.lent };
 }
 
 impl<'a> RowRef<'a> {
@@ -35,7 +41,9 @@ impl<'a> RowRef<'a> {
         requires { IsPart cells.now span }
         ensures { result ≡ row_at cells.now span }
     {
-        RowRef { cells, span }
+        RowRef {
+            lent: cells.lend(span),
+        }
     }
 
     /// The number of its values.
@@ -43,14 +51,18 @@ impl<'a> RowRef<'a> {
     pub fn len(&self) -> usize
         ensures { result ≡ length self.now }
     {
-        self.span.end - self.span.start
+        match self.lent {
+            Lent::Numbers(numbers) => numbers.len(),
+            Lent::Nullable(numbers) => numbers.len(),
+            Lent::Values(values) => values.len(),
+        }
     }
 
     #[inline(always)]
     pub fn is_empty(&self) -> bool
         ensures { result ≡ (length self.now == 0) }
     {
-        self.span.end == self.span.start
+        self.len() == 0
     }
 
     /// The value in the column at a position, counted from 0.
@@ -59,8 +71,18 @@ impl<'a> RowRef<'a> {
         requires { position < length self.now }
         ensures { value_of result ≡ cell self.now position }
     {
-        // What is read is known to be of 64 bits.
-        let _end = self.span.end;
-        self.cells.get(self.span.start + position)
+        match self.lent {
+            Lent::Numbers(numbers) => CellRef::Int(*at(numbers, position)),
+            Lent::Nullable(numbers) => CellRef::of_number(*at(numbers, position)),
+            Lent::Values(values) => CellRef::of(at(values, position)),
+        }
     }
+}
+
+#[inline(always)]
+fn at<T>(items: &[T], position: usize) -> &T
+    requires { position < length items.now }
+    ensures { slice_index_or items.now position result.now ≡ result.now }
+{
+    &items[position]
 }

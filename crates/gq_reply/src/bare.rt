@@ -1,12 +1,12 @@
 //! Rows whose fields call for no quotes, written straight into the text of a reply.
 //!
 //! The rows of an answer in order stand anywhere among its cells, so that a processor waits for each. Here it looks at
-//! many rows before it writes the first of them: looks don't wait for one another.
+//! the ends of many rows before it reads all of the first: looks at so little don't wait for one another.
 ghost use Rattle.std.specs.Prelude.{◌≡◌, ◌≤◌, ◌<◌, ◌+◌, ◌%◌, ◌++◌, ◌∷◌, ◌==◌, [], List, ℕ, IfOk, OnOk, false, true, length, take};
 ghost use Rattle.std.specs.Fmt.{decimal, signed_decimal};
 ghost use Rattle.csv.specs.Writing.{default_writer, field_text, needs_byte, needs_quotes};
 ghost use Rattle.gq_cells.specs.Cells.{value_of};
-ghost use Rattle.gq_reply.specs.Bare.{AreBare, IsBare, is_bare, is_plain, records, row_record};
+ghost use Rattle.gq_reply.specs.Bare.{AreBare, IsBare, has_byte, is_bare, is_plain, records, row_record};
 ghost use Rattle.gq_reply.specs.Replies.{cell_text};
 
 use gq_cells::{CellRef, RowRef, Rows};
@@ -36,12 +36,43 @@ pub(crate) fn are_bare(rows: &Rows, start: usize, end: usize) -> bool
     ensures bare { result ≡ true → AreBare rows.now start end }
     ensures not_bare { result ≡ false → AreBare rows.now start end → ⊥ }
 {
+    if !may_be_bare(rows, start, end) {
+        return false;
+    }
     for i in start..end {
         if !is_bare_row(&rows.row(i)) {
             return false;
         }
     }
     true
+}
+
+// A first look, at the ends of each row: false only where a row is not bare.
+#[inline]
+fn may_be_bare(rows: &Rows, start: usize, end: usize) -> bool
+    requires { end ≤ length rows.now }
+    ensures { result ≡ false → AreBare rows.now start end → ⊥ }
+{
+    for i in start..end {
+        let row = rows.row(i);
+        if row.is_empty() || !has_byte(row.cell(0)) || !has_byte(row.cell(row.len() - 1)) {
+            return false;
+        }
+    }
+    true
+}
+
+// Whether the field of a cell has a byte. It is told without the bytes.
+#[inline(always)]
+fn has_byte(cell: CellRef<'_>) -> bool
+    ensures { result ≡ has_byte (value_of cell.entry) }
+{
+    match cell {
+        CellRef::Null => true,
+        // Each number is looked at: the least is left to the CSV writer.
+        CellRef::Int(n) => n != i64::MIN,
+        CellRef::Text(text) | CellRef::NoCase(text) => !text.is_empty(),
+    }
 }
 
 #[inline]
@@ -63,7 +94,6 @@ fn is_bare(cell: CellRef<'_>) -> bool
 {
     match cell {
         CellRef::Null => true,
-        // Each number is looked at: the least is left to the CSV writer.
         CellRef::Int(n) => n != i64::MIN,
         CellRef::Text(text) | CellRef::NoCase(text) => is_plain(text.as_str().as_bytes()),
     }

@@ -1,0 +1,22 @@
+use Rattle.std.proofs.Common.{◌∙◌, map, sym, ap}
+use Rattle.gq_row.specs.declared.value.Value.TheVariants.{Int}
+use Rattle.gq_cells.specs.Cells.{cells_of, number_cell}
+use Rattle.gq_cells.specs.Lists.{part, row_at}
+use Rattle.gq_cells.proofs.RowsLemmas.{part_map}
+use Rattle.gq_cells.proofs.cells.Cells.lend.Goals as goal
+
+pub returns-in-Numbers : goal.returns-in-Numbers
+returns-in-Numbers c =
+    let it = c.args.part in
+    let numbers = c.in-Numbers.numbers.items in
+    (λ i. map Int (part (c.deref.ensures.value i) it.start it.end))
+    ∙ sym (part_map Int numbers it.start it.end)
+    ∙ ap (λ cells. row_at cells it) (sym (ap cells_of c.in-Numbers.is) ∙ c.self.view_is)
+
+pub returns-in-Nullable : goal.returns-in-Nullable
+returns-in-Nullable c =
+    let it = c.args.part in
+    let numbers = c.in-Nullable.numbers.items in
+    (λ i. map number_cell (part (c.deref-in-Nullable.ensures.value i) it.start it.end))
+    ∙ sym (part_map number_cell numbers it.start it.end)
+    ∙ ap (λ cells. row_at cells it) (sym (ap cells_of c.in-Nullable.is) ∙ c.self.view_is)
