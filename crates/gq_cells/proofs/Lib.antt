@@ -1,2 +1,3 @@
+pub mod MixedLemmas
 pub mod OrderLemmas
 pub mod RowsLemmas

@@ -1,11 +1,11 @@
 -- Lists of numbers in the order of keys.
-use Rattle.std.proofs.Common.{◌≡◌, ℤ, List, [], ◌∷◌, Option, Some, None, map, Ordering, refl, sym, ap₂, ◌∙◌}
+use Rattle.std.proofs.Common.{◌≡◌, ℤ, List, [], ◌∷◌, Option, Some, None, map, Ordering, Less, Equal, Greater, refl, sym, ap₂, ◌∙◌}
 use Rattle.std.specs.Cmp.Lexicographic.{slice_cmp}
 use Rattle.std.specs.Option.{option_cmp}
 use Rattle.std.specs.Ordering.{int_cmp, ordering_then}
 use Rattle.gq_row.specs.declared.value.Value.{Value}
 use Rattle.gq_row.specs.declared.value.Value.TheVariants.{Int}
-use Rattle.gq_row.specs.Order.{compare_keys, folded_order, plain_order}
+use Rattle.gq_row.specs.Order.{compare_keys, compare_values, folded_order, plain_order}
 use Rattle.gq_row.proofs.FoldLemmas.{then_same}
 use Rattle.gq_cells.specs.Cells.{number_cell}
 
@@ -43,3 +43,29 @@ nullable_by_each a b = sym (by_each (option_cmp int_cmp) number_cell plain fold 
     fold None (Some y) = refl
     fold (Some x) None = refl
     fold (Some x) (Some y) = refl
+
+-- ---- lists that are compared by the folds of their values, and by values where these tie
+
+ended : (p q : Ordering) → ordering_then p q ≡ Equal → (p ≡ Equal) × (q ≡ Equal)
+ended Less q tie = cc tie
+ended Equal q tie = (refl, tie)
+ended Greater q tie = cc tie
+
+same_ties : (a b : List Value) → slice_cmp folded_order a b ≡ Equal → slice_cmp compare_values a b ≡ slice_cmp plain_order a b
+same_ties [] [] tie = refl
+same_ties [] (y ∷ b) tie = refl
+same_ties (x ∷ a) [] tie = refl
+same_ties (x ∷ a) (y ∷ b) tie =
+    let both = ended (folded_order x y) (slice_cmp folded_order a b) tie in
+    λ i. ordering_then (ordering_then (both.0 i) (plain_order x y)) (same_ties a b both.1 i)
+
+pub keys_by_values : (a b : List Value) → slice_cmp folded_order a b ≡ Equal → slice_cmp compare_values a b ≡ compare_keys a b
+keys_by_values a b tie = same_ties a b tie ∙ (λ i. ordering_then (sym tie i) (slice_cmp plain_order a b))
+
+first_told : (p q : Ordering) → (p ≡ Equal → ⊥) → p ≡ ordering_then p q
+first_told Less q told = refl
+first_told Equal q told = absurd (told refl)
+first_told Greater q told = refl
+
+pub keys_by_folds : (a b : List Value) → (slice_cmp folded_order a b ≡ Equal → ⊥) → slice_cmp folded_order a b ≡ compare_keys a b
+keys_by_folds a b told = first_told (slice_cmp folded_order a b) (slice_cmp plain_order a b) told

@@ -1,8 +1,10 @@
 //! A value where it stands.
-ghost use Rattle.std.specs.Prelude.{◌≡◌};
+ghost use Rattle.std.specs.Prelude.{◌≡◌, IsOk, OnOk};
+ghost use Rattle.gq_row.specs.Written.{IsInPlace};
 ghost use Rattle.gq_cells.specs.Cells.{number_cell, value_of};
 
 use gq_row::{Text, Value};
+use std::alloc::{AllocError, Global};
 
 /// A value that is lent where it stands: a number by itself, a text as its list has it.
 #[derive(Clone, Copy)]
@@ -24,6 +26,26 @@ impl<'a> CellRef<'a> {
             Value::Int(n) => CellRef::Int(*n),
             Value::Text(text) => CellRef::Text(text),
             Value::NoCase(text) => CellRef::NoCase(text),
+        }
+    }
+
+    // Writes it over another value.
+    #[inline(always)]
+    pub(crate) fn copy_to(self, alloc: Global, over: &mut Value) -> Result<(), AllocError>
+        ensures copied { OnOk result (over.new ≡ value_of self.entry) }
+        ensures in_place { IsInPlace (value_of self.entry) → IsOk result }
+    {
+        match self {
+            CellRef::Null => {
+                *over = Value::Null;
+                Ok(())
+            }
+            CellRef::Int(n) => {
+                over.write_number(n);
+                Ok(())
+            }
+            CellRef::Text(text) => over.write_text(alloc, text.as_str()),
+            CellRef::NoCase(text) => over.write_without_case(alloc, text.as_str()),
         }
     }
 

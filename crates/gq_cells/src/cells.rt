@@ -7,6 +7,7 @@ ghost use Rattle.gq_cells.specs.Cells.{IsText, lent_values, number_cell, value_o
 ghost use Rattle.gq_cells.specs.Lists.{IsPart, part, row_at};
 
 use crate::cell_ref::CellRef;
+use crate::mixed::Mixed;
 use crate::order::{compare_nullable, compare_numbers};
 use crate::row_ref::Lent;
 use crate::rows::Span;
@@ -17,10 +18,13 @@ use std::marker::Model;
 use std::mem;
 
 /// Values one behind the other, seen as their list. As long as all are numbers each takes eight bytes, from the first
-/// null on sixteen, and from the first text on as much as a [`Value`].
+/// null on sixteen, and from the first text on as much as a [`Value`], or, where texts are apart, eight bytes and each text
+/// a [`Value`] more.
 #[derive(Drop)]
 pub struct Cells {
     stored: Stored,
+    // Whether texts are apart from numbers.
+    apart: bool,
 }
 
 #[derive(Drop)]
@@ -28,6 +32,7 @@ pub(crate) enum Stored {
     Numbers(Vec<i64>),
     Nullable(Vec<Option<i64>>),
     Values(Vec<Value>),
+    Mixed(Mixed),
 }
 
 impl Model for Cells {
@@ -47,6 +52,17 @@ impl Cells {
     {
         Cells {
             stored: Stored::Numbers(Vec::new(alloc)),
+            apart: false,
+        }
+    }
+
+    /// No value, of those among which a text will have many numbers beside it, and is apart from them. It takes no memory.
+    pub fn with_texts_apart(alloc: Global) -> Cells
+        ensures { result ≡ [] }
+    {
+        Cells {
+            stored: Stored::Numbers(Vec::new(alloc)),
+            apart: true,
         }
     }
 
@@ -56,10 +72,11 @@ impl Cells {
     {
         Cells {
             stored: Stored::Values(values),
+            apart: false,
         }
     }
 
-    /// The vector of the values. Numbers among which no text stands are copied, and else no memory is taken.
+    /// The vector of the values. They are copied, unless each takes as much as a [`Value`].
     pub fn into_values(self, alloc: Global) -> Result<Vec<Value>, AllocError>
         ensures { IfOk result (λ values. values.items ≡ self) }
     {
@@ -67,6 +84,7 @@ impl Cells {
             Stored::Numbers(numbers) => values_of(alloc, numbers.as_slice()),
             Stored::Nullable(numbers) => values_of_nullable(alloc, numbers.as_slice()),
             Stored::Values(values) => Ok(values),
+            Stored::Mixed(values) => values.to_values(alloc),
         }
     }
 
@@ -79,6 +97,7 @@ impl Cells {
             Stored::Numbers(numbers) => numbers.len(),
             Stored::Nullable(numbers) => numbers.len(),
             Stored::Values(values) => values.len(),
+            Stored::Mixed(values) => values.len(),
         }
     }
 
@@ -92,6 +111,7 @@ impl Cells {
             Stored::Numbers(numbers) => CellRef::Int(numbers[position]),
             Stored::Nullable(numbers) => CellRef::of_number(numbers[position]),
             Stored::Values(values) => CellRef::of(&values[position]),
+            Stored::Mixed(values) => values.get(position),
         }
     }
 
@@ -105,6 +125,10 @@ impl Cells {
             Stored::Numbers(numbers) => Lent::Numbers(&numbers[part.start..part.end]),
             Stored::Nullable(numbers) => Lent::Nullable(&numbers[part.start..part.end]),
             Stored::Values(values) => Lent::Values(&values[part.start..part.end]),
+            Stored::Mixed(values) => {
+                let (words, beside) = values.lend(part);
+                Lent::Mixed(words, beside)
+            }
         }
     }
 
@@ -116,6 +140,7 @@ impl Cells {
             Stored::Numbers(numbers) => numbers.reserve(cells),
             Stored::Nullable(numbers) => numbers.reserve(cells),
             Stored::Values(values) => values.reserve(cells),
+            Stored::Mixed(values) => values.reserve(cells),
         }
     }
 
@@ -142,6 +167,7 @@ impl Cells {
                 Ok(())
             }
             Stored::Values(values) => over.copy_from(alloc, &values[position]),
+            Stored::Mixed(values) => values.copy_to(alloc, position, over),
         }
     }
 
@@ -165,8 +191,11 @@ impl Cells {
             Stored::Values(values) => {
                 return push_value(values, value);
             }
+            Stored::Mixed(values) => {
+                return values.push(value);
+            }
         }
-        self.stored.push_wide(alloc, value)
+        self.stored.push_wide(alloc, self.apart, value)
     }
 
     /// Puts some values behind the others. They move out of the slice that is lent, and what is left there is of no
@@ -237,6 +266,7 @@ impl Cells {
             Stored::Values(values) => {
                 compare_cells(&values[a.start..a.end], &values[b.start..b.end])
             }
+            Stored::Mixed(values) => values.compare(a, b),
         }
     }
 
@@ -248,32 +278,38 @@ impl Cells {
             Stored::Numbers(numbers) => numbers.truncate(cells),
             Stored::Nullable(numbers) => numbers.truncate(cells),
             Stored::Values(values) => values.truncate(cells),
+            Stored::Mixed(values) => values.truncate(cells),
         }
     }
 }
 
 impl Stored {
-    ghost use Rattle.gq_cells.specs.Cells.{HasNullable, HasValues, cells_of};
+    ghost use Rattle.gq_cells.specs.Cells.{HasNullable, HasTexts, HasValues, cells_of};
 
     // Puts a cell behind the others, for which there is no place among these as they are stored.
     #[cold]
-    fn push_wide(&mut self, alloc: Global, value: &mut Value) -> Result<(), AllocError>
+    fn push_wide(&mut self, alloc: Global, apart: bool, value: &mut Value) -> Result<(), AllocError>
         ensures pushed { OnOk result (cells_of self.new ≡ cells_of self.old ++ value.old ∷ []) }
         ensures unchanged { OnErr result (cells_of self.new ≡ cells_of self.old) }
     {
         match number_of(value) {
-            Some(number) if !matches!(self, Stored::Values(_)) => {
+            Some(number) if !matches!(self, Stored::Values(_) | Stored::Mixed(_)) => {
                 self.admit_null(alloc)?;
                 match self {
                     Stored::Nullable(numbers) => push_nullable(numbers, number),
-                    Stored::Numbers(_) | Stored::Values(_) => unreachable!(),
+                    _ => unreachable!(),
                 }
             }
             _ => {
-                self.admit_texts(alloc)?;
+                if apart {
+                    self.admit_texts_apart(alloc)?;
+                } else {
+                    self.admit_texts(alloc)?;
+                }
                 match self {
                     Stored::Values(values) => push_value(values, value),
-                    Stored::Numbers(_) | Stored::Nullable(_) => unreachable!(),
+                    Stored::Mixed(values) => values.push(value),
+                    _ => unreachable!(),
                 }
             }
         }
@@ -281,7 +317,7 @@ impl Stored {
 
     // Stores numbers so that null may stand among them.
     fn admit_null(&mut self, alloc: Global) -> Result<(), AllocError>
-        requires { HasValues self.old → ⊥ }
+        requires { HasTexts self.old → ⊥ }
         ensures wide { OnOk result (HasNullable self.new) }
         ensures same { cells_of self.new ≡ cells_of self.old }
     {
@@ -291,7 +327,24 @@ impl Stored {
         Ok(())
     }
 
-    // Stores numbers as values.
+    // Stores numbers so that texts may stand apart from them.
+    fn admit_texts_apart(&mut self, alloc: Global) -> Result<(), AllocError>
+        ensures wide { OnOk result (HasTexts self.new) }
+        ensures same { cells_of self.new ≡ cells_of self.old }
+    {
+        match self {
+            Stored::Numbers(numbers) => {
+                *self = Stored::Mixed(mixed_of(alloc, numbers.as_slice())?);
+            }
+            Stored::Nullable(numbers) => {
+                *self = Stored::Mixed(mixed_of_nullable(alloc, numbers.as_slice())?);
+            }
+            Stored::Values(_) | Stored::Mixed(_) => {}
+        }
+        Ok(())
+    }
+
+    // Stores numbers as values, and texts that are apart too.
     fn admit_texts(&mut self, alloc: Global) -> Result<(), AllocError>
         ensures wide { OnOk result (HasValues self.new) }
         ensures same { cells_of self.new ≡ cells_of self.old }
@@ -302,6 +355,9 @@ impl Stored {
             }
             Stored::Nullable(numbers) => {
                 *self = Stored::Values(values_of_nullable(alloc, numbers.as_slice())?);
+            }
+            Stored::Mixed(values) => {
+                *self = Stored::Values(values.to_values(alloc)?);
             }
             Stored::Values(_) => {}
         }
@@ -383,7 +439,7 @@ fn push_nullable(numbers: &mut Vec<Option<i64>>, number: Option<i64>) -> Result<
 }
 
 #[inline]
-fn push_value(values: &mut Vec<Value>, value: &mut Value) -> Result<(), AllocError>
+pub(crate) fn push_value(values: &mut Vec<Value>, value: &mut Value) -> Result<(), AllocError>
     ensures pushed { OnOk result (values.new.items ≡ values.old.items ++ value.old ∷ []) }
     ensures unchanged { OnErr result (values.new.items ≡ values.old.items) }
 {
@@ -424,6 +480,30 @@ fn values_of_nullable(alloc: Global, numbers: &[Option<i64>]) -> Result<Vec<Valu
     let mut values = Vec::with_capacity(alloc, numbers.len())?;
     for number in numbers {
         values.push(cell_of(*number))?;
+    }
+    Ok(values)
+}
+
+// Numbers from which texts may stand apart, likewise.
+fn mixed_of(alloc: Global, numbers: &[i64]) -> Result<Mixed, AllocError>
+    ensures { IfOk result (λ values. values ≡ map Int numbers.now) }
+{
+    let mut values = Mixed::new(alloc);
+    values.reserve(numbers.len())?;
+    for number in numbers {
+        values.push(&mut Value::Int(*number))?;
+    }
+    Ok(values)
+}
+
+// And numbers and null.
+fn mixed_of_nullable(alloc: Global, numbers: &[Option<i64>]) -> Result<Mixed, AllocError>
+    ensures { IfOk result (λ values. values ≡ map number_cell numbers.now) }
+{
+    let mut values = Mixed::new(alloc);
+    values.reserve(numbers.len())?;
+    for number in numbers {
+        values.push(&mut cell_of(*number))?;
     }
     Ok(values)
 }

@@ -6,6 +6,7 @@ ghost use Rattle.gq_cells.specs.Lists.{IsPart, row_at};
 
 use crate::cell_ref::CellRef;
 use crate::cells::Cells;
+use crate::mixed::lend_word;
 use crate::rows::Span;
 use gq_row::Value;
 use std::marker::Model;
@@ -22,6 +23,8 @@ pub(crate) enum Lent<'a> {
     Numbers(&'a [i64]),
     Nullable(&'a [Option<i64>]),
     Values(&'a [Value]),
+    // Words, and what stands beside them.
+    Mixed(&'a [u64], &'a [Value]),
 }
 
 impl<'a> Model for RowRef<'a> {
@@ -55,6 +58,7 @@ impl<'a> RowRef<'a> {
             Lent::Numbers(numbers) => numbers.len(),
             Lent::Nullable(numbers) => numbers.len(),
             Lent::Values(values) => values.len(),
+            Lent::Mixed(words, _) => words.len(),
         }
     }
 
@@ -75,6 +79,7 @@ impl<'a> RowRef<'a> {
             Lent::Numbers(numbers) => CellRef::Int(*at(numbers, position)),
             Lent::Nullable(numbers) => CellRef::of_number(*at(numbers, position)),
             Lent::Values(values) => CellRef::of(at(values, position)),
+            Lent::Mixed(words, beside) => lend_word(*at(words, position), beside),
         }
     }
 }

@@ -100,13 +100,26 @@ impl Model for GroupList {
 }
 
 impl GroupList {
-    /// No group. It takes no memory.
+    /// No group. It takes no memory. What is shown of groups is mostly numbers, and their keys may be texts.
     pub fn new(alloc: Global) -> GroupList
+        ensures { result ≡ [] }
+    {
+        GroupList::with_cells(alloc, Cells::with_texts_apart(alloc))
+    }
+
+    /// No group, of those of which nothing is shown but their keys.
+    pub fn of_keys(alloc: Global) -> GroupList
+        ensures { result ≡ [] }
+    {
+        GroupList::with_cells(alloc, Cells::new(alloc))
+    }
+
+    fn with_cells(alloc: Global, cells: Cells) -> GroupList
         ensures { result ≡ [] }
     {
         GroupList {
             alloc,
-            cells: Cells::new(alloc),
+            cells,
             groups: Vec::new(alloc),
             expected: 0,
         }

@@ -139,7 +139,7 @@ impl<'a, H: KeyHash<Key> + Copy> Query<'a, H> {
             kept: self.kept,
             columns: columns.as_slice(),
         };
-        let mut sink = GroupList::new(self.alloc);
+        let mut sink = GroupList::of_keys(self.alloc);
         distinct(
             self.alloc,
             self.hasher,

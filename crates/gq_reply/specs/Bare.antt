@@ -11,13 +11,6 @@ use Rattle.gq_reply.specs.Replies.{cell_text, record_text}
 abbrev pub is_plain : List ℕ → Bool
 is_plain field = not (length field == 0) && not (needs_quotes default_writer field)
 
--- whether that of a value has a byte. The least number counts as if it had none: it is left to the CSV writer
-abbrev pub has_byte : Value → Bool
-has_byte Null = true
-has_byte (Int n) = not (int_eq n (negsuc (2 ^ 63 - 1)))
-has_byte (Text t) = not (length t == 0)
-has_byte (NoCase t) = not (length t == 0)
-
 -- whether that of a value is so, and is written field by field: those of null and of each number but the least
 abbrev pub is_bare : Value → Bool
 is_bare Null = true

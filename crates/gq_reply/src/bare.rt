@@ -6,7 +6,7 @@ ghost use Rattle.std.specs.Prelude.{◌≡◌, ◌≤◌, ◌<◌, ◌+◌, ◌%
 ghost use Rattle.std.specs.Fmt.{decimal, signed_decimal};
 ghost use Rattle.csv.specs.Writing.{default_writer, field_text, needs_byte, needs_quotes};
 ghost use Rattle.gq_cells.specs.Cells.{value_of};
-ghost use Rattle.gq_reply.specs.Bare.{AreBare, IsBare, has_byte, is_bare, is_plain, records, row_record};
+ghost use Rattle.gq_reply.specs.Bare.{AreBare, IsBare, is_bare, is_plain, records, row_record};
 ghost use Rattle.gq_reply.specs.Replies.{cell_text};
 
 use gq_cells::{CellRef, RowRef, Rows};
@@ -36,7 +36,10 @@ pub(crate) fn are_bare(rows: &Rows, start: usize, end: usize) -> bool
     ensures bare { result ≡ true → AreBare rows.now start end }
     ensures not_bare { result ≡ false → AreBare rows.now start end → ⊥ }
 {
-    if !may_be_bare(rows, start, end) {
+    if !may_be_bare(rows, start, end, true) {
+        return false;
+    }
+    if start < end && begins_with_text(&rows.row(start)) && !may_be_bare(rows, start, end, false) {
         return false;
     }
     for i in start..end {
@@ -47,31 +50,52 @@ pub(crate) fn are_bare(rows: &Rows, start: usize, end: usize) -> bool
     true
 }
 
-// A first look, at the ends of each row: false only where a row is not bare.
-#[inline]
-fn may_be_bare(rows: &Rows, start: usize, end: usize) -> bool
+// A first look, at the last value of each row, or at the first: false only where a row is not bare. Most rows end with a number,
+// which tells without a look at the text that they begin with, even where that stands apart.
+#[inline(always)]
+fn may_be_bare(rows: &Rows, start: usize, end: usize, at_last: bool) -> bool
     requires { end ≤ length rows.now }
     ensures { result ≡ false → AreBare rows.now start end → ⊥ }
 {
     for i in start..end {
         let row = rows.row(i);
-        if row.is_empty() || !has_byte(row.cell(0)) || !has_byte(row.cell(row.len() - 1)) {
+        let Some(last) = row.len().checked_sub(1) else {
+            return false;
+        };
+        let position = if at_last { last } else { 0 };
+        if !cell_may_be_bare(row.cell(position)) {
             return false;
         }
     }
     true
 }
 
-// Whether the field of a cell has a byte. It is told without the bytes.
 #[inline(always)]
-fn has_byte(cell: CellRef<'_>) -> bool
-    ensures { result ≡ has_byte (value_of cell.entry) }
+fn begins_with_text(row: &RowRef<'_>) -> bool {
+    !row.is_empty() && matches!(row.cell(0), CellRef::Text(_) | CellRef::NoCase(_))
+}
+
+// False only where a cell is not bare, by the last byte of a text.
+#[inline(always)]
+fn cell_may_be_bare(cell: CellRef<'_>) -> bool
+    ensures { result ≡ false → is_bare (value_of cell.entry) ≡ false }
 {
     match cell {
         CellRef::Null => true,
         // Each number is looked at: the least is left to the CSV writer.
         CellRef::Int(n) => n != i64::MIN,
-        CellRef::Text(text) | CellRef::NoCase(text) => !text.is_empty(),
+        CellRef::Text(text) | CellRef::NoCase(text) => ends_plainly(text.as_str().as_bytes()),
+    }
+}
+
+// Whether a field has a last byte, which calls for no quotes.
+#[inline(always)]
+fn ends_plainly(field: &[u8]) -> bool
+    ensures { result ≡ false → is_plain field.now ≡ false }
+{
+    match field.last() {
+        Some(byte) => !needs_byte(*byte),
+        None => false,
     }
 }
 
