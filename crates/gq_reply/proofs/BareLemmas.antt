@@ -1,5 +1,5 @@
 -- Fields that call for no quotes, numbers among them; the digits of small numbers.
-use Rattle.std.proofs.Common.{◌≡◌, ◌≤◌, ◌<◌, ◌+◌, ◌/◌, ◌%◌, ◌^◌, ◌==◌, ◌∷◌, ◌++◌, ◌∙◌, [], ℕ, ℤ, suc, pos, negsuc, true, false, List, refl, ap, sym, length, map, take, drop, arith, append_assoc, append-nil}
+use Rattle.std.proofs.Common.{◌≡◌, ◌≤◌, ◌<◌, ◌+◌, ◌/◌, ◌%◌, ◌^◌, ◌==◌, ◌∷◌, ◌++◌, ◌∙◌, [], ℕ, ℤ, zero, suc, pos, negsuc, true, false, List, refl, ap, sym, length, map, take, drop, arith, append_assoc, append-nil}
 use Rattle.std.specs.Fmt.{decimal, signed_decimal}
 use Rattle.std.specs.Int.Signed.{mag}
 use Rattle.std.proofs.lemmas.Grind.{common_steps}
@@ -11,7 +11,11 @@ use Rattle.std.proofs.lemmas.List.{drop_all, drop_more, take-append-drop}
 use Rattle.gq_row.specs.declared.value.Value.{Value}
 use Rattle.gq_row.specs.declared.value.Value.TheVariants.{Null}
 use Rattle.gq_row.specs.Rows.{cell}
-use Rattle.gq_reply.specs.Bare.{is_plain, row_record}
+use Rattle.std.specs.Cmp.{first_so, second_so}
+use Rattle.std.specs.List.{list_all}
+use Rattle.std.specs.Prelude.{slice_index_or}
+use Rattle.std.proofs.lemmas.Bool.{false≢true}
+use Rattle.gq_reply.specs.Bare.{AreBare, is_bare, is_plain, row_record}
 use Rattle.gq_reply.specs.Replies.{cell_text}
 
 -- a byte from 45 on that is no comma, quote or end of a line
@@ -112,3 +116,13 @@ last_field row i text before next long shown e is =
     row_ended (take i row) (cell row i) text before next shown
     (ap (λ l. text ++ row_body default_writer (map cell_text l)) (sym last) ∙ e ∙ ap (λ l. before ++ row_body default_writer (map cell_text l)) whole) is
     ∙ ap (λ l. before ++ row_record l) (sym whole)
+
+-- a row is not bare where one of its values is not
+bare_at : (row : List Value) (k : ℕ) → k < length row → list_all is_bare row ≡ true → is_bare (cell row k) ≡ true
+bare_at [] k within bare = absurd (omega (arith, within))
+bare_at (v ∷ row) zero within bare = first_so (is_bare v) (list_all is_bare row) bare
+bare_at (v ∷ row) (suc k) within bare = bare_at row k (omega (arith, within)) (second_so (is_bare v) (list_all is_bare row) bare)
+
+pub not_bare_at : (rows : List (List Value)) (start end i k : ℕ) → start ≤ i → i < end → k < length (slice_index_or rows i []) → is_bare (cell (slice_index_or rows i []) k) ≡ false → AreBare rows start end → ⊥
+not_bare_at rows start end i k low high within not_bare bare =
+    false≢true (sym not_bare ∙ bare_at (slice_index_or rows i []) k within (bare i low high).1)

@@ -36,10 +36,10 @@ pub(crate) fn are_bare(rows: &Rows, start: usize, end: usize) -> bool
     ensures bare { result ≡ true → AreBare rows.now start end }
     ensures not_bare { result ≡ false → AreBare rows.now start end → ⊥ }
 {
-    if !may_be_bare(rows, start, end, true) {
+    if !begins_with_number(rows, start, end) && !may_end_bare(rows, start, end) {
         return false;
     }
-    if start < end && begins_with_text(&rows.row(start)) && !may_be_bare(rows, start, end, false) {
+    if !may_be_bare(rows, start, end) {
         return false;
     }
     for i in start..end {
@@ -50,10 +50,9 @@ pub(crate) fn are_bare(rows: &Rows, start: usize, end: usize) -> bool
     true
 }
 
-// A first look, at the last value of each row, or at the first: false only where a row is not bare. Most rows end with a number,
-// which tells without a look at the text that they begin with, even where that stands apart.
+// A first look, at the ends of each row: false only where a row is not bare.
 #[inline(always)]
-fn may_be_bare(rows: &Rows, start: usize, end: usize, at_last: bool) -> bool
+fn may_be_bare(rows: &Rows, start: usize, end: usize) -> bool
     requires { end ≤ length rows.now }
     ensures { result ≡ false → AreBare rows.now start end → ⊥ }
 {
@@ -62,17 +61,42 @@ fn may_be_bare(rows: &Rows, start: usize, end: usize, at_last: bool) -> bool
         let Some(last) = row.len().checked_sub(1) else {
             return false;
         };
-        let position = if at_last { last } else { 0 };
-        if !cell_may_be_bare(row.cell(position)) {
+        if !cell_may_be_bare(row.cell(0)) || !cell_may_be_bare(row.cell(last)) {
             return false;
         }
     }
     true
 }
 
+// A look before that where rows begin with texts, at the last value of each row alone. Texts may stand apart from the numbers
+// behind them, and what tells where is near once these were looked at.
 #[inline(always)]
-fn begins_with_text(row: &RowRef<'_>) -> bool {
-    !row.is_empty() && matches!(row.cell(0), CellRef::Text(_) | CellRef::NoCase(_))
+fn may_end_bare(rows: &Rows, start: usize, end: usize) -> bool
+    requires { end ≤ length rows.now }
+    ensures { result ≡ false → AreBare rows.now start end → ⊥ }
+{
+    for i in start..end {
+        let row = rows.row(i);
+        let Some(last) = row.len().checked_sub(1) else {
+            return false;
+        };
+        if !cell_may_be_bare(row.cell(last)) {
+            return false;
+        }
+    }
+    true
+}
+
+// Whether the first of these rows begins with a number, as then most others do.
+#[inline(always)]
+fn begins_with_number(rows: &Rows, start: usize, end: usize) -> bool
+    requires { end ≤ length rows.now }
+{
+    if start >= end {
+        return false;
+    }
+    let row = rows.row(start);
+    !row.is_empty() && matches!(row.cell(0), CellRef::Int(_))
 }
 
 // False only where a cell is not bare, by the last byte of a text.
