@@ -211,7 +211,7 @@ impl Cells {
         Ok(())
     }
 
-    /// Puts the values of another list behind these, out of which they move.
+    /// Puts the values of another list behind these, out of which they move. Texts that are apart from numbers are copied.
     pub fn append(&mut self, alloc: Global, more: Cells) -> Result<(), AllocError>
         ensures appended { OnOk result (self.new ≡ self.old ++ more) }
         ensures unchanged { OnErr result (self.new ≡ self.old) }

@@ -1,5 +1,5 @@
 //! Numbers in eight bytes each, and texts beside them.
-ghost use Rattle.std.specs.Prelude.{◌≡◌, ◌<◌, ◌≤◌, ◌^◌, ◌++◌, ◌∷◌, ◌-◌, ◌-ℤ◌, [], pos, IfOk, IfSome, IsOk, OnOk, OnErr, length, map, take, slice_index_or};
+ghost use Rattle.std.specs.Prelude.{◌≡◌, ◌<◌, ◌^◌, ◌++◌, ◌∷◌, ◌-ℤ◌, [], ℕ, pos, IfOk, IfNone, IfSome, IsOk, OnOk, OnErr, length, map, take, slice_index_or};
 ghost use Rattle.gq_row.specs.declared.value.Value.TheVariants.{Null};
 ghost use Rattle.gq_row.specs.Order.{compare_keys};
 ghost use Rattle.gq_row.specs.Written.{IsInPlace};
@@ -159,7 +159,8 @@ impl Mixed {
 // The word of a number, where it has one.
 #[inline(always)]
 fn word_of(n: i64) -> Option<u64>
-    ensures { IfSome result (λ word. (word < 2 ^ 63) × (pos word -ℤ pos (2 ^ 62) ≡ n)) }
+    ensures some { IfSome result (λ word. (word < 2 ^ 63) × (pos word -ℤ pos (2 ^ 62) ≡ n)) }
+    ensures none { IfNone result ((word : ℕ) → word < 2 ^ 63 → pos word -ℤ pos (2 ^ 62) ≡ n → ⊥) }
 {
     match n.checked_add(ZERO) {
         Some(word) if word >= 0 => Some(word as u64),

@@ -141,7 +141,7 @@ impl Rows {
         Ok(())
     }
 
-    /// Puts all rows of another list behind the others. They move.
+    /// Puts all rows of another list behind the others. They move, as by [`Cells::append`].
     pub fn append(&mut self, alloc: Global, more: Rows) -> Result<(), AllocError>
         ensures appended { OnOk result (self.new ≡ self.old ++ more) }
         ensures unchanged { OnErr result (self.new ≡ self.old) }

@@ -36,10 +36,10 @@ pub(crate) fn are_bare(rows: &Rows, start: usize, end: usize) -> bool
     ensures bare { result ≡ true → AreBare rows.now start end }
     ensures not_bare { result ≡ false → AreBare rows.now start end → ⊥ }
 {
-    if !begins_with_number(rows, start, end) && !may_end_bare(rows, start, end) {
+    if !begins_with_number(rows, start, end) && !may_be_bare(rows, start, end, false) {
         return false;
     }
-    if !may_be_bare(rows, start, end) {
+    if !may_be_bare(rows, start, end, true) {
         return false;
     }
     for i in start..end {
@@ -50,9 +50,11 @@ pub(crate) fn are_bare(rows: &Rows, start: usize, end: usize) -> bool
     true
 }
 
-// A first look, at the ends of each row: false only where a row is not bare.
+// A first look, at the last value of each row, and at the first too where both ends are asked for: false only where a row is
+// not bare. Only speed rests on it. Texts may stand apart from the numbers behind them, which tell where: so rows that begin with
+// texts are looked at twice, at their last values first.
 #[inline(always)]
-fn may_be_bare(rows: &Rows, start: usize, end: usize) -> bool
+fn may_be_bare(rows: &Rows, start: usize, end: usize, both_ends: bool) -> bool
     requires { end ≤ length rows.now }
     ensures { result ≡ false → AreBare rows.now start end → ⊥ }
 {
@@ -61,25 +63,9 @@ fn may_be_bare(rows: &Rows, start: usize, end: usize) -> bool
         let Some(last) = row.len().checked_sub(1) else {
             return false;
         };
-        if !cell_may_be_bare(row.cell(0)) || !cell_may_be_bare(row.cell(last)) {
+        if both_ends && !cell_may_be_bare(row.cell(0)) {
             return false;
         }
-    }
-    true
-}
-
-// A look before that where rows begin with texts, at the last value of each row alone. Texts may stand apart from the numbers
-// behind them, and what tells where is near once these were looked at.
-#[inline(always)]
-fn may_end_bare(rows: &Rows, start: usize, end: usize) -> bool
-    requires { end ≤ length rows.now }
-    ensures { result ≡ false → AreBare rows.now start end → ⊥ }
-{
-    for i in start..end {
-        let row = rows.row(i);
-        let Some(last) = row.len().checked_sub(1) else {
-            return false;
-        };
         if !cell_may_be_bare(row.cell(last)) {
             return false;
         }
