@@ -60,6 +60,10 @@ cell_text (NoCase t) = t
 abbrev pub record_text : List (List ℕ) → List ℕ
 record_text fields = row_text default_writer fields
 
+-- the header and the rows, a record each
+abbrev pub records_text : List (List ℕ) → List (List Value) → List ℕ
+records_text header rows = record_text header ++ flat_map (λ row. record_text (map cell_text row)) rows
+
 abbrev pub record_number : Option ℕ → List ℕ
 record_number None = []
 record_number (Some n) = codes " " ++ decimal n

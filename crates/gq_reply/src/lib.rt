@@ -22,4 +22,4 @@ mod text;
 pub use refusal::{Refusal, Refused};
 pub use reply::Reply;
 pub use reply_line::{ReplyLine, accepted_line, line_of};
-pub use text::{reply_text, rows_text};
+pub use text::{records_text, reply_text, rows_text};

@@ -4,7 +4,7 @@ ghost use Rattle.csv.specs.Records.{fields_of, partial_of};
 ghost use Rattle.gq_cells.specs.Cells.{value_of};
 ghost use Rattle.gq_reply.specs.Bare.{records};
 ghost use Rattle.gq_reply.specs.Records.{HasWritten};
-ghost use Rattle.gq_reply.specs.Replies.{accepted, text, cell_text, record_text};
+ghost use Rattle.gq_reply.specs.Replies.{text, cell_text, record_text, records_text};
 
 use crate::bare::{are_bare, block_end, write_block};
 use crate::reply::Reply;
@@ -30,7 +30,36 @@ pub fn reply_text(alloc: Global, reply: &Reply) -> Result<Vec<u8>, AllocError>
 pub fn rows_text(alloc: Global, header: &Sequence<Text>, rows: &Rows) -> Result<Vec<u8>, AllocError>
     ensures { IfOk result (λ bytes. bytes.items ≡ text (Reply.Rows header.now rows.now)) }
 {
-    let mut text = head_text(alloc, header, rows.len() as u64)?;
+    let head = accepted_line(rows.len() as u64);
+    with_table(
+        alloc,
+        Vec::from_slice(alloc, head.as_slice())?,
+        header,
+        rows,
+    )
+}
+
+/// The header and the rows of a query as CSV records: the text of its reply after the line `ok`.
+pub fn records_text(
+    alloc: Global,
+    header: &Sequence<Text>,
+    rows: &Rows,
+) -> Result<Vec<u8>, AllocError>
+    ensures { IfOk result (λ bytes. bytes.items ≡ records_text header.now rows.now) }
+{
+    with_table(alloc, Vec::new(alloc), header, rows)
+}
+
+// Appends the records of the header and of the rows.
+fn with_table(
+    alloc: Global,
+    front: Vec<u8>,
+    header: &Sequence<Text>,
+    rows: &Rows,
+) -> Result<Vec<u8>, AllocError>
+    ensures { IfOk result (λ bytes. bytes.items ≡ front.items ++ record_text header.now ++ records rows.now) }
+{
+    let mut text = with_header(alloc, front, header)?;
     let mut written = 0;
     while written < rows.len() {
         let end = block_end(written, rows.len());
@@ -40,11 +69,14 @@ pub fn rows_text(alloc: Global, header: &Sequence<Text>, rows: &Rows) -> Result<
     Ok(text)
 }
 
-// The text before the rows: `ok` with their number, and the header.
-fn head_text(alloc: Global, header: &Sequence<Text>, rows: u64) -> Result<Vec<u8>, AllocError>
-    ensures { IfOk result (λ bytes. bytes.items ≡ accepted rows ++ record_text header.now) }
+// Appends the record of the header.
+fn with_header(
+    alloc: Global,
+    front: Vec<u8>,
+    header: &Sequence<Text>,
+) -> Result<Vec<u8>, AllocError>
+    ensures { IfOk result (λ bytes. bytes.items ≡ front.items ++ record_text header.now) }
 {
-    let front = Vec::from_slice(alloc, accepted_line(rows).as_slice())?;
     let mut writer = WriterBuilder::new().from_writer(front);
     let mut line = ByteRecord::new(alloc);
     fill_header(&mut line, header.as_slice())?;
