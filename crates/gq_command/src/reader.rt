@@ -81,10 +81,11 @@ fn with_payload(item: Item, payload: Payload) -> Item
     }
 }
 
-/// The first item of what is left, or `None` where there is none.
+/// The first item of what is left, or `None` where there is none. `number` becomes that of its line.
 fn next_item<R: Read>(
     alloc: Global,
     source: &mut Source<R>,
+    number: &mut u64,
     limits: &Limits,
 ) -> Result<Option<Item>, ReadFault>
     ensures item { IfOk result (λ x. IfSome x (λ item. IfSome source.old.left (λ bytes. Gave limits.now.bounds bytes source.new.left item))) }
@@ -98,6 +99,7 @@ fn next_item<R: Read>(
             return Ok(None);
         };
         if !line.is_skipped() {
+            *number = source.lines();
             let loads = line.takes_payload();
             let item = item_of(alloc, line, limits);
             if !loads {
@@ -119,6 +121,7 @@ fn next_item<R: Read>(
 #[derive(Drop)]
 pub struct CommandReader<R: Read> {
     source: Source<R>,
+    line: u64,
     failed: bool,
 }
 
@@ -144,8 +147,14 @@ impl<R: Read> CommandReader<R> {
     {
         CommandReader {
             source: Source::new(reader),
+            line: 0,
             failed: false,
         }
+    }
+
+    /// The number of the line of the item that came last; the first line of a script is 1.
+    pub fn line(&self) -> u64 {
+        self.line
     }
 
     /// The next command or refusal, or `None` at the script's end.
@@ -168,7 +177,7 @@ impl<R: Read> CommandReader<R> {
         if self.failed {
             return Err(ReadFault);
         }
-        match next_item(alloc, &mut self.source, limits) {
+        match next_item(alloc, &mut self.source, &mut self.line, limits) {
             Ok(item) => Ok(item),
             Err(fault) => {
                 self.failed = true;

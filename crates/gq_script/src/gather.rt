@@ -165,6 +165,23 @@ pub fn take_line<R: Read>(
     ensures end { IfOk result (λ x. IfNone x (Takes source.old source.new [] × IsAtEnd source.old.left)) }
     ensures within { OnOk result (source.new.given ≤ bounds.now.script) }
 {
+    let line = gather_line(alloc, source, bounds)?;
+    if line.is_some() {
+        source.count_line();
+    }
+    Ok(line)
+}
+
+// Takes the line, and doesn't count it.
+fn gather_line<R: Read>(
+    alloc: Global,
+    source: &mut Source<R>,
+    bounds: &Bounds,
+) -> Result<Option<OpenLine>, ReadFault>
+    ensures line { IfOk result (λ x. IfSome x (λ line. TookLine bounds.now source.old source.new line)) }
+    ensures end { IfOk result (λ x. IfNone x (Takes source.old source.new [] × IsAtEnd source.old.left)) }
+    ensures within { OnOk result (source.new.given ≤ bounds.now.script) }
+{
     let mut line = OpenLine::new(alloc, bounds.line);
     let mut any = false;
     let mut behind_cr = false;

@@ -156,7 +156,7 @@ pub fn take_payload_line<R: Read>(
         let before = mark;
         mark = before.behind(&piece[..len]);
         kept.add_piece(bounds.payload, before, mark, &piece[..len]);
-        source.pass(len, bounds.script)?;
+        source.pass(len, u64::from(ended), bounds.script)?;
         if ended {
             return Ok(Some(mark.is_closing()));
         }
@@ -164,20 +164,22 @@ pub fn take_payload_line<R: Read>(
     Err(ReadFault)
 }
 
-/// How many of these bytes are whole lines at the front of which none begins with `\`, so that none
-/// ends a payload.
-fn lines_len(bytes: &[u8]) -> usize
-    ensures within { result ≤ length bytes.now }
-    ensures lines { GoesOn (take result bytes.now) }
+/// The length of the whole lines at the front of these bytes of which none begins with `\`, so that
+/// none ends a payload; and the number of these lines.
+fn lines_len(bytes: &[u8]) -> (usize, u64)
+    ensures within { result.0 ≤ length bytes.now }
+    ensures lines { GoesOn (take result.0 bytes.now) }
 {
     let mut len = 0;
+    let mut count: u64 = 0;
     while len < bytes.len() && bytes[len] != b'\\' {
         match memchr(b'\n', &bytes[len..]) {
-            None => return len,
+            None => return (len, count),
             Some(index) => len += index + 1,
         }
+        count = count.wrapping_add(1);
     }
-    len
+    (len, count)
 }
 
 /// Takes such lines of those bytes that wait.
@@ -189,9 +191,9 @@ fn take_lines<R: Read>(
     ensures { OnOk result (TookLines bounds.now.payload source.old source.new kept.old kept.new) }
 {
     let waiting = source.ahead();
-    let len = lines_len(waiting);
+    let (len, count) = lines_len(waiting);
     kept.add(bounds.payload, &waiting[..len]);
-    source.pass(len, bounds.script)?;
+    source.pass(len, count, bounds.script)?;
     Ok(())
 }
 

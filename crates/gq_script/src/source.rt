@@ -75,6 +75,7 @@ pub struct Source<R: Read> {
     end: usize,
     behind_mark: bool,
     given: u64,
+    lines: u64,
 }
 
 impl<R: Read> Model for Source<R> {
@@ -104,7 +105,20 @@ impl<R: Read> Source<R> {
             end: 0,
             behind_mark: false,
             given: 0,
+            lines: 0,
         }
+    }
+
+    /// The number of lines taken so far, those of payloads included.
+    pub fn lines(&self) -> u64 {
+        self.lines
+    }
+
+    /// Counts a line that was taken.
+    pub fn count_line(&mut self)
+        ensures { self.new ≡ self.old }
+    {
+        self.lines = self.lines.saturating_add(1);
     }
 
     /// Reads, where no byte waits that was read ahead. Answers whether one waits then; where none
@@ -141,10 +155,10 @@ impl<R: Read> Source<R> {
         &buffer[self.start..self.end]
     }
 
-    /// Takes so many of the bytes that wait. A byte past the first `most` of the script, a mark
-    /// among them, is a fault, and nothing else is.
+    /// Takes the first `len` of the bytes that wait, within which `lines` lines end. A byte past the
+    /// first `most` of the script, a mark among them, is a fault, and nothing else is.
     #[inline]
-    pub fn pass(&mut self, len: usize, most: u64) -> Result<(), ReadFault>
+    pub fn pass(&mut self, len: usize, lines: u64, most: u64) -> Result<(), ReadFault>
         requires { len ≤ length self.old.ahead }
         ensures taken { OnOk result (Takes self.old self.new (take len self.old.ahead)) }
         ensures within { OnOk result (self.old.given ≤ most → self.new.given ≤ most) }
@@ -155,6 +169,7 @@ impl<R: Read> Source<R> {
         }
         self.start += len;
         self.given += len as u64;
+        self.lines = self.lines.saturating_add(lines);
         Ok(())
     }
 
@@ -169,7 +184,7 @@ impl<R: Read> Source<R> {
             return Ok(None);
         }
         let byte = self.ahead()[0];
-        self.pass(1, most)?;
+        self.pass(1, 0, most)?;
         Ok(Some(byte))
     }
 }

@@ -4,7 +4,7 @@ use Rattle.gq_script.proofs.payload.take_lines.Goals as goal
 
 pub returns : goal.returns
 returns g c =
-    let len = c.lines_len-len.result in
+    let len = c.lines_len-len.result.0 in
     let same : take len c.args.source.now.ahead ≡ take len c.ahead-waiting.result.now = ap (take len) (sym c.ahead-waiting.ensures) in
     record {
       raw = take len c.ahead-waiting.result.now;

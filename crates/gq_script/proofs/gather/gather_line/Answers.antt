@@ -3,7 +3,7 @@ use Rattle.std.proofs.lemmas.Bool.{ne_eqb}
 use Rattle.std.proofs.lemmas.Result.{IfOk-from_err}
 use Rattle.std.proofs.lemmas.Grind.{common_steps}
 use Rattle.gq_script.proofs.Gathered.{fed, ended, unended}
-use Rattle.gq_script.proofs.gather.take_line.Goals as goal
+use Rattle.gq_script.proofs.gather.gather_line.Goals as goal
 
 pub returns-in-None-clause-line : goal.returns-in-None-clause-line
 returns-in-None-clause-line g c =
