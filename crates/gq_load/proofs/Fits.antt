@@ -15,13 +15,14 @@ use Rattle.gq_row.specs.declared.limits.Bounds.{Bounds}
 use Rattle.gq_row.specs.Headings.{Heading}
 use Rattle.gq_load.specs.declared.load_refusal.LoadRefusal.{LoadRefusal}
 use Rattle.gq_load.specs.declared.load_refusal.LoadRefusal.TheVariants.{BadText, Limit, FieldCount, NullKey}
+use Rattle.gq_load.specs.declared.short_records.Short.{Short}
 use Rattle.gq_load.specs.Answers.{◌>>=◌}
 use Rattle.gq_load.specs.Fields.{int_value, is_null_field, text_value, value_by, value_of}
 use Rattle.gq_load.specs.Numbers.{int_of}
 use Rattle.gq_row.specs.Folding.{without_case}
 use Rattle.gq_row.specs.Fitting.{goes_in, fits_columns, has_null}
 use Rattle.gq_load.specs.Fitting.{AreFit}
-use Rattle.gq_load.specs.Payloads.{arranged, cells_of, keyed, kind_at, load, row_of, rows_from, rows_of, data_rows, value_in, values_of}
+use Rattle.gq_load.specs.Payloads.{arranged, cells_of, completed, keyed, kind_at, load, row_of, rows_from, rows_of, data_rows, value_in, values_of}
 use Rattle.gq_load.specs.Headers.{places_of}
 use Rattle.gq_load.proofs.Filling.{bound, kind_is, ok_same}
 
@@ -145,16 +146,16 @@ rows_fit heading most places number (fields ∷ others) rows h =
     let rest = rows_fit heading most places (number + 1) others b.0 b.1 in
     subst (AllFit heading) (ok_same (a.0 ∷ b.0) rows b.2) (record { fitting = rw (first.fitting, rest.fitting) refl; keyed = rw (first.keyed, rest.keyed) refl })
 
-all_fit : (heading : Heading) (bounds : Bounds) (given : List (List (List ℕ))) (rows : List (List Value)) → rows_of heading bounds given ≡ Ok rows → AreFit heading bounds rows
+all_fit : (short : Short) (heading : Heading) (bounds : Bounds) (given : List (List (List ℕ))) (rows : List (List Value)) → rows_of short heading bounds given ≡ Ok rows → AreFit heading bounds rows
 unfolding rows_of data_rows
-all_fit heading bounds [] rows h = let none : ⊥ = cc in absurd none
-all_fit heading bounds (names ∷ others) rows h =
+all_fit short heading bounds [] rows h = let none : ⊥ = cc in absurd none
+all_fit short heading bounds (names ∷ others) rows h =
     let a = bound (places_of heading.columns names) _ rows h in
-    let b = bound (rows_from heading bounds.text a.0 1 others) _ rows a.2 in
+    let b = bound (rows_from heading bounds.text a.0 1 (map (completed short (length a.0)) others)) _ rows a.2 in
     let c = chosen (nat_lt bounds.rows (length b.0)) Limit (Ok b.0) rows b.2 in
-    let fit = rows_fit heading bounds.text a.0 1 others b.0 b.1 in
+    let fit = rows_fit heading bounds.text a.0 1 (map (completed short (length a.0)) others) b.0 b.1 in
     subst (AreFit heading bounds) (ok_same b.0 rows c.1) (record { fitting = fit.fitting; keyed = fit.keyed; few = ltb-false bounds.rows (length b.0) c.0 })
 
 -- what is loaded may stand in the table
-pub loaded_fit : (heading : Heading) (bounds : Bounds) (bytes : List ℕ) (rows : List (List Value)) → load heading bounds bytes ≡ Ok rows → AreFit heading bounds rows
-loaded_fit heading bounds bytes rows h = all_fit heading bounds (records default_config (strip_bom bytes)) rows h
+pub loaded_fit : (short : Short) (heading : Heading) (bounds : Bounds) (bytes : List ℕ) (rows : List (List Value)) → load short heading bounds bytes ≡ Ok rows → AreFit heading bounds rows
+loaded_fit short heading bounds bytes rows h = all_fit short heading bounds (records default_config (strip_bom bytes)) rows h

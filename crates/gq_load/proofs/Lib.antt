@@ -1,3 +1,4 @@
+pub mod Completing
 mod Covering
 pub mod EachRow
 pub mod Feeds

@@ -17,6 +17,9 @@ use Rattle.gq_load.specs.Payloads.{arranged, value_in}
 use Rattle.gq_load.specs.Headers.{all_columns, are_all, places_of}
 use Rattle.gq_load.proofs.Places.{both, either, not_true}
 
+some_same : {A : Type 0} (x y : A) → Some x ≡ Some y → x ≡ y
+some_same x y e = ap (λ o. elim o [ None ↦ x | Some z ↦ z ]) e
+
 record Taken (count : ℕ) (o : Option (List ℕ)) (places : List ℕ) : Type 0 where
   found : o ≡ Some places
   all : are_all count places ≡ true
@@ -42,10 +45,22 @@ taken_all columns names places h =
     let count = (both (eqb (length places) (length columns)) (no_repeats nat_eq places) (taken columns names places h).all).0 in
     grind (arith, nat_tests)
 
--- the place of each name
+-- as many places as names
 
-some_same : {A : Type 0} (x y : A) → Some x ≡ Some y → x ≡ y
-some_same x y e = ap (λ o. elim o [ None ↦ x | Some z ↦ z ]) e
+places_many : (columns : List Column) (names : List (List ℕ)) (places : List ℕ) → positions_of columns names ≡ Some places → length places ≡ length names
+places_many columns [] places h = ap length (sym (some_same [] places h))
+places_many columns (name ∷ names) places h = by (position_of columns name) (positions_of columns names) refl h (places_many columns names)
+  where
+    by : (o : Option ℕ) (r : Option (List ℕ)) → positions_of columns names ≡ r → option_and_then (λ first. option_map (λ rest. first ∷ rest) r) o ≡ Some places
+        → ((rest : List ℕ) → positions_of columns names ≡ Some rest → length rest ≡ length names) → length places ≡ suc (length names)
+    by None r e h again = let none : ⊥ = cc in absurd none
+    by (Some first) None e h again = let none : ⊥ = cc in absurd none
+    by (Some first) (Some rest) e h again = ap length (sym (some_same (first ∷ rest) places h)) ∙ ap suc (again rest e)
+
+pub named_many : (columns : List Column) (names : List (List ℕ)) (places : List ℕ) → places_of columns names ≡ Ok places → length places ≡ length names
+named_many columns names places h = places_many columns names places (taken columns names places h).found
+
+-- the place of each name
 
 record First (columns : List Column) (name : List ℕ) (names : List (List ℕ)) (places : List ℕ) : Type 0 where
   place : ℕ

@@ -1,18 +1,20 @@
 -- Data records, from the first to the last.
-use Rattle.std.proofs.Common.{◌≡◌, ◌∙◌, ◌+◌, ◌++◌, ◌<◌, ◌⊎◌, inl, inr, ℕ, zero, suc, Bool, true, false, List, [], ◌∷◌, length, get_or, eqb, Result, Ok, Err, refl, sym, ap, arith}
-use Rattle.std.specs.Prelude.{IfOk, nat_lt}
+use Rattle.std.proofs.Common.{◌≡◌, ◌∙◌, ◌+◌, ◌++◌, ◌<◌, ◌⊎◌, inl, inr, ℕ, zero, suc, true, false, List, [], ◌∷◌, length, get_or, eqb, Option, None, Some, Result, Ok, Err, refl, sym, ap, subst, arith}
+use Rattle.std.specs.Prelude.{IfOk, IfSome, option_map, nat_lt}
 use Rattle.std.specs.List.{list_all}
-use Rattle.std.proofs.lemmas.Bool.{false≢true}
+use Rattle.std.proofs.lemmas.Option.{same_Some}
 use Rattle.std.proofs.lemmas.Bool.Decides.{nat_tests}
 use Rattle.std.proofs.lemmas.List.{append_assoc, append-nil}
 use Rattle.gq_row.specs.declared.value.Value.{Value}
 use Rattle.gq_row.specs.Headings.{Heading}
 use Rattle.gq_load.specs.declared.load_refusal.LoadRefusal.{LoadRefusal}
 use Rattle.gq_load.specs.Answers.{◌>>=◌, Gives}
-use Rattle.gq_load.specs.declared.load_refusal.LoadRefusal.TheVariants.{Memory, NullKey}
+use Rattle.gq_load.specs.declared.load_refusal.LoadRefusal.TheVariants.{FieldCount, Memory, NullKey}
 use Rattle.gq_load.specs.Payloads.{row_of, rows_from, cells_of, keyed}
 use Rattle.gq_row.specs.Fitting.{has_null as no_key}
-use Rattle.gq_load.specs.Unread.{Took}
+use Rattle.gq_load.specs.Coming.{Faulted, IsFaultOf, refusal_in}
+use Rattle.gq_load.specs.declared.row_fault.RowFault.{RowFault}
+use Rattle.gq_load.specs.declared.row_fault.RowFault.TheVariants as row_fault
 use Rattle.gq_load.proofs.Places.{both}
 
 -- rows with others before them
@@ -53,14 +55,34 @@ pub given : {X Y : Type 0} (view : X → Y) (r : Result X LoadRefusal) (read : R
 given view (Ok x) read h = h
 given view (Err e) read h = tt
 
--- what was read
-pub took_none : (records : List (List (List ℕ))) (found : Bool) (fields : List (List ℕ)) (rest : List (List (List ℕ))) → found ≡ false → Took records found fields rest → records ≡ []
-took_none [] found fields rest e h = refl
-took_none (first ∷ others) found fields rest e h = absurd (false≢true (sym e ∙ h.0))
+-- a fault that is also one of another kind
+pub told_too : {P Q : LoadRefusal → Type 0} (fault : RowFault) → ((why : LoadRefusal) → P why → Q why) → Faulted P fault → Faulted Q fault
+told_too row_fault.Read f h = tt
+told_too (row_fault.Refused why) f (inl m) = inl m
+told_too (row_fault.Refused why) f (inr h) = inr (f why h)
 
-pub took_some : (records : List (List (List ℕ))) (found : Bool) (fields : List (List ℕ)) (rest : List (List (List ℕ))) → found ≡ true → Took records found fields rest → records ≡ fields ∷ rest
-took_some [] found fields rest e h = absurd (false≢true (sym h ∙ e))
-took_some (first ∷ others) found fields rest e h = rw (h.1, h.2) refl
+-- of a reader over bytes in memory
+pub faulty : {A : Type 0} (read : Option (Result A LoadRefusal)) (fault : RowFault) → IsFaultOf read fault → IfSome read (λ given. (refusal_in fault ≡ Memory) ⊎ (given ≡ Err (refusal_in fault)))
+faulty None fault h = tt
+faulty (Some given) row_fault.Read h = inl refl
+faulty (Some given) (row_fault.Refused why) h = h
+
+-- what of one thing is of another
+pub same_of : {A B : Type 0} (f : A → B) (o : Option A) → IfSome o (λ x. option_map f o ≡ Some (f x))
+same_of f None = tt
+same_of f (Some x) = refl
+
+pub same_through : {A B C : Type 0} (all : Option A) (left : Option B) (f : B → C) (g : A → C) (x : Option C)
+    → IfSome all (λ a. option_map f left ≡ Some (g a)) → IfSome left (λ b. x ≡ Some (f b)) → IfSome all (λ a. x ≡ Some (g a))
+same_through None left f g x h k = tt
+same_through (Some a) None f g x h k = let none : ⊥ = cc in absurd none
+same_through (Some a) (Some b) f g x h k = k ∙ h
+
+pub so_of_all : {A B C : Type 0} (all : Option A) (left : Option B) (f : B → C) (g : A → C) (Q : C → Type 0)
+    → IfSome all (λ a. option_map f left ≡ Some (g a)) → IfSome left (λ b. Q (f b)) → IfSome all (λ a. Q (g a))
+so_of_all None left f g Q h k = tt
+so_of_all (Some a) None f g Q h k = let none : ⊥ = cc in absurd none
+so_of_all (Some a) (Some b) f g Q h k = subst Q (same_Some (f b) (g a) h) k
 
 -- a row's key
 pub in_key : (key : List ℕ) (n : ℕ) → list_all (λ position. nat_lt position n) key ≡ true → (k d : ℕ) → k < length key → get_or key k d < n
@@ -72,3 +94,7 @@ pub null_key : (heading : Heading) (most : ℕ) (places : List ℕ) (number : �
     → cells_of most number heading.columns places fields ≡ Ok cells → no_key heading.key cells ≡ true → row_of heading most places number fields ≡ Err (NullKey number)
 unfolding row_of keyed
 null_key heading most places number fields cells count e null = rw (count, e, null) refl
+
+pub other_count : (heading : Heading) (most : ℕ) (places : List ℕ) (number : ℕ) (fields : List (List ℕ)) → eqb (length fields) (length places) ≡ false → row_of heading most places number fields ≡ Err (FieldCount number)
+unfolding row_of
+other_count heading most places number fields count = rw count refl

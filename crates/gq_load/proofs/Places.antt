@@ -13,11 +13,11 @@ use Rattle.gq_load.specs.declared.load_refusal.LoadRefusal.TheVariants.{Header}
 use Rattle.gq_load.specs.Headers.{are_all, all_columns, places_of}
 
 -- a field by its place, where it has one
-pub field_or : (fields : List (List ℕ)) (i : ℕ) → elim (field_at fields i) [ None ↦ [] | Some f ↦ f ] ≡ get_or fields i []
+pub field_or : (fields : List (List ℕ)) (i : ℕ) (none : List ℕ) → elim (field_at fields i) [ None ↦ none | Some f ↦ f ] ≡ get_or fields i none
 unfolding field_at
-field_or [] i = refl
-field_or (f ∷ fields) zero = refl
-field_or (f ∷ fields) (suc i) = field_or fields i
+field_or [] i none = refl
+field_or (f ∷ fields) zero none = refl
+field_or (f ∷ fields) (suc i) none = field_or fields i none
 
 -- places without repeats
 

@@ -13,6 +13,7 @@ use Rattle.gq_row.specs.declared.limits.Bounds.{Bounds}
 use Rattle.gq_row.specs.declared.schema.Kind.TheVariants as kind
 use Rattle.gq_row.specs.declared.value.Value.TheVariants.{Null, Int, Text, NoCase}
 use Rattle.gq_load.specs.declared.load_refusal.LoadRefusal.TheVariants.{NullKey, Header, FieldCount, BadInt, Limit}
+use Rattle.gq_load.specs.declared.short_records.Short.TheVariants.{Refused, Completed}
 use Rattle.gq_load.specs.Fields.{text_value, value_of}
 use Rattle.gq_load.specs.Numbers.{int_of, number_of}
 use Rattle.gq_load.specs.Payloads.{cells_of, keyed, load, row_of, rows_from, rows_of, data_rows, values_of}
@@ -66,45 +67,63 @@ spaces_alone = refl
 
 -- payloads
 
-a_null : load s GREATEST (codes "id,city\r\n+7,\\N\r\n") ≡ Ok ((Int (pos 7) ∷ Null ∷ []) ∷ [])
+a_null : load Refused s GREATEST (codes "id,city\r\n+7,\\N\r\n") ≡ Ok ((Int (pos 7) ∷ Null ∷ []) ∷ [])
 unfolding next_record records_from strip_bom rows_of data_rows places_of rows_from row_of cells_of values_of value_of keyed int_of number_of
 a_null = refl
 
-nothing : load s GREATEST [] ≡ Err Header
+nothing : load Refused s GREATEST [] ≡ Err Header
 unfolding next_record records_from strip_bom rows_of data_rows places_of rows_from row_of cells_of values_of value_of keyed int_of number_of
 nothing = refl
 
-a_column_missing : load s GREATEST (codes "id\n1\n") ≡ Err Header
+a_column_missing : load Refused s GREATEST (codes "id\n1\n") ≡ Err Header
 unfolding next_record records_from strip_bom rows_of data_rows places_of rows_from row_of cells_of values_of value_of keyed int_of number_of
 a_column_missing = refl
 
-a_column_twice : load s GREATEST (codes "id,city,id\n") ≡ Err Header
+a_column_twice : load Refused s GREATEST (codes "id,city,id\n") ≡ Err Header
 unfolding next_record records_from strip_bom rows_of data_rows places_of rows_from row_of cells_of values_of value_of keyed int_of number_of
 a_column_twice = refl
 
-turned : load n GREATEST (239 ∷ 187 ∷ 191 ∷ codes "b,a\n1,2\n\n3,") ≡ Ok ((Int (pos 2) ∷ Int (pos 1) ∷ []) ∷ (Null ∷ Int (pos 3) ∷ []) ∷ [])
+turned : load Refused n GREATEST (239 ∷ 187 ∷ 191 ∷ codes "b,a\n1,2\n\n3,") ≡ Ok ((Int (pos 2) ∷ Int (pos 1) ∷ []) ∷ (Null ∷ Int (pos 3) ∷ []) ∷ [])
 unfolding next_record records_from strip_bom rows_of data_rows places_of rows_from row_of cells_of values_of value_of keyed int_of number_of
 turned = refl
 
-the_second_record : load n GREATEST (codes "a,b\n1,2\n3\n") ≡ Err (FieldCount 2)
+the_second_record : load Refused n GREATEST (codes "a,b\n1,2\n3\n") ≡ Err (FieldCount 2)
 unfolding next_record records_from strip_bom rows_of data_rows places_of rows_from row_of cells_of values_of value_of keyed int_of number_of
 the_second_record = refl
 
-from_the_left : load s GREATEST (codes "city,id\n\\N,1.5\n") ≡ Err (BadInt 1)
+from_the_left : load Refused s GREATEST (codes "city,id\n\\N,1.5\n") ≡ Err (BadInt 1)
 unfolding next_record records_from strip_bom rows_of data_rows places_of rows_from row_of cells_of values_of value_of keyed int_of number_of
 from_the_left = refl
 
-the_key_last : load s GREATEST (codes "id,city\n,\\N\n") ≡ Err (NullKey 1)
+the_key_last : load Refused s GREATEST (codes "id,city\n,\\N\n") ≡ Err (NullKey 1)
 unfolding next_record records_from strip_bom rows_of data_rows places_of rows_from row_of cells_of values_of value_of keyed int_of number_of
 the_key_last = refl
 
-too_many : load n two_rows (codes "a,b\n1,2\n3,4\n5,6\n") ≡ Err Limit
+too_many : load Refused n two_rows (codes "a,b\n1,2\n3,4\n5,6\n") ≡ Err Limit
 unfolding next_record records_from strip_bom rows_of data_rows places_of rows_from row_of cells_of values_of value_of keyed int_of number_of
 too_many = refl
 
-faults_before_too_many : load n two_rows (codes "a,b\n1,2\n3,4\n5,6\nx,7\n") ≡ Err (BadInt 4)
+faults_before_too_many : load Refused n two_rows (codes "a,b\n1,2\n3,4\n5,6\nx,7\n") ≡ Err (BadInt 4)
 unfolding next_record records_from strip_bom rows_of data_rows places_of rows_from row_of cells_of values_of value_of keyed int_of number_of
 faults_before_too_many = refl
+
+-- records with fewer fields than the header, and one with more
+
+a_short_one_is_completed : load Completed n GREATEST (codes "b,a\n1\n") ≡ Ok ((Null ∷ Int (pos 1) ∷ []) ∷ [])
+unfolding next_record records_from strip_bom rows_of data_rows places_of rows_from row_of cells_of values_of value_of keyed int_of number_of
+a_short_one_is_completed = refl
+
+null_and_not_empty : load Completed s GREATEST (codes "id,city\n7\n") ≡ Ok ((Int (pos 7) ∷ Null ∷ []) ∷ [])
+unfolding next_record records_from strip_bom rows_of data_rows places_of rows_from row_of cells_of values_of value_of keyed int_of number_of
+null_and_not_empty = refl
+
+a_long_one_is_not : load Completed n GREATEST (codes "a,b\n1\n1,2,3\n") ≡ Err (FieldCount 2)
+unfolding next_record records_from strip_bom rows_of data_rows places_of rows_from row_of cells_of values_of value_of keyed int_of number_of
+a_long_one_is_not = refl
+
+a_key_is_not_completed : load Completed s GREATEST (codes "city,id\n\\N\n") ≡ Err (NullKey 1)
+unfolding next_record records_from strip_bom rows_of data_rows places_of rows_from row_of cells_of values_of value_of keyed int_of number_of
+a_key_is_not_completed = refl
 
 -- a text of ASCII
 

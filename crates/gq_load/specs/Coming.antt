@@ -1,6 +1,5 @@
 -- What a reader of a payload has yet to give.
-use Rattle.std.specs.Prelude.{◌≡◌, ◌⊎◌, ◌+◌, ◌-◌, ◌≤◌, ℕ, Bool, true, false, IsTrue, List, [], ◌∷◌, Result, Ok, Err, Option, Some, None, if◌then◌else◌}
-use Rattle.std.specs.Borrow.{Bor}
+use Rattle.std.specs.Prelude.{◌≡◌, ◌⊎◌, ◌+◌, ◌-◌, ◌≤◌, ℕ, Bool, true, false, IsTrue, List, [], ◌∷◌, length, map, Result, Ok, Err, Option, Some, None, IfSome, option_map, if◌then◌else◌}
 use Rattle.csv.specs.declared.reader.Reader.{Reader}
 use Rattle.gq_row.specs.declared.limits.Bounds.{Bounds}
 use Rattle.gq_row.specs.declared.value.Value.{Value}
@@ -8,14 +7,18 @@ use Rattle.gq_row.specs.Fitting.{fits_columns, has_null}
 use Rattle.gq_row.specs.Headings.{Heading}
 use Rattle.gq_load.specs.declared.load_refusal.LoadRefusal.{LoadRefusal}
 use Rattle.gq_load.specs.declared.load_refusal.LoadRefusal.TheVariants.{Memory}
+use Rattle.gq_load.specs.declared.row_fault.RowFault.{RowFault}
+use Rattle.gq_load.specs.declared.row_fault.RowFault.TheVariants as fault
+use Rattle.gq_load.specs.declared.short_records.Short.{Short}
 use Rattle.gq_load.specs.Answers.{◌>>=◌}
-use Rattle.gq_load.specs.Payloads.{rows_from, at_most}
-use Rattle.gq_load.specs.Unread.{IsBetween, unread}
+use Rattle.gq_load.specs.Payloads.{completed, rows_from, at_most}
+use Rattle.gq_load.specs.Unread.{IsReading, unread}
 
--- the rows of the data records that are left, or their first fault, for a table of this heading
+-- the rows of the data records that are left, or their first fault, for a table of this heading, where the payload's bytes are known; and how many rows may come at most
 pub record Coming : Type 0 where
   pub heading : Heading
-  pub rows : Result (List (List Value)) LoadRefusal
+  pub rows : Option (Result (List (List Value)) LoadRefusal)
+  pub room : ℕ
 
 -- the rows of records, of which the first has this number, where they are at most so many; a fault of a record goes before
 unfoldable pub rows_left : Heading → ℕ → ℕ → List ℕ → ℕ → List (List (List ℕ)) → Result (List (List Value)) LoadRefusal
@@ -23,33 +26,59 @@ rows_left heading text most places number others = do
   rows ← rows_from heading text places number others
   at_most most rows
 
+-- the data records that a reader has left, as they are read under a header of the given number of fields, where they are known
+abbrev pub data_left : {R : Type 0} → (R → Option (List ℕ)) → Short → ℕ → Reader R → Option (List (List (List ℕ)))
+data_left remaining short count reader = option_map (map (completed short count)) (unread remaining reader)
+
+-- their rows, after the given number of rows
+abbrev pub rows_coming : {R : Type 0} → (R → Option (List ℕ)) → Short → Heading → Bounds → List ℕ → ℕ → Reader R → Option (Result (List (List Value)) LoadRefusal)
+rows_coming remaining short heading bounds places given reader = option_map (rows_left heading bounds.text (bounds.rows - given) places (given + 1)) (data_left remaining short (length places) reader)
+
 -- nothing comes any more, or those do
-abbrev pub unless_over : Bool → Result (List (List Value)) LoadRefusal → Result (List (List Value)) LoadRefusal
-unless_over is_over rows = if is_over then Ok [] else rows
+abbrev pub unless_over : Bool → Option (Result (List (List Value)) LoadRefusal) → Option (Result (List (List Value)) LoadRefusal)
+unless_over is_over rows = if is_over then Some (Ok []) else rows
 
 -- a row, and then others
 abbrev pub row_before : List Value → Result (List (List Value)) LoadRefusal → Result (List (List Value)) LoadRefusal
 row_before row rows = rows >>= λ others. Ok (row ∷ others)
+
+-- rows that are known are this one, and then those that are left
+abbrev pub BeginWith : Option (Result (List (List Value)) LoadRefusal) → List Value → Option (Result (List (List Value)) LoadRefusal) → Type 0
+BeginWith rows row left = IfSome rows (λ read. option_map (row_before row) left ≡ Some read)
 
 -- the fault of what was read, if it has one
 abbrev pub fault_of : Result (List (List Value)) LoadRefusal → Option LoadRefusal
 fault_of (Ok rows) = None
 fault_of (Err fault) = Some fault
 
--- a reader that is not at its end stands between two records, and has given no more rows than it may
-abbrev pub IsUnder : Bool → ℕ → ℕ → Reader (Bor (List ℕ)) → Type 0
-IsUnder is_over given most reader = is_over ≡ false → IsBetween reader × (given ≤ most)
+-- a fault is a refusal of this kind, for which want of memory may stand, or a read that failed
+abbrev pub Faulted : (LoadRefusal → Type 0) → RowFault → Type 0
+Faulted Told (fault.Refused why) = (why ≡ Memory) ⊎ Told why
+Faulted Told fault.Read = Unit {0}
 
--- a row that came behind so many: those that are left begin with it, it fits its table, and more may come
-pub record Came (heading : Heading) (bounds : Bounds) (places : List ℕ) (given : ℕ) (old : Reader (Bor (List ℕ))) (row : List Value) (new : Reader (Bor (List ℕ))) : Type 0 where
-  pub left : rows_left heading bounds.text (bounds.rows - given) places (given + 1) (unread old) ≡ row_before row (rows_left heading bounds.text (bounds.rows - (given + 1)) places (given + 1 + 1) (unread new))
+-- the refusal for a fault, where no read fails but for want of memory
+abbrev pub refusal_in : RowFault → LoadRefusal
+refusal_in (fault.Refused why) = why
+refusal_in fault.Read = Memory
+
+-- a fault of reading, where it is known what reading gives
+abbrev pub IsFaultOf : {A : Type 0} → Option (Result A LoadRefusal) → RowFault → Type 0
+IsFaultOf read fault = Faulted (λ why. IfSome read (λ given. given ≡ Err why)) fault
+
+-- a reader that is not at its end reads on, and has given no more rows than it may
+abbrev pub IsUnder : {R : Type 0} → Bool → ℕ → ℕ → Reader R → Type 0
+IsUnder is_over given most reader = is_over ≡ false → IsReading reader × (given ≤ most)
+
+-- a row that came after the given number: those that are left begin with it, it fits its table, and more may come
+pub record Came {R : Type 0} (remaining : R → Option (List ℕ)) (short : Short) (heading : Heading) (bounds : Bounds) (places : List ℕ) (given : ℕ) (old : Reader R) (row : List Value) (new : Reader R) : Type 0 where
+  pub left : BeginWith (rows_coming remaining short heading bounds places given old) row (rows_coming remaining short heading bounds places (given + 1) new)
   pub fits : IsTrue (fits_columns heading.columns row)
   pub keyed : has_null heading.key row ≡ false
-  pub between : IsBetween new
+  pub reading : IsReading new
   pub under : given + 1 ≤ bounds.rows
 
--- what reading the next row came to: there was one, there is none left, or it is the first fault of those that are left, for which want of memory may stand
-abbrev pub IsNext : Heading → Bounds → List ℕ → ℕ → Reader (Bor (List ℕ)) → List Value → Reader (Bor (List ℕ)) → Result Bool LoadRefusal → Type 0
-IsNext heading bounds places given old row new (Ok true) = Came heading bounds places given old row new
-IsNext heading bounds places given old row new (Ok false) = rows_left heading bounds.text (bounds.rows - given) places (given + 1) (unread old) ≡ Ok []
-IsNext heading bounds places given old row new (Err why) = (why ≡ Memory) ⊎ (rows_left heading bounds.text (bounds.rows - given) places (given + 1) (unread old) ≡ Err why)
+-- what reading the next row came to: there was one, there is none left, or it is the first fault of those that are left
+abbrev pub IsNext : {R : Type 0} → (R → Option (List ℕ)) → Short → Heading → Bounds → List ℕ → ℕ → Reader R → List Value → Reader R → Result Bool RowFault → Type 0
+IsNext remaining short heading bounds places given old row new (Ok true) = Came remaining short heading bounds places given old row new
+IsNext remaining short heading bounds places given old row new (Ok false) = IfSome (rows_coming remaining short heading bounds places given old) (λ read. read ≡ Ok [])
+IsNext remaining short heading bounds places given old row new (Err fault) = IsFaultOf (rows_coming remaining short heading bounds places given old) fault

@@ -1,5 +1,5 @@
 -- What the definitions come to, in the subject's own words.
-use Rattle.std.specs.Prelude.{◌≡◌, ◌+◌, ◌<◌, ◌⊎◌, ◌++◌, ◌∷◌, ℕ, ℤ, Bool, true, false, List, [], length, Ok, Err, IsOk, Some, codes, slice_index_or}
+use Rattle.std.specs.Prelude.{◌≡◌, ◌+◌, ◌<◌, ◌⊎◌, ◌++◌, ◌∷◌, ◌==◌, ℕ, ℤ, Bool, true, false, List, [], length, Ok, Err, IsOk, IsTrue, Some, codes, slice_index_or}
 use Rattle.std.specs.List.{list_all}
 use Rattle.std.specs.Str.{all_ascii_digits}
 use Rattle.std.specs.Str.Parse.{digits_value}
@@ -11,10 +11,13 @@ use Rattle.gq_row.specs.declared.value.Value.TheVariants.{Null, Text, NoCase}
 use Rattle.gq_row.specs.Headings.{Heading, position_of}
 use Rattle.gq_row.specs.Rows.{cell}
 use Rattle.gq_load.specs.declared.load_refusal.LoadRefusal.{LoadRefusal}
+use Rattle.csv.specs.Reading.{records, default_config, strip_bom}
+use Rattle.gq_row.specs.declared.limits.Bounds.{Bounds}
+use Rattle.gq_load.specs.declared.short_records.Short.TheVariants.{Refused, Completed}
 use Rattle.gq_load.specs.Fields.{value_of}
 use Rattle.gq_load.specs.Headers.{places_of}
 use Rattle.gq_load.specs.Numbers.{int_of, is_filled, is_space, signed}
-use Rattle.gq_load.specs.Payloads.{arranged, row_of, rows_from}
+use Rattle.gq_load.specs.Payloads.{arranged, load, row_of, rows_from}
 
 -- a header that is taken has as many names as the table has columns; each is a column's, and the value of the field under it stands in that column
 pub record StandsUnderItsName : Type 0 where
@@ -38,6 +41,15 @@ pub record ReadsRecords : Type 0 where
       → row_of heading longest places (number + i) (slice_index_or given i []) ≡ Ok (slice_index_or rows i [])
   pub first : (heading : Heading) (longest : ℕ) (places : List ℕ) (number : ℕ) (given : List (List (List ℕ))) (fault : LoadRefusal)
       → rows_from heading longest places number given ≡ Err fault → IsFirstFault heading longest places number given fault
+
+-- whether each record has as many fields as the first, which is the header
+abbrev pub are_even : List (List (List ℕ)) → Bool
+are_even [] = true
+are_even (names ∷ others) = list_all (λ fields. length fields == length names) others
+
+-- where each record of a payload has as many fields as the header, completing short ones changes nothing
+abbrev pub CompletesShortOnly : Type 0
+CompletesShortOnly = (heading : Heading) (bounds : Bounds) (bytes : List ℕ) → IsTrue (are_even (records default_config (strip_bom bytes))) → load Completed heading bounds bytes ≡ load Refused heading bounds bytes
 
 -- \N is null in every column; an empty field is null in an INT column, and the empty text in a column of texts, with case or without
 pub record ReadsNulls : Type 0 where

@@ -1,5 +1,5 @@
 -- What the records of a payload come to.
-use Rattle.std.specs.Prelude.{ℕ, Bool, true, false, ◌+◌, ◌==◌, nat_lt, List, [], ◌∷◌, ◌++◌, length, map, Result, Ok, Err, if◌then◌else◌, slice_index_or}
+use Rattle.std.specs.Prelude.{ℕ, Bool, true, false, ◌+◌, ◌-◌, ◌==◌, nat_lt, List, [], ◌∷◌, ◌++◌, length, map, replicate, Result, Ok, Err, if◌then◌else◌, slice_index_or}
 use Rattle.std.specs.List.{range_with_len}
 use Rattle.csv.specs.Reading.{records, default_config, strip_bom}
 use Rattle.gq_row.specs.declared.schema.Column.{Column}
@@ -13,7 +13,9 @@ use Rattle.gq_row.specs.Headings.{Heading}
 use Rattle.gq_load.specs.declared.load_refusal.LoadRefusal.{LoadRefusal}
 use Rattle.gq_load.specs.declared.load_refusal.LoadRefusal.TheVariants.{FieldCount, Header, Limit, NullKey}
 use Rattle.gq_load.specs.Answers.{◌>>=◌}
-use Rattle.gq_load.specs.Fields.{value_of}
+use Rattle.gq_load.specs.declared.short_records.Short.{Short}
+use Rattle.gq_load.specs.declared.short_records.Short.TheVariants.{Refused, Completed}
+use Rattle.gq_load.specs.Fields.{null_field, value_of}
 use Rattle.gq_load.specs.Headers.{places_of}
 
 -- the kind of the column at a place
@@ -75,16 +77,21 @@ data_rows heading text most places others = do
   rows ← rows_from heading text places 1 others
   at_most most rows
 
+-- a data record as it is read under a header of the given number of fields: a short one is refused for that, or completed by null fields
+abbrev pub completed : Short → ℕ → List (List ℕ) → List (List ℕ)
+completed Refused count fields = fields
+completed Completed count fields = fields ++ replicate (count - length fields) null_field
+
 -- the rows of records, of which the first is the header
-unfoldable pub rows_of : Heading → Bounds → List (List (List ℕ)) → Result (List (List Value)) LoadRefusal
-rows_of heading bounds [] = Err Header
-rows_of heading bounds (names ∷ others) = do
+unfoldable pub rows_of : Short → Heading → Bounds → List (List (List ℕ)) → Result (List (List Value)) LoadRefusal
+rows_of short heading bounds [] = Err Header
+rows_of short heading bounds (names ∷ others) = do
   places ← places_of heading.columns names
-  data_rows heading bounds.text bounds.rows places others
+  data_rows heading bounds.text bounds.rows places (map (completed short (length places)) others)
 
 -- the rows of a payload, or its first fault
-abbrev pub load : Heading → Bounds → List ℕ → Result (List (List Value)) LoadRefusal
-load heading bounds bytes = rows_of heading bounds (records default_config (strip_bom bytes))
+abbrev pub load : Short → Heading → Bounds → List ℕ → Result (List (List Value)) LoadRefusal
+load short heading bounds bytes = rows_of short heading bounds (records default_config (strip_bom bytes))
 
 -- rows and one more, where there is room for it
 abbrev pub kept : List (List Value) → List Value → Bool → List (List Value)

@@ -12,7 +12,7 @@ use std::alloc::Global;
 use std::str;
 
 /// What stands for null in every column.
-const NULL: &[u8] = b"\\N";
+pub(crate) const NULL: &[u8] = b"\\N";
 
 /// Writes the value of a field in a column of a kind over another value; a text over a text of the
 /// same kind, in its memory where that is enough. A text has at most `longest` bytes; `number` is that of the record.
@@ -42,7 +42,7 @@ pub(crate) fn write_value(
 }
 
 /// Whether a field is null in a column of a kind.
-fn is_null(kind: Kind, field: &[u8]) -> bool
+pub fn is_null(kind: Kind, field: &[u8]) -> bool
     ensures { result ≡ is_null_field kind field.now }
 {
     match kind {

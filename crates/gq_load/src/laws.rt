@@ -1,6 +1,6 @@
 //! Laws: what the definitions come to, in the subject's own words. Each is the contract of a
 //! function that does nothing.
-ghost use Rattle.gq_load.specs.Laws.{ReadsInts, ReadsNulls, ReadsRecords, StandsUnderItsName};
+ghost use Rattle.gq_load.specs.Laws.{CompletesShortOnly, ReadsInts, ReadsNulls, ReadsRecords, StandsUnderItsName};
 
 /// The value of a field stands in the column that the header names above it.
 pub fn stands_under_its_name()
@@ -17,6 +17,11 @@ pub fn reads_records()
 /// column, and the empty text in a column of texts, with case or without.
 pub fn reads_nulls()
     ensures { ReadsNulls }
+{}
+
+/// Where each data record has as many fields as the header, completing short records changes nothing.
+pub fn completes_short_only()
+    ensures { CompletesShortOnly }
 {}
 
 /// A field is read as a number exactly where it is spaces, an optional sign, digits and spaces, and

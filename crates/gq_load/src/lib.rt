@@ -6,9 +6,11 @@
 //! to, when it is null, which numbers and texts there are, and which fault comes first. A row's
 //! values stand in the order of the table's columns.
 //!
-//! The one contract above this crate is that of [`load_rows`]: it answers what `load` of
+//! Two contracts above this crate matter. [`load_rows`] returns what `load` of
 //! `specs/Payloads.antt` gives, rows or fault, or that memory was refused; and the rows fit their
-//! table, have no null in its key and are no more than the limit. The laws in [`laws`] say in the
+//! table, have no null in its key and are no more than the limit. [`RowReader`] gives the same rows
+//! one by one, from any reader: what they are is said where the reader's bytes are known, and that
+//! they fit their table always. The laws in [`laws`] say in the
 //! subject's own words what that definition comes to.
 #![tactic(auto)]
 
@@ -21,9 +23,17 @@ mod number;
 mod payload;
 mod reader;
 mod row;
+mod row_fault;
+mod row_format;
 mod row_reader;
+mod short_records;
 
+pub use field::is_null;
 pub use lines::line_ends;
 pub use load_refusal::LoadRefusal;
+pub use number::int_of;
 pub use payload::load_rows;
+pub use reader::{payload_reader, read_next};
+pub use row_fault::RowFault;
 pub use row_reader::RowReader;
+pub use short_records::Short;

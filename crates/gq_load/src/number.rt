@@ -6,7 +6,7 @@ ghost use Rattle.gq_load.specs.Numbers.{is_space, int_of, magnitude, number_of, 
 
 /// The number that a field spells. Most fields have no spaces, so the whole field is tried first.
 #[tactic(auto, using(crate::proofs::Spelling::unspaced))]
-pub(crate) fn int_of(field: &[u8]) -> Option<i64>
+pub fn int_of(field: &[u8]) -> Option<i64>
     ensures { result ≡ int_of field.now }
 {
     let number = number_of(field);

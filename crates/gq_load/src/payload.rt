@@ -1,12 +1,15 @@
 //! Payloads as rows.
-ghost use Rattle.std.specs.Prelude.{◌≡◌, IfOk};
+ghost use Rattle.std.specs.Prelude.{◌≡◌, IfOk, IfSome};
 ghost use Rattle.gq_load.specs.Answers.{Gives};
+ghost use Rattle.gq_load.specs.Coming.{refusal_in};
 ghost use Rattle.gq_load.specs.Fitting.{AreFit};
 ghost use Rattle.gq_load.specs.Payloads.{load};
 
 use crate::lines::line_ends;
 use crate::load_refusal::LoadRefusal;
+use crate::row_fault::RowFault;
 use crate::row_reader::RowReader;
+use crate::short_records::Short;
 use gq_row::{Limits, Row, Schema, Sequence};
 use std::alloc::Global;
 
@@ -25,10 +28,13 @@ pub fn load_rows(
     schema: &Schema,
     limits: &Limits,
 ) -> Result<Sequence<Row>, LoadRefusal>
-    ensures loads { Gives (λ rows. rows) result (load schema.now limits.now.bounds bytes.now) }
+    ensures loads { Gives (λ rows. rows) result (load Short.Refused schema.now limits.now.bounds bytes.now) }
     ensures fit { IfOk result (λ rows. AreFit schema.now limits.now.bounds rows) }
 {
-    let mut reader = RowReader::new(alloc, bytes, schema, limits)?;
+    let mut reader = match RowReader::new(alloc, bytes, Short::Refused, schema, limits) {
+        Ok(reader) => reader,
+        Err(fault) => return Err(refusal_of(fault)),
+    };
     let room = line_ends(bytes).min(limits.bounds.rows);
     rows_of(alloc, room, &mut reader)
 }
@@ -37,17 +43,28 @@ pub fn load_rows(
 fn rows_of(
     alloc: Global,
     room: usize,
-    reader: &mut RowReader<'_>,
+    reader: &mut RowReader<'_, &[u8]>,
 ) -> Result<Sequence<Row>, LoadRefusal>
-    ensures { Gives (λ rows. rows) result reader.old.rows }
+    ensures { IfSome reader.old.rows (λ read. Gives (λ rows. rows) result read) }
 {
     let mut rows = Vec::with_capacity(alloc, room)?;
     for _ in 0..u64::MAX {
         let mut row = Row::new(Vec::new(alloc));
-        if !reader.read(&mut row)? {
-            return Ok(Sequence::new(rows));
+        match reader.read(&mut row) {
+            Ok(true) => rows.push(row)?,
+            Ok(false) => return Ok(Sequence::new(rows)),
+            Err(fault) => return Err(refusal_of(fault)),
         }
-        rows.push(row)?;
     }
     Err(LoadRefusal::Memory)
+}
+
+/// The refusal for a fault: bytes in memory are read without fail, but for want of memory.
+fn refusal_of(fault: RowFault) -> LoadRefusal
+    ensures { result ≡ refusal_in fault }
+{
+    match fault {
+        RowFault::Refused(why) => why,
+        RowFault::Read => LoadRefusal::Memory,
+    }
 }

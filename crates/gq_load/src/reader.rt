@@ -1,16 +1,23 @@
 //! The records of a payload, one after the other.
-ghost use Rattle.std.specs.Prelude.{◌≡◌, IfOk, true};
-ghost use Rattle.csv.specs.Reading.{records, default_config, strip_bom};
+ghost use Rattle.std.specs.Prelude.{◌≡◌, IfOk, IfErr, OnOk, option_map, if◌then◌else◌};
+ghost use Rattle.csv.specs.Reading.{records, default_config, strip_bom, error_kind, is_io};
 ghost use Rattle.csv.specs.Records.{fields_of};
-ghost use Rattle.gq_load.specs.Unread.{IsBetween, Took, unread};
+ghost use Rattle.gq_load.specs.Coming.{Faulted};
+ghost use Rattle.gq_load.specs.Unread.{IsReading, Took, unread};
+ghost use Rattle.gq_load.specs.declared.load_refusal.LoadRefusal.TheVariants as refusal;
+ghost use Rattle.gq_load.specs.declared.row_fault.RowFault.TheVariants as fault;
 
+use crate::load_refusal::LoadRefusal;
+use crate::row_fault::RowFault;
 use csv::{ByteRecord, Reader, ReaderBuilder, Trim};
-use std::alloc::{AllocError, Global};
+use std::alloc::Global;
+use std::io::Read;
 
 /// A reader of a payload, whose records are taken as they are.
-pub(crate) fn payload_reader<'a>(alloc: Global, payload: &'a [u8]) -> Reader<&'a [u8]>
-    ensures between { IsBetween result }
-    ensures unread { unread result ≡ records default_config (strip_bom payload.entry.now) }
+pub fn payload_reader<R: Read>(alloc: Global, payload: R) -> Reader<R>
+    ensures reading { IsReading result }
+    ensures unread { unread R.remaining result
+        ≡ option_map (λ bytes. records default_config (strip_bom bytes)) (R.remaining payload) }
 {
     ReaderBuilder::new()
         .has_headers(false)
@@ -20,17 +27,29 @@ pub(crate) fn payload_reader<'a>(alloc: Global, payload: &'a [u8]) -> Reader<&'a
 }
 
 /// Reads the next record into `byte_record`; false where there is none.
-pub(crate) fn read_next(
-    reader: &mut Reader<&[u8]>,
+pub fn read_next<R: Read>(
+    reader: &mut Reader<R>,
     byte_record: &mut ByteRecord,
-) -> Result<bool, AllocError>
-    requires { IsBetween reader.old }
-    ensures between { IfOk result (λ found. found ≡ true → IsBetween reader.new) }
-    ensures took { IfOk result
-        (λ found. Took (unread reader.old) found (fields_of byte_record.new) (unread reader.new)) }
+) -> Result<bool, RowFault>
+    requires { IsReading reader.old }
+    ensures reading { OnOk result (IsReading reader.new) }
+    ensures took { IfOk result (λ found. Took (unread R.remaining reader.old) found
+        (fields_of byte_record.new) (unread R.remaining reader.new)) }
+    ensures fault { IfErr result (λ fault. Faulted (λ _. ⊥) fault) }
 {
     match reader.read_byte_record(byte_record) {
         Ok(found) => Ok(found),
-        Err(_e) => Err(AllocError),
+        Err(error) => Err(read_fault(&error)),
+    }
+}
+
+// The fault that an error of the records' reader is: a failed read, or want of memory.
+fn read_fault(error: &csv::Error) -> RowFault
+    ensures { result ≡ (if is_io (error_kind error.now) then fault.Read else fault.Refused refusal.Memory) }
+{
+    if error.is_io_error() {
+        RowFault::Read
+    } else {
+        RowFault::Refused(LoadRefusal::Memory)
     }
 }

@@ -1,80 +1,89 @@
 //! The rows of a payload, one after the other.
-ghost use Rattle.std.specs.Prelude.{◌≡◌, ◌⊎◌, ◌+◌, ◌≤◌, IfOk, OnOk, IfErr, None, Some, Err, length};
+ghost use Rattle.std.specs.Prelude.{◌≡◌, ◌+◌, ◌≤◌, IfOk, IfSome, OnOk, IfErr, None, Some, length, option_map};
 ghost use Rattle.gq_row.specs.declared.limits.Bounds.{Bounds};
-ghost use Rattle.gq_load.specs.Coming.{IsNext, fault_of, rows_left};
+ghost use Rattle.gq_load.specs.declared.short_records.Short.{Short};
+ghost use Rattle.gq_load.specs.Coming.{Faulted, IsFaultOf, IsNext, data_left, fault_of, rows_left};
 ghost use Rattle.gq_load.specs.Payloads.{rows_from, rows_of};
-ghost use Rattle.gq_load.specs.Unread.{IsBetween, unread};
-ghost use Rattle.gq_load.specs.declared.load_refusal.LoadRefusal.TheVariants.{Memory};
+ghost use Rattle.gq_load.specs.Unread.{IsReading, unread};
 
 use crate::header::Header;
 use crate::load_refusal::LoadRefusal;
 use crate::reader::{payload_reader, read_next};
 use crate::row::row_of;
+use crate::row_fault::RowFault;
+use crate::row_format::RowFormat;
+use crate::short_records::Short;
 use csv::{ByteRecord, Reader};
 use gq_row::{Limits, Row, Schema};
 use std::alloc::Global;
+use std::io::Read;
 use std::marker::Model;
 use std::mem;
 
 /// A reader of a payload that gives a row for each data record, seen as the rows that are yet to
-/// come, or their first fault.
+/// come, or their first fault, where the payload's bytes are known, and as the number of rows that
+/// may come at most. The bytes are read piece by piece, and no row is kept.
 #[derive(Drop)]
-pub struct RowReader<'a> {
+pub struct RowReader<'a, R: Read> {
     alloc: Global,
-    schema: &'a Schema,
-    limits: &'a Limits,
+    format: RowFormat<'a>,
     header: Header,
-    reader: Reader<&'a [u8]>,
+    reader: Reader<R>,
     byte_record: ByteRecord,
     given: u64,
     is_over: bool,
 }
 
-impl<'a> Model for RowReader<'a> {
-    ghost use Rattle.std.specs.Prelude.{◌≡◌, ◌+◌, ◌-◌, length};
-    ghost use Rattle.gq_load.specs.Coming.{Coming, IsUnder, rows_left, unless_over};
-    ghost use Rattle.gq_load.specs.Unread.{unread};
+impl<'a, R: Read> Model for RowReader<'a, R> {
+    ghost use Rattle.std.specs.Prelude.{◌≡◌, ◌-◌, length, if◌then◌else◌};
+    ghost use Rattle.gq_load.specs.Coming.{Coming, IsUnder, rows_coming, unless_over};
 
     ghost Value = { Coming };
 
     ghost view = { λ r. record {
-      heading = r.schema.now;
-      rows = unless_over r.is_over (rows_left r.schema.now r.limits.now.bounds.text
-          (r.limits.now.bounds.rows - r.given) r.header (r.given + 1) (unread r.reader));
+      heading = r.format.schema.now;
+      rows = unless_over r.is_over
+          (rows_coming R.remaining r.format.short r.format.schema.now r.format.limits.now.bounds r.header r.given r.reader);
+      room = if r.is_over then 0 else r.format.limits.now.bounds.rows - r.given;
     } };
 
-    ghost invariant = { λ r. (length r.header ≡ length r.schema.now.columns)
-        × IsUnder r.is_over r.given r.limits.now.bounds.rows r.reader };
+    ghost invariant = { λ r. (length r.header ≡ length r.format.schema.now.columns)
+        × IsUnder r.is_over r.given r.format.limits.now.bounds.rows r.reader };
 }
 
-impl<'a> RowReader<'a> {
-    ghost use Rattle.std.specs.Prelude.{◌≡◌, ◌⊎◌, [], true, false, IfOk, IfErr, OnErr, IsTrue, Ok, Err};
+impl<'a, R: Read + Drop> RowReader<'a, R> {
+    ghost use Rattle.std.specs.Prelude.{◌≡◌, ◌+◌, [], true, false, IfOk, IfErr, IfSome, OnErr, IsTrue, Ok, Some, option_map};
     ghost use Rattle.gq_row.specs.Fitting.{fits_columns, has_null};
-    ghost use Rattle.gq_load.specs.Coming.{row_before};
+    ghost use Rattle.gq_load.specs.Coming.{BeginWith, IsFaultOf};
     ghost use Rattle.gq_load.specs.Payloads.{load};
-    ghost use Rattle.gq_load.specs.declared.load_refusal.LoadRefusal.TheVariants.{Memory};
 
     /// A reader of the rows of a payload for a table of this schema. `Header` where the first
     /// record does not name each column once, or there is none; `Memory` for want of memory.
     pub fn new(
         alloc: Global,
-        bytes: &'a [u8],
+        payload: R,
+        short: Short,
         schema: &'a Schema,
         limits: &'a Limits,
-    ) -> Result<RowReader<'a>, LoadRefusal>
+    ) -> Result<RowReader<'a, R>, RowFault>
         ensures heading { IfOk result (λ reader. reader.heading ≡ schema.entry.now) }
-        ensures rows { IfOk result (λ reader.
-            load schema.entry.now limits.entry.now.bounds bytes.entry.now ≡ reader.rows) }
-        ensures refused { IfErr result (λ why. (why ≡ Memory)
-            ⊎ (load schema.entry.now limits.entry.now.bounds bytes.entry.now ≡ Err why)) }
+        ensures room { IfOk result (λ reader. reader.room ≡ limits.entry.now.bounds.rows) }
+        ensures rows { IfOk result (λ reader. IfSome (R.remaining payload) (λ bytes.
+            reader.rows ≡ Some (load short schema.entry.now limits.entry.now.bounds bytes))) }
+        ensures fault { IfErr result (λ fault. IsFaultOf (option_map
+            (load short schema.entry.now limits.entry.now.bounds) (R.remaining payload)) fault) }
     {
-        let mut reader = payload_reader(alloc, bytes);
+        let mut reader = payload_reader(alloc, payload);
         let mut byte_record = ByteRecord::new(alloc);
         let header = read_header(alloc, schema, &mut reader, &mut byte_record)?;
-        Ok(RowReader {
-            alloc,
+        let format = RowFormat {
             schema,
             limits,
+            short,
+        };
+        Ok(RowReader {
+            alloc,
+            format,
             header,
             reader,
             byte_record,
@@ -84,20 +93,23 @@ impl<'a> RowReader<'a> {
     }
 
     /// Reads the next row into `row`, which gives its memory for it, and tells whether there was
-    /// one. What is refused is the first fault of the payload, or `Memory` for want of memory; then
-    /// no more rows come.
-    pub fn read(&mut self, row: &mut Row) -> Result<bool, LoadRefusal>
+    /// one. A refusal is the first fault of the payload, or `Memory` for want of memory. After a
+    /// fault no more rows come.
+    pub fn read(&mut self, row: &mut Row) -> Result<bool, RowFault>
         ensures heading { self.new.heading ≡ self.old.heading }
         ensures given { IfOk result (λ found. found ≡ true →
-            self.old.rows ≡ row_before row.new self.new.rows) }
+            BeginWith self.old.rows row.new self.new.rows) }
+        ensures room { IfOk result (λ found. found ≡ true → self.new.room + 1 ≡ self.old.room) }
         ensures fits { IfOk result (λ found. found ≡ true →
             IsTrue (fits_columns self.old.heading.columns row.new)) }
         ensures keyed { IfOk result (λ found. found ≡ true →
             has_null self.old.heading.key row.new ≡ false) }
-        ensures end { IfOk result (λ found. found ≡ false → self.old.rows ≡ Ok []) }
-        ensures over { IfOk result (λ found. found ≡ false → self.new.rows ≡ Ok []) }
-        ensures refused { IfErr result (λ why. (why ≡ Memory) ⊎ (self.old.rows ≡ Err why)) }
-        ensures ended { OnErr result (self.new.rows ≡ Ok []) }
+        ensures end { IfOk result (λ found. found ≡ false →
+            IfSome self.old.rows (λ read. read ≡ Ok [])) }
+        ensures over { IfOk result (λ found. found ≡ false →
+            (self.new.rows ≡ Some (Ok [])) × (self.new.room ≡ 0)) }
+        ensures fault { IfErr result (λ fault. IsFaultOf self.old.rows fault) }
+        ensures ended { OnErr result ((self.new.rows ≡ Some (Ok [])) × (self.new.room ≡ 0)) }
     {
         if self.is_over {
             return Ok(false);
@@ -105,8 +117,7 @@ impl<'a> RowReader<'a> {
         self.is_over = true;
         if !next_row(
             self.alloc,
-            self.schema,
-            self.limits,
+            &self.format,
             &self.header,
             self.given,
             &mut self.reader,
@@ -124,83 +135,89 @@ impl<'a> RowReader<'a> {
 // Reads the first record, whose fields name the columns. `Header` where they don't, each once, or there
 // is none.
 #[tactic(auto, unfolding(crate::specs::Payloads::rows_of, crate::specs::Headers::places_of, crate::specs::Payloads::data_rows, crate::specs::Coming::rows_left))]
-fn read_header(
+fn read_header<R: Read>(
     alloc: Global,
     schema: &Schema,
-    reader: &mut Reader<&[u8]>,
+    reader: &mut Reader<R>,
     byte_record: &mut ByteRecord,
-) -> Result<Header, LoadRefusal>
-    requires { IsBetween reader.old }
-    ensures between { OnOk result (IsBetween reader.new) }
+) -> Result<Header, RowFault>
+    requires { IsReading reader.old }
+    ensures reading { OnOk result (IsReading reader.new) }
     ensures whole { IfOk result (λ header. length header ≡ length schema.now.columns) }
-    ensures opened { IfOk result (λ header. (bounds : Bounds) → rows_of schema.now bounds (unread reader.old)
-        ≡ rows_left schema.now bounds.text bounds.rows header 1 (unread reader.new)) }
-    ensures refused { IfErr result (λ why. (why ≡ Memory)
-        ⊎ ((bounds : Bounds) → rows_of schema.now bounds (unread reader.old) ≡ Err why)) }
+    ensures opened { IfOk result (λ header. (short : Short) (bounds : Bounds) →
+        IfSome (unread R.remaining reader.old) (λ records.
+        option_map (rows_left schema.now bounds.text bounds.rows header 1)
+        (data_left R.remaining short (length header) reader.new)
+        ≡ Some (rows_of short schema.now bounds records))) }
+    ensures fault { IfErr result (λ fault. (short : Short) (bounds : Bounds) →
+        IsFaultOf (option_map (rows_of short schema.now bounds) (unread R.remaining reader.old)) fault) }
 {
     if !read_next(reader, byte_record)? {
-        return Err(LoadRefusal::Header);
+        return Err(RowFault::Refused(LoadRefusal::Header));
     }
-    Header::of(alloc, schema.columns(), byte_record)
+    match Header::of(alloc, schema.columns(), byte_record) {
+        Ok(header) => Ok(header),
+        Err(why) => Err(RowFault::Refused(why)),
+    }
 }
 
-// Reads the next record's row into `row`, behind so many, and tells whether there was one.
-fn next_row(
+// Reads the next record's row into `row`, after the given number, and tells whether there was one.
+fn next_row<R: Read>(
     alloc: Global,
-    schema: &Schema,
-    limits: &Limits,
+    format: &RowFormat<'_>,
     header: &Header,
     given: u64,
-    reader: &mut Reader<&[u8]>,
+    reader: &mut Reader<R>,
     byte_record: &mut ByteRecord,
     row: &mut Row,
-) -> Result<bool, LoadRefusal>
-    requires between { IsBetween reader.old }
-    requires whole { length header.now ≡ length schema.now.columns }
-    requires under { given ≤ limits.now.bounds.rows }
-    ensures { IsNext schema.now limits.now.bounds header.now given reader.old row.new reader.new result }
+) -> Result<bool, RowFault>
+    requires reading { IsReading reader.old }
+    requires whole { length header.now ≡ length format.now.schema.now.columns }
+    requires under { given ≤ format.now.limits.now.bounds.rows }
+    ensures { IsNext R.remaining format.now.short format.now.schema.now format.now.limits.now.bounds
+        header.now given reader.old row.new reader.new result }
 {
     if !read_next(reader, byte_record)? {
         return Ok(false);
     }
     let Some(number) = given.checked_add(1) else {
-        return Err(LoadRefusal::Memory);
+        return Err(RowFault::Refused(LoadRefusal::Memory));
     };
-    let longest = limits.bounds.text;
     let spare = mem::replace(row, Row::new(Vec::new(alloc))).into_cells();
-    *row = row_of(alloc, schema, longest, header, number, byte_record, spare)?;
-    if number > limits.bounds.rows as u64 {
-        check_rest(alloc, schema, longest, header, number, reader, byte_record)?;
-        return Err(LoadRefusal::Limit);
+    *row = row_of(alloc, format, header, number, byte_record, spare)?;
+    if number > format.limits.bounds.rows as u64 {
+        check_rest(alloc, format, header, number, reader, byte_record)?;
+        return Err(RowFault::Refused(LoadRefusal::Limit));
     }
     Ok(true)
 }
 
-// Reads all records that are left for their first fault, behind so many.
-fn check_rest(
+// Reads all records that are left for their first fault, after the given number.
+fn check_rest<R: Read>(
     alloc: Global,
-    schema: &Schema,
-    longest: usize,
+    format: &RowFormat<'_>,
     header: &Header,
     number: u64,
-    reader: &mut Reader<&[u8]>,
+    reader: &mut Reader<R>,
     byte_record: &mut ByteRecord,
-) -> Result<(), LoadRefusal>
-    requires between { IsBetween reader.old }
-    requires whole { length header.now ≡ length schema.now.columns }
-    ensures none { OnOk result (fault_of
-        (rows_from schema.now longest header.now (number + 1) (unread reader.old)) ≡ None) }
-    ensures fault { IfErr result (λ why. (why ≡ Memory) ⊎ (fault_of
-        (rows_from schema.now longest header.now (number + 1) (unread reader.old)) ≡ Some why)) }
+) -> Result<(), RowFault>
+    requires reading { IsReading reader.old }
+    requires whole { length header.now ≡ length format.now.schema.now.columns }
+    ensures none { OnOk result
+        (IfSome (data_left R.remaining format.now.short (length header.now) reader.old) (λ records. fault_of
+        (rows_from format.now.schema.now format.now.limits.now.bounds.text header.now (number + 1) records)
+        ≡ None)) }
+    ensures fault { IfErr result (λ fault. Faulted (λ why.
+        IfSome (data_left R.remaining format.now.short (length header.now) reader.old) (λ records. fault_of
+        (rows_from format.now.schema.now format.now.limits.now.bounds.text header.now (number + 1) records)
+        ≡ Some why)) fault) }
 {
     let mut cells = Vec::new(alloc);
-    let mut last = number;
-    while read_next(reader, byte_record)? {
-        let Some(next) = last.checked_add(1) else {
-            return Err(LoadRefusal::Memory);
-        };
-        cells = row_of(alloc, schema, longest, header, next, byte_record, cells)?.into_cells();
-        last = next;
+    for last in number..u64::MAX {
+        if !read_next(reader, byte_record)? {
+            return Ok(());
+        }
+        cells = row_of(alloc, format, header, last + 1, byte_record, cells)?.into_cells();
     }
-    Ok(())
+    Err(RowFault::Refused(LoadRefusal::Memory))
 }

@@ -1,36 +1,47 @@
-use Rattle.std.proofs.Common.{◌≡◌, ◌∙◌, ◌+◌, true, sym, arith, rules}
+use Rattle.std.proofs.Common.{◌≡◌, length, ◌+◌, inl, inr, List, ℕ, None, Some}
 use Rattle.std.proofs.lemmas.Result.{err_from_is_err_and}
 use Rattle.csv.specs.Records.{fields_of}
+use Rattle.gq_load.specs.Payloads.{completed, rows_from}
+use Rattle.gq_load.specs.Coming.{data_left, fault_of}
 use Rattle.gq_load.specs.Unread.{unread}
-use Rattle.gq_load.proofs.Left.{either_told, fault_here, fault_more, fault_none}
-use Rattle.gq_load.proofs.Onward.{took_none, took_some}
+use Rattle.gq_load.proofs.Left.{bad_fault, end_fault, more_fault, took_as_read}
+use Rattle.gq_load.proofs.Onward.{same_through, so_of_all}
 use Rattle.gq_load.proofs.row_reader.check_rest.Goals as goal
 
+pub returns-then-not-branch-clause-none : goal.returns-then-not-branch-clause-none
+returns-then-not-branch-clause-none g c =
+    let heading = c.args.format.now.schema.now in
+    let longest = c.args.format.now.limits.now.bounds.text in
+    let places = c.args.header.now in
+    let left = data_left g.R.Read.remaining c.args.format.now.short (length c.args.header.now) c.loop-last.reader in
+    let none = end_fault heading longest places (c.loop-last.last + 1) left (data_left g.R.Read.remaining c.args.format.now.short (length c.args.header.now) c.read_next.new.reader) c.in_ok-read_next.field-0 (completed c.args.format.now.short (length c.args.header.now) (fields_of c.read_next.new.byte_record)) c.if-not-branch.true (took_as_read c.args.format.now.short (length c.args.header.now) (unread g.R.Read.remaining c.loop-last.reader) (unread g.R.Read.remaining c.read_next.new.reader) c.in_ok-read_next.field-0 (fields_of c.read_next.new.byte_record) c.in_ok-read_next.ensures.took) in
+    so_of_all (data_left g.R.Read.remaining c.args.format.now.short (length c.args.header.now) c.args.reader.now) left (λ (records : List (List (List ℕ))). fault_of (rows_from heading longest places (c.loop-last.last + 1) records)) (λ (records : List (List (List ℕ))). fault_of (rows_from heading longest places (c.args.number + 1) records)) (λ fault. fault ≡ None) c.loop-last.invariant.alike none
+
 pub returns-in_err-row_of-clause-fault : goal.returns-in_err-row_of-clause-fault
-returns-in_err-row_of-clause-fault c =
+returns-in_err-row_of-clause-fault g c =
+    let heading = c.args.format.now.schema.now in
+    let longest = c.args.format.now.limits.now.bounds.text in
+    let places = c.args.header.now in
+    let left = data_left g.R.Read.remaining c.args.format.now.short (length c.args.header.now) c.loop-last.reader in
+    let fields = completed c.args.format.now.short (length c.args.header.now) (fields_of c.read_next.new.byte_record) in
     let p = err_from_is_err_and c.from_residual-in_err-row_of.result c.from_residual-in_err-row_of.ensures.1 in
     let e = c.in_err-row_of.field-0.0 in
-    let fields = fields_of c.read_next.new.byte_record in
-    let others = unread c.read_next.new.reader in
-    let next : c.in-Some.next ≡ c.loop-next.last + 1 = omega (arith, c.in-Some.ensures) in
-    let some = took_some (unread c.loop-next.reader) c.in_ok-read_next.field-0 fields others (search rules) c.in_ok-read_next.ensures.took in
-    rw (p.1, p.2) (either_told
-    (λ bad. sym c.loop-next.invariant.alike ∙ fault_here c.args.schema.now c.args.longest c.args.header.now (c.loop-next.last + 1) fields others (unread c.loop-next.reader) e some (rw (← next) bad))
-    c.in_err-row_of.ensures)
+    rw (p.1, p.2) (elim c.in_err-row_of.ensures [
+      | inl m ↦ inl m
+      | inr bad ↦ inr (so_of_all (data_left g.R.Read.remaining c.args.format.now.short (length c.args.header.now) c.args.reader.now) left (λ (records : List (List (List ℕ))). fault_of (rows_from heading longest places (c.loop-last.last + 1) records)) (λ (records : List (List (List ℕ))). fault_of (rows_from heading longest places (c.args.number + 1) records)) (λ fault. fault ≡ Some e) c.loop-last.invariant.alike
+          (bad_fault heading longest places (c.loop-last.last + 1) fields c.in_ok-read_next.field-0 c.if-not-branch.false left (data_left g.R.Read.remaining c.args.format.now.short (length c.args.header.now) c.read_next.new.reader) e (took_as_read c.args.format.now.short (length c.args.header.now) (unread g.R.Read.remaining c.loop-last.reader) (unread g.R.Read.remaining c.read_next.new.reader) c.in_ok-read_next.field-0 (fields_of c.read_next.new.byte_record) c.in_ok-read_next.ensures.took) bad))
+    ])
 
-pub loop-next-preserved : goal.loop-next-preserved
-loop-next-preserved c =
-    let fields = fields_of c.read_next.new.byte_record in
-    let others = unread c.read_next.new.reader in
-    let found : c.in_ok-read_next.field-0 ≡ true = search rules in
-    let next : c.in-Some.next ≡ c.loop-next.last + 1 = omega (arith, c.in-Some.ensures) in
-    let some = took_some (unread c.loop-next.reader) c.in_ok-read_next.field-0 fields others found c.in_ok-read_next.ensures.took in
+pub loop-last-preserved : goal.loop-last-preserved
+loop-last-preserved g c =
+    let heading = c.args.format.now.schema.now in
+    let longest = c.args.format.now.limits.now.bounds.text in
+    let places = c.args.header.now in
+    let left = data_left g.R.Read.remaining c.args.format.now.short (length c.args.header.now) c.loop-last.reader in
+    let rest = data_left g.R.Read.remaining c.args.format.now.short (length c.args.header.now) c.read_next.new.reader in
+    let fields = completed c.args.format.now.short (length c.args.header.now) (fields_of c.read_next.new.byte_record) in
     record {
-      between = c.in_ok-read_next.ensures.between found;
-      alike = rw next (sym (fault_more c.args.schema.now c.args.longest c.args.header.now (c.loop-next.last + 1) fields others (unread c.loop-next.reader) c.in_ok-row_of.field-0 some (rw (← next) c.in_ok-row_of.ensures)) ∙ c.loop-next.invariant.alike);
+      reading = c.in_ok-read_next.ensures.reading;
+      alike = same_through (data_left g.R.Read.remaining c.args.format.now.short (length c.args.header.now) c.args.reader.now) left (λ (records : List (List (List ℕ))). fault_of (rows_from heading longest places (c.loop-last.last + 1) records)) (λ (records : List (List (List ℕ))). fault_of (rows_from heading longest places (c.args.number + 1) records)) _ c.loop-last.invariant.alike
+          (more_fault heading longest places (c.loop-last.last + 1) fields c.in_ok-read_next.field-0 c.if-not-branch.false c.in_ok-row_of.field-0 c.in_ok-row_of.ensures left rest (took_as_read c.args.format.now.short (length c.args.header.now) (unread g.R.Read.remaining c.loop-last.reader) (unread g.R.Read.remaining c.read_next.new.reader) c.in_ok-read_next.field-0 (fields_of c.read_next.new.byte_record) c.in_ok-read_next.ensures.took));
     }
-
-pub returns-clause-none : goal.returns-clause-none
-returns-clause-none c =
-    let none = took_none (unread c.loop-next.reader) c.in_ok-read_next.field-0 (fields_of c.read_next.new.byte_record) (unread c.read_next.new.reader) (search rules) c.in_ok-read_next.ensures.took in
-    sym c.loop-next.invariant.alike ∙ fault_none c.args.schema.now c.args.longest c.args.header.now (c.loop-next.last + 1) (unread c.loop-next.reader) none

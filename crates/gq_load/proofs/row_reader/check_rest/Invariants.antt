@@ -1,14 +1,14 @@
-use Rattle.std.proofs.Common.{◌≡◌, ◌+◌, length}
-use Rattle.gq_load.specs.Coming.{fault_of}
+use Rattle.std.proofs.Common.{◌≡◌, ◌+◌, Some, length}
+use Rattle.std.specs.Prelude.{IfSome, option_map}
+use Rattle.gq_load.specs.Coming.{data_left, fault_of}
 use Rattle.gq_load.specs.Payloads.{rows_from}
-use Rattle.gq_load.specs.Unread.{IsBetween, unread}
+use Rattle.gq_load.specs.Unread.{IsReading}
 use Rattle.gq_load.proofs.row_reader.check_rest.Given as goal
 
-abbrev pub invariant-loop-next : goal.invariant-loop-next
-invariant-loop-next l = record {
-  between : IsBetween l.reader;
-  alike : fault_of (rows_from l.schema l.longest l.header (l.last + 1) (unread l.reader)) ≡ fault_of (rows_from l.schema l.longest l.header (l.number + 1) (unread l.fn.reader));
+abbrev pub invariant-loop-last : goal.invariant-loop-last
+invariant-loop-last g l = record {
+  reading : IsReading l.reader;
+  alike : IfSome (data_left g.R.Read.remaining l.format.short (length l.header) l.fn.reader) (λ all.
+      option_map (λ left. fault_of (rows_from l.format.schema.now l.format.limits.now.bounds.text l.header (l.last + 1) left)) (data_left g.R.Read.remaining l.format.short (length l.header) l.reader)
+      ≡ Some (fault_of (rows_from l.format.schema.now l.format.limits.now.bounds.text l.header (l.number + 1) all)));
 }
-
-abbrev pub decreases-loop-next : goal.decreases-loop-next
-decreases-loop-next l = length (unread l.reader)

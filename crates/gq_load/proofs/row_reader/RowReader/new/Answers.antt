@@ -1,14 +1,18 @@
-use Rattle.std.proofs.Common.{◌≡◌, ◌∙◌, ◌-◌, ap, sym, arith}
-use Rattle.gq_load.specs.Coming.{rows_left}
-use Rattle.gq_load.specs.Payloads.{rows_of}
+use Rattle.std.proofs.Common.{length}
+use Rattle.std.proofs.lemmas.Result.{err_from_is_err_and}
+use Rattle.gq_load.specs.Coming.{data_left}
 use Rattle.gq_load.specs.Unread.{unread}
+use Rattle.gq_load.proofs.Left.{loaded_faulty, loaded_rows}
 use Rattle.gq_load.proofs.row_reader.RowReader.new.Goals as goal
 
-pub returns-clause-rows : goal.returns-clause-rows
-returns-clause-rows c =
-    let schema = c.args.schema.now in
+pub returns-in_err-header-clause-fault : goal.returns-in_err-header-clause-fault
+returns-in_err-header-clause-fault g c =
     let bounds = c.args.limits.now.bounds in
-    let none_given : bounds.rows ≡ bounds.rows - 0 = omega arith in
-    ap (rows_of schema bounds) (sym c.payload_reader-reader.ensures.unread)
-    ∙ c.in_ok-header.ensures.opened bounds
-    ∙ ap (λ most. rows_left schema bounds.text most c.in_ok-header.header 1 (unread c.read_header.new.reader)) none_given
+    let p = err_from_is_err_and c.from_residual.result c.from_residual.ensures.1 in
+    rw (p.1, p.2) (loaded_faulty c.args.short c.args.schema.now bounds (g.R.Read.remaining c.args.payload) (unread g.R.Read.remaining c.payload_reader-reader.result) c.in_err-header.field-0.0 c.payload_reader-reader.ensures.unread (c.in_err-header.ensures.fault c.args.short bounds))
+
+pub returns-clause-rows : goal.returns-clause-rows
+returns-clause-rows g c =
+    let bounds = c.args.limits.now.bounds in
+    loaded_rows c.args.short c.args.schema.now bounds (g.R.Read.remaining c.args.payload) (unread g.R.Read.remaining c.payload_reader-reader.result) (data_left g.R.Read.remaining c.args.short (length c.in_ok-header.header) c.read_header.new.reader) c.in_ok-header.header
+    c.payload_reader-reader.ensures.unread (c.in_ok-header.ensures.opened c.args.short bounds)

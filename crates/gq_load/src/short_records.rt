@@ -1,0 +1,11 @@
+//! Data records that have fewer fields than the header.
+
+/// What becomes of a data record with fewer fields than the header. One with more is refused
+/// always.
+#[derive(Clone, Copy, Debug, PartialEq, Eq)]
+pub enum Short {
+    /// It is refused.
+    Refused,
+    /// It is read as if fields `\N` followed, which are null in every column.
+    Completed,
+}
