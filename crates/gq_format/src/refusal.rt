@@ -1,0 +1,80 @@
+//! What standard error says of a refused command.
+ghost use Rattle.std.specs.Prelude.{◌≡◌, ◌≤◌, ◌++◌, ◌+◌, decimal, length};
+ghost use Rattle.arrayvec.specs.ArrayString.{array_string_len};
+ghost use Rattle.gq_reply.specs.Replies.{record_number};
+ghost use Rattle.gq_format.specs.Refusals.{refusal_text, words_of};
+
+use arrayvec::ArrayString;
+use gq_reply::Refusal;
+use itoa::Buffer;
+
+/// Two short lines, made without memory.
+pub type RefusalText = ArrayString<256>;
+
+/// The refusal of the command on a line of a script: the line's number, its reply, and what it means.
+pub fn refusal_text(line: u64, code: Refusal, number: Option<u64>) -> RefusalText
+    ensures { result.bytes ≡ refusal_text line code number }
+{
+    let mut text = RefusalText::new();
+    push_number(&mut text, "groupsh: line ", line);
+    push_number(&mut text, ": err ", u64::from(code.code()));
+    text.push_str(" ");
+    text.push_str(code.name());
+    push_record(&mut text, number);
+    text.push_str("\n");
+    text.push_str("  ");
+    text.push_str(refusal_words(code));
+    text.push_str("\n");
+    text
+}
+
+// Appends the number of a payload's record, if there is one.
+fn push_record(text: &mut RefusalText, number: Option<u64>)
+    requires { array_string_len text.old + 21 ≤ 256 }
+    ensures bytes { text.new.bytes ≡ text.old.bytes ++ record_number number }
+    ensures short { array_string_len text.new ≤ array_string_len text.old + 21 }
+{
+    if let Some(number) = number {
+        push_number(text, " ", number);
+    }
+}
+
+// Appends a word and a number, which has at most 20 digits.
+fn push_number(text: &mut RefusalText, word: &str, number: u64)
+    requires { array_string_len text.old + length word.now + 20 ≤ 256 }
+    ensures bytes { text.new.bytes ≡ text.old.bytes ++ word.now ++ decimal number }
+    ensures short { array_string_len text.new ≤ array_string_len text.old + length word.now + 20 }
+{
+    let mut digits = Buffer::new();
+    text.push_str(word);
+    text.push_str(digits.format(number));
+}
+
+/// What a refusal means, in plain words.
+pub fn refusal_words(code: Refusal) -> &'static str
+    ensures words { result.now ≡ words_of code }
+    ensures short { length result.now ≤ 80 }
+{
+    match code {
+        Refusal::Syntax => "the line is not a command",
+        Refusal::LineTooLong => "the line is too long",
+        Refusal::NoTable => "no table has that name",
+        Refusal::TableExists => "a table of that name exists already",
+        Refusal::NoColumn => "no column of the table has that name",
+        Refusal::TypeMismatch =>
+            "a value has the wrong type, or there are too many or too few values",
+        Refusal::NoKey => "the table has no key",
+        Refusal::NullKey => "a key column would be null",
+        Refusal::Header => "the header does not name each column of the table once",
+        Refusal::FieldCount => "the record has more or fewer fields than the header",
+        Refusal::BadInt => "a field is not a whole number of 64 bits",
+        Refusal::BadText => "a field is not UTF-8",
+        Refusal::SumRange => "a sum does not fit a whole number of 64 bits",
+        Refusal::Limit =>
+            "a name, a text, a payload, a table, the database or the result is too large",
+        Refusal::Memory => "out of memory",
+        Refusal::StoreFault => "spilled rows could not be written or read",
+        Refusal::Damaged => "spilled rows did not read back as they were written",
+        Refusal::LoadOpen => "the script ends before the line that closes the payload",
+    }
+}
