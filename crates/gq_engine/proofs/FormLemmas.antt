@@ -4,6 +4,7 @@ use Rattle.std.specs.Prelude.{Ok, Err, remove}
 use Rattle.gq_row.specs.declared.value.Value.{Value}
 use Rattle.gq_row.specs.declared.limits.Bounds.{Bounds}
 use Rattle.gq_row.specs.Tables.{PlainTable}
+use Rattle.gq_load.specs.declared.short_records.Short.{Short}
 use Rattle.gq_command.specs.Commands.{Bytes, column_names}
 use Rattle.gq_command.specs.declared.command.Payload.{Payload}
 use Rattle.gq_command.specs.declared.command.Payload.TheVariants as payload
@@ -37,35 +38,36 @@ module _ (limits : Bounds) (db : Database) (name : List ℕ) where
       → with_rows limits db name new ≡ Ok (with_table db name (record table { rows = rows }))
   rows_put new rows table h k = finds NoTable (table_at db name) table _ h ∙ gives (put_all_within limits table new) rows _ k
 
-  pub load_none : (carried : Payload) → is_lost carried ≡ false → table_at db name ≡ None → load_table limits db name carried ≡ Err (unnumbered NoTable)
+module _ (short : Short) (limits : Bounds) (db : Database) (name : List ℕ) where
+  pub load_none : (carried : Payload) → is_lost carried ≡ false → table_at db name ≡ None → load_table short limits db name carried ≡ Err (unnumbered NoTable)
   load_none carried lost h = passes Memory (not (is_lost carried)) _ (ap not lost) ∙ misses NoTable (table_at db name) _ h
 
   module _ (table : PlainTable) (found : table_at db name ≡ Some table) where
-    pub load_untold : (carried : Payload) (why : Refused) → is_lost carried ≡ false → bytes_told carried ≡ Err why → load_table limits db name carried ≡ Err why
+    pub load_untold : (carried : Payload) (why : Refused) → is_lost carried ≡ false → bytes_told carried ≡ Err why → load_table short limits db name carried ≡ Err why
     load_untold carried why lost h =
         passes Memory (not (is_lost carried)) _ (ap not lost) ∙ finds NoTable (table_at db name) table _ found ∙ stops (bytes_told carried) why _ h
 
-    pub load_told : (carried : Payload) (bytes : Bytes) (why : Refused) → is_lost carried ≡ false → bytes_told carried ≡ Ok bytes → rows_told limits table.heading bytes ≡ Err why → load_table limits db name carried ≡ Err why
+    pub load_told : (carried : Payload) (bytes : Bytes) (why : Refused) → is_lost carried ≡ false → bytes_told carried ≡ Ok bytes → rows_told short limits table.heading bytes ≡ Err why → load_table short limits db name carried ≡ Err why
     load_told carried bytes why lost h k =
-        passes Memory (not (is_lost carried)) _ (ap not lost) ∙ finds NoTable (table_at db name) table _ found ∙ gives (bytes_told carried) bytes _ h ∙ stops (rows_told limits table.heading bytes) why _ k
+        passes Memory (not (is_lost carried)) _ (ap not lost) ∙ finds NoTable (table_at db name) table _ found ∙ gives (bytes_told carried) bytes _ h ∙ stops (rows_told short limits table.heading bytes) why _ k
 
-    pub load_faulted : (carried : Payload) (bytes : Bytes) (why : Refused) → is_lost carried ≡ false → bytes_told carried ≡ Ok bytes → (why ≡ unnumbered Memory) ⊎ (rows_told limits table.heading bytes ≡ Err why)
-        → (why ≡ unnumbered Memory) ⊎ (load_table limits db name carried ≡ Err why)
+    pub load_faulted : (carried : Payload) (bytes : Bytes) (why : Refused) → is_lost carried ≡ false → bytes_told carried ≡ Ok bytes → (why ≡ unnumbered Memory) ⊎ (rows_told short limits table.heading bytes ≡ Err why)
+        → (why ≡ unnumbered Memory) ⊎ (load_table short limits db name carried ≡ Err why)
     load_faulted carried bytes why lost h (inl e) = inl e
     load_faulted carried bytes why lost h (inr e) = inr (load_told carried bytes why lost h e)
 
-    pub load_faulty : (bytes : Bytes) (why : Refused) → rows_told limits table.heading bytes ≡ Err why → load_table limits db name (payload.Bytes bytes) ≡ Err why
-    load_faulty bytes why h = finds NoTable (table_at db name) table _ found ∙ stops (rows_told limits table.heading bytes) why _ h
+    pub load_faulty : (bytes : Bytes) (why : Refused) → rows_told short limits table.heading bytes ≡ Err why → load_table short limits db name (payload.Bytes bytes) ≡ Err why
+    load_faulty bytes why h = finds NoTable (table_at db name) table _ found ∙ stops (rows_told short limits table.heading bytes) why _ h
 
-    pub load_refused : (bytes : Bytes) (rows : List (List Value)) (why : Refused) → rows_told limits table.heading bytes ≡ Ok rows → with_rows limits db name rows ≡ Err why
-        → load_table limits db name (payload.Bytes bytes) ≡ Err why
+    pub load_refused : (bytes : Bytes) (rows : List (List Value)) (why : Refused) → rows_told short limits table.heading bytes ≡ Ok rows → with_rows limits db name rows ≡ Err why
+        → load_table short limits db name (payload.Bytes bytes) ≡ Err why
     load_refused bytes rows why h k =
-        finds NoTable (table_at db name) table _ found ∙ gives (rows_told limits table.heading bytes) rows _ h ∙ stops (with_rows limits db name rows) why _ k
+        finds NoTable (table_at db name) table _ found ∙ gives (rows_told short limits table.heading bytes) rows _ h ∙ stops (with_rows limits db name rows) why _ k
 
-    pub load_puts : (bytes : Bytes) (rows : List (List Value)) (new : Database) → rows_told limits table.heading bytes ≡ Ok rows → with_rows limits db name rows ≡ Ok new
-        → load_table limits db name (payload.Bytes bytes) ≡ Ok (new, reply.Done (length rows))
+    pub load_puts : (bytes : Bytes) (rows : List (List Value)) (new : Database) → rows_told short limits table.heading bytes ≡ Ok rows → with_rows limits db name rows ≡ Ok new
+        → load_table short limits db name (payload.Bytes bytes) ≡ Ok (new, reply.Done (length rows))
     load_puts bytes rows new h k =
-        finds NoTable (table_at db name) table _ found ∙ gives (rows_told limits table.heading bytes) rows _ h ∙ gives (with_rows limits db name rows) new _ k
+        finds NoTable (table_at db name) table _ found ∙ gives (rows_told short limits table.heading bytes) rows _ h ∙ gives (with_rows limits db name rows) new _ k
 
 -- without the table that stands at a place
 pub dropped_at : (db : Database) (name : List ℕ) (i : ℕ) → StandsAt db name i → IsTrue (names_differ db) → without_table db name ≡ remove db i

@@ -9,6 +9,7 @@ pub mod OrderLemmas
 pub mod PlainRuns
 pub mod PlainSteps
 pub mod RepeatedRuns
+pub mod OutputLemmas
 pub mod RunLemmas
 pub mod StagingLemmas
 pub mod StepLemmas

@@ -19,6 +19,7 @@ use Rattle.gq_clause.specs.declared.condition.Test.{Test}
 use Rattle.gq_command.specs.declared.command.Command.{Command}
 use Rattle.gq_command.specs.declared.command.Command.TheVariants.{Create, Drop, Load, Upsert, Delete, Show, Group, Distinct}
 use Rattle.gq_command.specs.declared.command.Exists.{Exists}
+use Rattle.gq_load.specs.declared.short_records.Short.TheVariants as short
 use Rattle.gq_command.specs.declared.command.Payload.{Payload}
 use Rattle.gq_command.specs.declared.command.Payload.TheVariants as payload
 use Rattle.gq_command.specs.declared.reader.Item.{Item}
@@ -316,13 +317,13 @@ module _ (limits : Bounds) (a b : Database) (k : IsKeyed a) (same : SameTables a
       (λ s t h. then_alike (λ xs ys. AlikeTables (record s { rows = xs }) (record t { rows = ys })) AlikeTablesOf (put_all_within limits s new) (put_all_within limits t new) _ _ (put_all_alike limits s t new h)
       (λ xs ys m. record { same = changed_alike a b name (record s { rows = xs }) (record t { rows = ys }) same m; keyed = changed_keyed a name (record s { rows = xs }) k m.keyed }))
 
-  load_alike : (name : List ℕ) (payload : Payload) → AlikeBy Alikes (load_table limits a name payload) (load_table limits b name payload)
+  load_alike : (name : List ℕ) (payload : Payload) → AlikeBy Alikes (load_table short.Refused limits a name payload) (load_table short.Refused limits b name payload)
   load_alike name payload =
       then_alike Always Alikes (true_or Memory (not (is_lost payload))) (true_or Memory (not (is_lost payload))) _ _ (test_alike Memory _ _ refl)
       (λ _ _ _. then_alike AlikeTables Alikes (table_in a name) (table_in b name) _ _ (table_alike name)
       (λ s t h. then_alike (λ (x y : Bytes). x ≡ y) Alikes (bytes_told payload) (bytes_told payload) _ _ (same_alike (bytes_told payload) (bytes_told payload) refl)
-      (λ x y e. then_alike (λ (xs ys : Rows). xs ≡ ys) Alikes (rows_told limits s.heading x) (rows_told limits t.heading y) _ _
-      (same_alike (rows_told limits s.heading x) (rows_told limits t.heading y) (ap (λ (g : Heading). rows_told limits g x) h.heading ∙ ap (rows_told limits t.heading) e))
+      (λ x y e. then_alike (λ (xs ys : Rows). xs ≡ ys) Alikes (rows_told short.Refused limits s.heading x) (rows_told short.Refused limits t.heading y) _ _
+      (same_alike (rows_told short.Refused limits s.heading x) (rows_told short.Refused limits t.heading y) (ap (λ (g : Heading). rows_told short.Refused limits g x) h.heading ∙ ap (rows_told short.Refused limits t.heading) e))
       (λ xs ys f. put xs ys f))))
     where
       put : (xs ys : Rows) → xs ≡ ys → AlikeBy Alikes (with_rows limits a name xs >>= λ new. Ok (new, reply.Done (length xs))) (with_rows limits b name ys >>= λ new. Ok (new, reply.Done (length ys)))

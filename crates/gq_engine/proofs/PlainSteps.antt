@@ -6,6 +6,7 @@ use Rattle.gq_row.specs.declared.schema.Column.{Column}
 use Rattle.gq_row.specs.declared.limits.Bounds.{Bounds}
 use Rattle.gq_row.specs.Headings.{positions_of}
 use Rattle.gq_row.specs.Tables.{PlainTable, put_all}
+use Rattle.gq_load.specs.declared.short_records.Short.TheVariants as short
 use Rattle.gq_load.specs.Payloads.{load}
 use Rattle.gq_load.specs.declared.load_refusal.LoadRefusal.{LoadRefusal}
 use Rattle.gq_load.specs.declared.load_refusal.LoadRefusal.TheVariants as fault
@@ -100,12 +101,12 @@ module _ (limits : Bounds) (db : Database) where
   drop_refuses : (name : List ℕ) → Refuses faulty (drop_table db name)
   drop_refuses name = then_refuses never faulty (table_in db name) _ (some_refuses NoTable _ refl) (λ _. refl)
 
-  load_refuses : (name : List ℕ) (payload : Payload) → Refuses faulty (load_table limits db name payload)
+  load_refuses : (name : List ℕ) (payload : Payload) → Refuses faulty (load_table short.Refused limits db name payload)
   load_refuses name payload =
       then_refuses never faulty (true_or Memory (not (is_lost payload))) _ (test_refuses Memory _ refl)
       (λ _. then_refuses never faulty (table_in db name) _ (some_refuses NoTable _ refl)
       (λ table. then_refuses never faulty (bytes_told payload) _ (payload_refuses payload)
-      (λ bytes. then_refuses never faulty (rows_told limits table.heading bytes) _ (rows_refuse (load table.heading limits bytes))
+      (λ bytes. then_refuses never faulty (rows_told short.Refused limits table.heading bytes) _ (rows_refuse (load short.Refused table.heading limits bytes))
       (λ rows. then_refuses never faulty (with_rows limits db name rows) _
       (then_refuses never never (table_in db name) _ (some_refuses NoTable _ refl)
       (λ there. then_refuses never never (put_all_within limits there rows) _

@@ -1,6 +1,7 @@
 -- A run goes on by one item, and ends.
-use Rattle.std.proofs.Common.{◌≡◌, ◌+◌, inl, inr, ◌≤◌, ℕ, Bool, true, false, List, [], ◌∷◌, ◌++◌, length, Option, Some, None, Ok, Err, refl, sym, ap, ◌∙◌, subst, append_assoc, arith, cond, add-zero, length-append}
-use Rattle.std.specs.Prelude.{flat_map, count_by, ⊤, IfSome}
+use Rattle.std.proofs.Common.{◌≡◌, ◌+◌, inl, inr, ◌≤◌, ℕ, Bool, true, false, List, [], ◌∷◌, ◌++◌, length, Option, Some, None, Result, Ok, Err, refl, sym, ap, ◌∙◌, subst, append_assoc, arith, cond, add-zero, length-append}
+use Rattle.std.specs.Prelude.{count_by, ⊤, IfSome, ◌||◌}
+use Rattle.std.specs.List.{list_any}
 use Rattle.std.specs.Io.KnownBytes.{Appends}
 use Rattle.std.proofs.lemmas.List.{append-nil}
 use Rattle.std.proofs.lemmas.List.Sums.{fold-append, sum_by-cons}
@@ -13,37 +14,69 @@ use Rattle.gq_command.specs.Script.{Entry, items, items_left, without_mark}
 use Rattle.gq_command.specs.Items.{Gave, IsReadAs, Pending}
 use Rattle.gq_reply.specs.declared.refusal.Refusal.TheVariants.{Memory}
 use Rattle.gq_reply.specs.declared.reply.Reply.{Reply}
+use Rattle.gq_engine.specs.declared.run.Summary.{Summary}
+use Rattle.gq_engine.specs.declared.run.Fault.{Fault}
 use Rattle.gq_engine.specs.declared.run.Fault.TheVariants as fault
+use Rattle.gq_engine.specs.Sending.{AppendsFront}
 use Rattle.gq_engine.specs.Databases.{Database, IsKeyed}
 use Rattle.gq_reply.specs.Refusals.{refused}
-use Rattle.gq_reply.specs.Replies.{text, is_refusal}
+use Rattle.gq_reply.specs.Replies.{is_refusal}
 use Rattle.gq_engine.specs.Runs.{Setting, LegalAnswer, AsListsAnswer, WantsMemory, StoreFailed, StoreLied, AnsweredAlike, LegalStep, LegalRun, SameTables, FaultsHappened, is_store_fault}
-use Rattle.gq_engine.specs.Headline.{State, Answered, Ran}
+use Rattle.gq_engine.specs.Headline.{State, Answered}
+use Rattle.gq_engine.specs.declared.output.Output.{Output}
+use Rattle.gq_engine.specs.Outputs.{RanAs, TellsOn, complaint, complaints, is_result, text_as, texts}
 use Rattle.gq_engine.specs.Serving.{Wrote, WroteFront}
-use Rattle.gq_reply.proofs.Texts.{flat_map-push}
+use Rattle.gq_engine.proofs.OutputLemmas.{Told, front_longer, any_push, complaints_push, told_as_front, told_more, told_nothing, texts_push}
 use Rattle.gq_engine.proofs.OrderLemmas.{same_tables, answer_lost, answered_from, keyed_after}
 use Rattle.gq_engine.proofs.Bytes.{appends_more, appends_nothing}
 
+-- what stays the same in a run
+pub record Course : Type 0 where
+  pub output : Output
+  pub setting : Setting
+  pub old : State
+  pub script : Option Bytes
+  pub before : Option Bytes
+  pub errors : Option Bytes
+
+-- how far a run came: its tables and reader, what its two streams have, whether a result came and the standard error still takes bytes, and its counts
+pub record Point : Type 0 where
+  pub now : State
+  pub reader : Pending
+  pub after : Option Bytes
+  pub told : Option Bytes
+  pub earlier : Bool
+  pub is_open : Bool
+  pub commands : ℕ
+  pub refused : ℕ
+
 -- a run so far: the entries that were answered, and the bytes that are left
-pub record SoFar (setting : Setting) (old : State) (script : Bytes) (now : State) (reader : Pending) (before after : Option Bytes) (n m : ℕ) : Type 0 where
+pub record SoFar (c : Course) (script : Bytes) (p : Point) : Type 0 where
   pub rest : Bytes
-  pub counted : reader.given + length rest ≡ length script
-  pub left_is : reader.left ≡ Some rest
+  pub counted : p.reader.given + length rest ≡ length script
+  pub left_is : p.reader.left ≡ Some rest
   pub done : List Entry
-  pub first : items setting.limits script ≡ done ++ items_left setting.limits rest
+  pub first : items c.setting.limits script ≡ done ++ items_left c.setting.limits rest
   pub replies : List Reply
   pub last : Database
-  pub legal : LegalRun setting old.database done replies last
-  pub same : SameTables last now.database
+  pub legal : LegalRun c.setting c.old.database done replies last
+  pub same : SameTables last p.now.database
   pub keyed : IsKeyed last
-  pub faults : FaultsHappened replies old.failures now.failures
-  pub written : Appends before after (flat_map text replies)
-  pub commands : n ≡ length replies
-  pub refusals : m ≡ count_by is_refusal replies
+  pub faults : FaultsHappened replies c.old.failures p.now.failures
+  pub written : Appends c.before p.after (texts c.output replies)
+  pub earlier_is : p.earlier ≡ list_any is_result replies
+  pub lines : List ℕ
+  pub numbered : length lines ≡ length replies
+  pub complained : Told p.is_open c.errors p.told (complaints c.output lines replies)
+  pub commands : p.commands ≡ length replies
+  pub refusals : p.refused ≡ count_by is_refusal replies
 
-abbrev pub Going : Setting → State → Option Bytes → State → Pending → Option Bytes → Option Bytes → ℕ → ℕ → Type 0
-Going setting old None now reader before after n m = ⊤
-Going setting old (Some script) now reader before after n m = SoFar setting old script now reader before after n m
+abbrev pub going : Course → Option Bytes → Point → Type 0
+going c None p = ⊤
+going c (Some script) p = SoFar c script p
+
+abbrev pub Going : Course → Point → Type 0
+Going c p = going c c.script p
 
 run_more : (setting : Setting) (old : Database) (entries : List Entry) (replies : List Reply) (between : Database) (entry : Entry) (reply : Reply) (new : Database)
     → LegalRun setting old entries replies between → LegalStep setting between entry reply new → LegalRun setting old (entries ++ entry ∷ []) (replies ++ reply ∷ []) new
@@ -69,25 +102,35 @@ step_of setting between entry it reply new r h =
       | inr (inr lost) ↦ inr (answer_lost setting between new lost.table reply (subst P lost.is h))
     ]
 
-pub begin : (setting : Setting) (old : State) (script : Option Bytes) (reader : Pending) (before : Option Bytes) → IsKeyed old.database → IfSome script (λ bytes. reader.left ≡ Some (without_mark bytes)) → IfSome script (λ bytes. reader.given + length (without_mark bytes) ≡ length bytes)
-    → Going setting old script old reader before before 0 0
-begin setting old None reader before k h counted = tt
-begin setting old (Some script) reader before k h counted = record {
-  rest = without_mark script;
-  counted = counted;
-  left_is = h;
-  done = [];
-  first = refl;
-  replies = [];
-  last = old.database;
-  legal = refl;
-  same = same_tables old.database;
-  keyed = k;
-  faults = omega arith;
-  written = appends_nothing before;
-  commands = refl;
-  refusals = refl;
-}
+pub begin : (c : Course) (reader : Pending) → IsKeyed c.old.database → IfSome c.script (λ bytes. reader.left ≡ Some (without_mark bytes)) → IfSome c.script (λ bytes. reader.given + length (without_mark bytes) ≡ length bytes)
+    → Going c (record { now = c.old; reader = reader; after = c.before; told = c.errors; earlier = false; is_open = true; commands = 0; refused = 0 })
+begin c reader k h counted = begin_at c.script h counted
+  where
+    start : Point
+    start = record { now = c.old; reader = reader; after = c.before; told = c.errors; earlier = false; is_open = true; commands = 0; refused = 0 }
+
+    begin_at : (script : Option Bytes) → IfSome script (λ bytes. reader.left ≡ Some (without_mark bytes)) → IfSome script (λ bytes. reader.given + length (without_mark bytes) ≡ length bytes) → going c script start
+    begin_at None h counted = tt
+    begin_at (Some script) h counted = record {
+      rest = without_mark script;
+      counted = counted;
+      left_is = h;
+      done = [];
+      first = refl;
+      replies = [];
+      last = c.old.database;
+      legal = refl;
+      same = same_tables c.old.database;
+      keyed = k;
+      faults = omega arith;
+      written = appends_nothing c.before;
+      earlier_is = refl;
+      lines = [];
+      numbered = refl;
+      complained = told_nothing c.errors;
+      commands = refl;
+      refusals = refl;
+    }
 
 add_cond : (b : Bool) (n : ℕ) → n + cond b 1 0 ≡ cond b (n + 1) n
 add_cond true n = refl
@@ -122,119 +165,159 @@ counted_on reader reader' xs ys e f counted =
     let Q : Option Bytes → Type 0 = λ o. IfSome o (λ ys. reader'.given + length ys ≡ reader.given + length xs) in
     subst Q f (subst P e counted)
 
--- one more item was answered and its reply written
-go_on : (setting : Setting) (old : State) (script : Option Bytes) (now : State) (reader reader' : Pending) (before after after' : Option Bytes) (n m : ℕ) (it : Item) (reply : Reply) (new : State)
-    → Going setting old script now reader before after n m → IfSome reader.left (λ bytes. Gave setting.limits bytes reader'.left it) → Counted reader reader' → Wrote setting now it new after after' reply
-    → Going setting old script new reader' before after' (n + 1) (cond (is_refusal reply) (m + 1) m)
-go_on setting old None now reader reader' before after after' n m it reply new h given counted wrote = tt
-go_on setting old (Some script) now reader reader' before after after' n m it reply new h given counted wrote =
-    let P : Option Bytes → Type 0 = λ o. IfSome o (λ bytes. Gave setting.limits bytes reader'.left it) in
-    let gave : Gave setting.limits h.rest reader'.left it = subst P h.left_is given in
-    let next : AnsweredAlike setting h.last it reply new.database = answered_from setting h.last now.database new.database it reply h.keyed h.same wrote.legal in
+-- one more item was answered, its text written, and a refusal told
+go_on : (c : Course) (script : Option Bytes) (p : Point) (reader' : Pending) (after' told' : Option Bytes) (is_open' : Bool) (it : Item) (line : ℕ) (reply : Reply) (new : State)
+    → going c script p → IfSome p.reader.left (λ bytes. Gave c.setting.limits bytes reader'.left it) → Counted p.reader reader' → Wrote c.output p.earlier c.setting p.now it new p.after after' reply → TellsOn p.is_open is_open' p.told told' (complaint c.output line reply)
+    → going c script (record { now = new; reader = reader'; after = after'; told = told'; earlier = p.earlier || is_result reply; is_open = is_open'; commands = p.commands + 1; refused = cond (is_refusal reply) (p.refused + 1) p.refused })
+go_on c None p reader' after' told' is_open' it line reply new h given counted wrote told = tt
+go_on c (Some script) p reader' after' told' is_open' it line reply new h given counted wrote told =
+    let P : Option Bytes → Type 0 = λ o. IfSome o (λ bytes. Gave c.setting.limits bytes reader'.left it) in
+    let gave : Gave c.setting.limits h.rest reader'.left it = subst P h.left_is given in
+    let next : AnsweredAlike c.setting h.last it reply new.database = answered_from c.setting h.last p.now.database new.database it reply h.keyed h.same wrote.legal in
     record {
       rest = gave.rest;
-      counted = counted_on reader reader' h.rest gave.rest h.left_is gave.left_is counted ∙ h.counted;
+      counted = counted_on p.reader reader' h.rest gave.rest h.left_is gave.left_is counted ∙ h.counted;
       left_is = gave.left_is;
       done = h.done ++ gave.entry ∷ [];
-      first = h.first ∙ ap (λ l. h.done ++ l) gave.order ∙ sym (append_assoc h.done (gave.entry ∷ []) (items_left setting.limits gave.rest));
+      first = h.first ∙ ap (λ l. h.done ++ l) gave.order ∙ sym (append_assoc h.done (gave.entry ∷ []) (items_left c.setting.limits gave.rest));
       replies = h.replies ++ reply ∷ [];
       last = next.last;
-      legal = run_more setting old.database h.done h.replies h.last gave.entry reply next.last h.legal (step_of setting h.last gave.entry it reply next.last gave.reads next.legal);
+      legal = run_more c.setting c.old.database h.done h.replies h.last gave.entry reply next.last h.legal (step_of c.setting h.last gave.entry it reply next.last gave.reads next.legal);
       same = next.same;
-      keyed = keyed_after setting h.last next.last it reply h.keyed next.legal;
-      faults = faults_more h.replies reply old.failures now.failures new.failures h.faults wrote.faults;
-      written = let Q : Bytes → Type 0 = λ l. Appends before after' l in subst Q (sym (flat_map-push text h.replies reply)) (appends_more before after after' (flat_map text h.replies) (text reply) h.written wrote.written);
+      keyed = keyed_after c.setting h.last next.last it reply h.keyed next.legal;
+      faults = faults_more h.replies reply c.old.failures p.now.failures new.failures h.faults wrote.faults;
+      written =
+          let text : Bytes = text_as c.output (list_any is_result h.replies) reply in
+          let own : Appends p.after after' text = let Q : Bool → Type 0 = λ b. Appends p.after after' (text_as c.output b reply) in subst Q h.earlier_is wrote.written in
+          let Q : Bytes → Type 0 = λ l. Appends c.before after' l in subst Q (sym (texts_push c.output h.replies reply)) (appends_more c.before p.after after' (texts c.output h.replies) text h.written own);
+      earlier_is = ap (λ b. b || is_result reply) h.earlier_is ∙ sym (any_push h.replies reply);
+      lines = h.lines ++ line ∷ [];
+      numbered = omega (arith, h.numbered, length-append h.lines (line ∷ []), length-append h.replies (reply ∷ []));
+      complained =
+          let Q : Bytes → Type 0 = λ l. Told is_open' c.errors told' l in
+          subst Q (sym (complaints_push c.output h.lines line h.replies reply h.numbered)) (told_more p.is_open is_open' c.errors p.told told' (complaints c.output h.lines h.replies) (complaint c.output line reply) h.complained told);
       commands = omega (arith, h.commands, length-append h.replies (reply ∷ []));
       refusals = ap (λ k. cond (is_refusal reply) (k + 1) k) h.refusals ∙ sym (count_by-push is_refusal h.replies reply);
     }
 
 -- no item is left, and the reader is at its end
-abbrev Ends : Bounds → Pending → Pending → Type 0
-Ends b reader reader' = IfSome reader.left (λ bytes. (items_left b bytes ≡ []) × (reader'.left ≡ Some []))
+abbrev IsOver : Bounds → Pending → Pending → Type 0
+IsOver b reader reader' = IfSome reader.left (λ bytes. (items_left b bytes ≡ []) × (reader'.left ≡ Some []))
 
-ended : (setting : Setting) (old : State) (script : Option Bytes) (now : State) (reader reader' : Pending) (before after : Option Bytes) (n m : ℕ)
-    → Going setting old script now reader before after n m → Ends setting.limits reader reader' → Counted reader reader' → reader'.given ≤ setting.limits.script → Ran setting old script now before after (Ok (record { commands = n; refused = m }))
-ended setting old None now reader reader' before after n m h none counted few = tt
-ended setting old (Some script) now reader reader' before after n m h none counted few =
-    let P : Option Bytes → Type 0 = λ o. IfSome o (λ bytes. (items_left setting.limits bytes ≡ []) × (reader'.left ≡ Some [])) in
+-- what a run that stops here came to
+abbrev Comes : Course → Option Bytes → Point → Result Summary Fault → Type 0
+Comes c script p ended = RanAs c.output c.setting c.old script p.now c.before p.after c.errors p.told ended
+
+ended : (c : Course) (script : Option Bytes) (p : Point) (reader' : Pending)
+    → going c script p → IsOver c.setting.limits p.reader reader' → Counted p.reader reader' → reader'.given ≤ c.setting.limits.script → Comes c script p (Ok (record { commands = p.commands; refused = p.refused }))
+ended c None p reader' h none counted few = tt
+ended c (Some script) p reader' h none counted few =
+    let P : Option Bytes → Type 0 = λ o. IfSome o (λ bytes. (items_left c.setting.limits bytes ≡ []) × (reader'.left ≡ Some [])) in
     let there = subst P h.left_is none in
-    let over : items_left setting.limits h.rest ≡ [] = there.0 in
-    let all : reader'.given + 0 ≡ reader.given + length h.rest = counted_on reader reader' h.rest [] h.left_is there.1 counted in
-    let Q : List Entry → Type 0 = λ entries. Answered setting old entries now h.replies in
+    let over : items_left c.setting.limits h.rest ≡ [] = there.0 in
+    let all : reader'.given + 0 ≡ p.reader.given + length h.rest = counted_on p.reader reader' h.rest [] h.left_is there.1 counted in
     record {
-      within = omega (arith, all, h.counted, few);
+      done = h.done;
+      left = items_left c.setting.limits h.rest;
+      first = h.first;
       replies = h.replies;
-      answered = subst Q (sym (h.first ∙ ap (λ l. h.done ++ l) over ∙ append-nil h.done)) (record { last = h.last; legal = h.legal; same = h.same; faults = h.faults });
-      written = h.written;
-      commands = h.commands;
-      refused = h.refusals;
+      answered = record { last = h.last; legal = h.legal; same = h.same; faults = h.faults };
+      wrote = h.written;
+      lines = h.lines;
+      numbered = h.numbered;
+      complained = told_as_front p.is_open c.errors p.told (complaints c.output h.lines h.replies) h.complained;
+      ends = record {
+        within = omega (arith, all, h.counted, few);
+        nothing_left = over;
+        commands = h.commands;
+        refused = h.refusals;
+      };
     }
 
 -- a read failed
-pub stopped_reading : (setting : Setting) (old : State) (script : Option Bytes) (now : State) (reader : Pending) (before after : Option Bytes) (n m : ℕ)
-    → Going setting old script now reader before after n m → Ran setting old script now before after (Err fault.Read)
-stopped_reading setting old None now reader before after n m h = tt
-stopped_reading setting old (Some script) now reader before after n m h = record {
+stopped : (c : Course) (script : Option Bytes) (p : Point) → going c script p → Comes c script p (Err fault.Read)
+stopped c None p h = tt
+stopped c (Some script) p h = record {
   done = h.done;
-  left = items_left setting.limits h.rest;
+  left = items_left c.setting.limits h.rest;
   first = h.first;
   replies = h.replies;
   answered = record { last = h.last; legal = h.legal; same = h.same; faults = h.faults };
-  written = h.written;
+  wrote = h.written;
+  lines = h.lines;
+  numbered = h.numbered;
+  complained = told_as_front p.is_open c.errors p.told (complaints c.output h.lines h.replies) h.complained;
+  ends = tt;
 }
 
+pub stopped_reading : (c : Course) (p : Point) → Going c p → Comes c c.script p (Err fault.Read)
+stopped_reading c p h = stopped c c.script p h
+
 -- a write failed
-stopped_writing : (setting : Setting) (old : State) (script : Option Bytes) (now : State) (reader reader' : Pending) (before after after' : Option Bytes) (n m : ℕ) (it : Item) (new : State)
-    → Going setting old script now reader before after n m → IfSome reader.left (λ bytes. Gave setting.limits bytes reader'.left it) → WroteFront setting now it new after after'
-    → Ran setting old script new before after' (Err fault.Write)
-stopped_writing setting old None now reader reader' before after after' n m it new h given wrote = tt
-stopped_writing setting old (Some script) now reader reader' before after after' n m it new h given wrote =
-    let P : Option Bytes → Type 0 = λ o. IfSome o (λ bytes. Gave setting.limits bytes reader'.left it) in
-    let gave : Gave setting.limits h.rest reader'.left it = subst P h.left_is given in
-    let next : AnsweredAlike setting h.last it wrote.answer new.database = answered_from setting h.last now.database new.database it wrote.answer h.keyed h.same wrote.legal in
+cut : (c : Course) (script : Option Bytes) (p : Point) (reader' : Pending) (after' : Option Bytes) (it : Item) (new : State)
+    → going c script p → IfSome p.reader.left (λ bytes. Gave c.setting.limits bytes reader'.left it) → WroteFront c.output p.earlier c.setting p.now it new p.after after'
+    → RanAs c.output c.setting c.old script new c.before after' c.errors p.told (Err fault.Write)
+cut c None p reader' after' it new h given wrote = tt
+cut c (Some script) p reader' after' it new h given wrote =
+    let P : Option Bytes → Type 0 = λ o. IfSome o (λ bytes. Gave c.setting.limits bytes reader'.left it) in
+    let gave : Gave c.setting.limits h.rest reader'.left it = subst P h.left_is given in
+    let next : AnsweredAlike c.setting h.last it wrote.answer new.database = answered_from c.setting h.last p.now.database new.database it wrote.answer h.keyed h.same wrote.legal in
+    let own : AppendsFront p.after after' (text_as c.output (list_any is_result h.replies) wrote.answer) = let Q : Bool → Type 0 = λ b. AppendsFront p.after after' (text_as c.output b wrote.answer) in subst Q h.earlier_is wrote.written in
     record {
       done = h.done ++ gave.entry ∷ [];
-      left = items_left setting.limits gave.rest;
-      first = h.first ∙ ap (λ l. h.done ++ l) gave.order ∙ sym (append_assoc h.done (gave.entry ∷ []) (items_left setting.limits gave.rest));
-      replies = h.replies;
-      last = wrote.answer;
+      left = items_left c.setting.limits gave.rest;
+      first = h.first ∙ ap (λ l. h.done ++ l) gave.order ∙ sym (append_assoc h.done (gave.entry ∷ []) (items_left c.setting.limits gave.rest));
+      replies = h.replies ++ wrote.answer ∷ [];
       answered = record {
         last = next.last;
-        legal = run_more setting old.database h.done h.replies h.last gave.entry wrote.answer next.last h.legal (step_of setting h.last gave.entry it wrote.answer next.last gave.reads next.legal);
+        legal = run_more c.setting c.old.database h.done h.replies h.last gave.entry wrote.answer next.last h.legal (step_of c.setting h.last gave.entry it wrote.answer next.last gave.reads next.legal);
         same = next.same;
-        faults = faults_more h.replies wrote.answer old.failures now.failures new.failures h.faults wrote.faults;
+        faults = faults_more h.replies wrote.answer c.old.failures p.now.failures new.failures h.faults wrote.faults;
       };
-      front = wrote.written.front;
-      rest = wrote.written.rest;
-      cut = wrote.written.is;
-      written = appends_more before after after' (flat_map text h.replies) wrote.written.front h.written wrote.written.appends;
+      wrote = record {
+        first = h.replies;
+        last = wrote.answer;
+        is = refl;
+        front = own.front;
+        rest = own.rest;
+        cut = own.is;
+        written = appends_more c.before p.after after' (texts c.output h.replies) own.front h.written own.appends;
+      };
+      lines = h.lines ++ 0 ∷ [];
+      numbered = omega (arith, h.numbered, length-append h.lines (0 ∷ []), length-append h.replies (wrote.answer ∷ []));
+      complained =
+          let Q : Bytes → Type 0 = λ l. AppendsFront c.errors p.told l in
+          subst Q (sym (complaints_push c.output h.lines 0 h.replies wrote.answer h.numbered)) (front_longer c.errors p.told (complaints c.output h.lines h.replies) (complaint c.output 0 wrote.answer) (told_as_front p.is_open c.errors p.told (complaints c.output h.lines h.replies) h.complained));
+      ends = tt;
     }
 
 -- the same, where the run's setting and its limits are known as they are at this item
-pub ended_at : (setting here : Setting) (b : Bounds) (old : State) (script : Option Bytes) (now : State) (reader reader' : Pending) (before after : Option Bytes) (n m : ℕ) → here ≡ setting → b ≡ here.limits
-    → Going setting old script now reader before after n m → Ends b reader reader' → Counted reader reader' → reader'.given ≤ b.script → Ran setting old script now before after (Ok (record { commands = n; refused = m }))
-ended_at setting here b old script now reader reader' before after n m e f h none counted few =
-    let P : Bounds → Type 0 = λ k. Ends k reader reader' in
+pub ended_at : (c : Course) (p : Point) (here : Setting) (b : Bounds) (reader' : Pending) → here ≡ c.setting → b ≡ here.limits
+    → Going c p → IsOver b p.reader reader' → Counted p.reader reader' → reader'.given ≤ b.script → Comes c c.script p (Ok (record { commands = p.commands; refused = p.refused }))
+ended_at c p here b reader' e f h none counted few =
+    let P : Bounds → Type 0 = λ k. IsOver k p.reader reader' in
     let Q : Bounds → Type 0 = λ k. reader'.given ≤ k.script in
-    let g : b ≡ setting.limits = f ∙ ap (λ (s : Setting). s.limits) e in
-    ended setting old script now reader reader' before after n m h (subst P g none) counted (subst Q g few)
+    let g : b ≡ c.setting.limits = f ∙ ap (λ (s : Setting). s.limits) e in
+    ended c c.script p reader' h (subst P g none) counted (subst Q g few)
 
-pub go_on_at : (setting here : Setting) (b : Bounds) (old : State) (script : Option Bytes) (now : State) (reader reader' : Pending) (before after after' : Option Bytes) (n m n' m' : ℕ) (it : Item) (reply : Reply) (new : State) → here ≡ setting → b ≡ here.limits
-    → n' ≡ n + 1 → m' ≡ cond (is_refusal reply) (m + 1) m
-    → Going setting old script now reader before after n m → IfSome reader.left (λ bytes. Gave b bytes reader'.left it) → Counted reader reader' → Wrote here now it new after after' reply → Going setting old script new reader' before after' n' m'
-go_on_at setting here b old script now reader reader' before after after' n m n' m' it reply new e f p q h given counted wrote =
-    let P : Bounds → Type 0 = λ k. IfSome reader.left (λ bytes. Gave k bytes reader'.left it) in
-    let Q : Setting → Type 0 = λ s. Wrote s now it new after after' reply in
-    let N : ℕ → Type 0 = λ k. Going setting old script new reader' before after' k (cond (is_refusal reply) (m + 1) m) in
-    let M : ℕ → Type 0 = λ k. Going setting old script new reader' before after' n' k in
-    subst M (sym q) (subst N (sym p) (go_on setting old script now reader reader' before after after' n m it reply new h (subst P (f ∙ ap (λ (s : Setting). s.limits) e) given) counted (subst Q e wrote)))
+pub go_on_at : (c : Course) (p : Point) (here : Setting) (b : Bounds) (reader' : Pending) (after' told' : Option Bytes) (earlier' is_open' : Bool) (n' m' : ℕ) (it : Item) (line : ℕ) (reply : Reply) (new : State) → here ≡ c.setting → b ≡ here.limits
+    → n' ≡ p.commands + 1 → m' ≡ cond (is_refusal reply) (p.refused + 1) p.refused → earlier' ≡ (p.earlier || is_result reply)
+    → Going c p → IfSome p.reader.left (λ bytes. Gave b bytes reader'.left it) → Counted p.reader reader' → Wrote c.output p.earlier here p.now it new p.after after' reply → TellsOn p.is_open is_open' p.told told' (complaint c.output line reply)
+    → Going c (record { now = new; reader = reader'; after = after'; told = told'; earlier = earlier'; is_open = is_open'; commands = n'; refused = m' })
+go_on_at c p here b reader' after' told' earlier' is_open' n' m' it line reply new e f q r t h given counted wrote told =
+    let P : Bounds → Type 0 = λ k. IfSome p.reader.left (λ bytes. Gave k bytes reader'.left it) in
+    let Q : Setting → Type 0 = λ s. Wrote c.output p.earlier s p.now it new p.after after' reply in
+    let N : ℕ → Type 0 = λ k. Going c (record { now = new; reader = reader'; after = after'; told = told'; earlier = p.earlier || is_result reply; is_open = is_open'; commands = k; refused = cond (is_refusal reply) (p.refused + 1) p.refused }) in
+    let M : ℕ → Type 0 = λ k. Going c (record { now = new; reader = reader'; after = after'; told = told'; earlier = p.earlier || is_result reply; is_open = is_open'; commands = n'; refused = k }) in
+    let B : Bool → Type 0 = λ k. Going c (record { now = new; reader = reader'; after = after'; told = told'; earlier = k; is_open = is_open'; commands = n'; refused = m' }) in
+    subst B (sym t) (subst M (sym r) (subst N (sym q) (go_on c c.script p reader' after' told' is_open' it line reply new h (subst P (f ∙ ap (λ (s : Setting). s.limits) e) given) counted (subst Q e wrote) told)))
 
-pub stopped_writing_at : (setting here : Setting) (b : Bounds) (old : State) (script : Option Bytes) (now : State) (reader reader' : Pending) (before after after' : Option Bytes) (n m : ℕ) (it : Item) (new : State) → here ≡ setting → b ≡ here.limits
-    → Going setting old script now reader before after n m → IfSome reader.left (λ bytes. Gave b bytes reader'.left it) → WroteFront here now it new after after' → Ran setting old script new before after' (Err fault.Write)
-stopped_writing_at setting here b old script now reader reader' before after after' n m it new e f h given wrote =
-    let P : Bounds → Type 0 = λ k. IfSome reader.left (λ bytes. Gave k bytes reader'.left it) in
-    let Q : Setting → Type 0 = λ s. WroteFront s now it new after after' in
-    stopped_writing setting old script now reader reader' before after after' n m it new h (subst P (f ∙ ap (λ (s : Setting). s.limits) e) given) (subst Q e wrote)
+pub stopped_writing_at : (c : Course) (p : Point) (here : Setting) (b : Bounds) (reader' : Pending) (after' : Option Bytes) (it : Item) (new : State) → here ≡ c.setting → b ≡ here.limits
+    → Going c p → IfSome p.reader.left (λ bytes. Gave b bytes reader'.left it) → WroteFront c.output p.earlier here p.now it new p.after after' → RanAs c.output c.setting c.old c.script new c.before after' c.errors p.told (Err fault.Write)
+stopped_writing_at c p here b reader' after' it new e f h given wrote =
+    let P : Bounds → Type 0 = λ k. IfSome p.reader.left (λ bytes. Gave k bytes reader'.left it) in
+    let Q : Setting → Type 0 = λ s. WroteFront c.output p.earlier s p.now it new p.after after' in
+    cut c c.script p reader' after' it new h (subst P (f ∙ ap (λ (s : Setting). s.limits) e) given) (subst Q e wrote)
 
 pub few_refused : (b : Bool) (m n : ℕ) → m ≤ n → cond b (m + 1) m ≤ n + 1
 few_refused true m n h = omega arith

@@ -12,6 +12,7 @@ use Rattle.gq_row.specs.Rows.{key_of}
 use Rattle.gq_row.specs.Tables.{PlainTable, put, put_by_key, put_all}
 use Rattle.gq_load.specs.declared.load_refusal.LoadRefusal.{LoadRefusal}
 use Rattle.gq_load.specs.Fitting.{AreFit}
+use Rattle.gq_load.specs.declared.short_records.Short.TheVariants as short
 use Rattle.gq_load.specs.Payloads.{load}
 use Rattle.gq_load.proofs.Fits.{loaded_fit}
 use Rattle.gq_command.specs.Commands.{Bytes}
@@ -128,19 +129,19 @@ refused_not_done : (db new : Database) (why : Refused) (count : ℕ) (steps : Ou
 refused_not_done db new why count steps e h = let told : (settle db (Err why)).1 ≡ reply.Done count = ap (λ (o : Outcome). (settle db o).1) (sym e) ∙ ap (λ (p : Database × Reply). p.1) h in let none : ⊥ = cc in none
 
 module _ (limits : Bounds) (db new : Database) (name bytes : Bytes) (count : ℕ) (done : step limits db (item.Command (Load name (payload.Bytes bytes))) ≡ (new, reply.Done count)) where
-  refuted : (why : Refused) → load_table limits db name (payload.Bytes bytes) ≡ Err why → ⊥
-  refuted why e = refused_not_done db new why count (load_table limits db name (payload.Bytes bytes)) e done
+  refuted : (why : Refused) → load_table short.Refused limits db name (payload.Bytes bytes) ≡ Err why → ⊥
+  refuted why e = refused_not_done db new why count (load_table short.Refused limits db name (payload.Bytes bytes)) e done
 
-  by_rows : (table : PlainTable) (rows : Rows) → table_at db name ≡ Some table → load table.heading limits bytes ≡ Ok rows → (few : Bool) → nat_le (length (put_all table.heading.key table.rows rows)) limits.rows ≡ few
+  by_rows : (table : PlainTable) (rows : Rows) → table_at db name ≡ Some table → load short.Refused table.heading limits bytes ≡ Ok rows → (few : Bool) → nat_le (length (put_all table.heading.key table.rows rows)) limits.rows ≡ few
       → UpsertsOf limits db name bytes count new
   by_rows table rows found given false e =
-      absurd (refuted (unnumbered Limit) (load_refused limits db name table found bytes rows (unnumbered Limit) (ap refused_by given)
+      absurd (refuted (unnumbered Limit) (load_refused short.Refused limits db name table found bytes rows (unnumbered Limit) (ap refused_by given)
       (rows_refused limits db name rows table (unnumbered Limit) found (fails Limit (nat_le (length (put_all table.heading.key table.rows rows)) limits.rows) _ e))))
   by_rows table rows found given true e =
-      let fit : AreFit table.heading limits rows = loaded_fit table.heading limits bytes rows given in
+      let fit : AreFit table.heading limits rows = loaded_fit short.Refused table.heading limits bytes rows given in
       let all = all_upserted limits db name table rows found fit.fitting fit.keyed (leb-true _ _ e) in
-      let puts : load_table limits db name (payload.Bytes bytes) ≡ Ok (with_table db name (record table { rows = put_all table.heading.key table.rows rows }), reply.Done (length rows)) =
-      load_puts limits db name table found bytes rows _ (ap refused_by given)
+      let puts : load_table short.Refused limits db name (payload.Bytes bytes) ≡ Ok (with_table db name (record table { rows = put_all table.heading.key table.rows rows }), reply.Done (length rows)) =
+      load_puts short.Refused limits db name table found bytes rows _ (ap refused_by given)
       (rows_put limits db name rows (put_all table.heading.key table.rows rows) table found (passes Limit (nat_le (length (put_all table.heading.key table.rows rows)) limits.rows) _ e)) in
       let same = sym (ap (settle db) puts) ∙ done in
       record {
@@ -153,13 +154,13 @@ module _ (limits : Bounds) (db new : Database) (name bytes : Bytes) (count : ℕ
         accepted = all.accepted;
       }
 
-  by_payload : (table : PlainTable) (r : Result Rows LoadRefusal) → table_at db name ≡ Some table → load table.heading limits bytes ≡ r → UpsertsOf limits db name bytes count new
+  by_payload : (table : PlainTable) (r : Result Rows LoadRefusal) → table_at db name ≡ Some table → load short.Refused table.heading limits bytes ≡ r → UpsertsOf limits db name bytes count new
   by_payload table (Ok rows) found given = by_rows table rows found given (nat_le (length (put_all table.heading.key table.rows rows)) limits.rows) refl
-  by_payload table (Err fault) found given = absurd (refuted (fault_refusal fault) (load_faulty limits db name table found bytes (fault_refusal fault) (ap refused_by given)))
+  by_payload table (Err fault) found given = absurd (refuted (fault_refusal fault) (load_faulty short.Refused limits db name table found bytes (fault_refusal fault) (ap refused_by given)))
 
   by_table : (o : Option PlainTable) → table_at db name ≡ o → UpsertsOf limits db name bytes count new
-  by_table None found = absurd (refuted (unnumbered NoTable) (load_none limits db name (payload.Bytes bytes) refl found))
-  by_table (Some table) found = by_payload table (load table.heading limits bytes) found refl
+  by_table None found = absurd (refuted (unnumbered NoTable) (load_none short.Refused limits db name (payload.Bytes bytes) refl found))
+  by_table (Some table) found = by_payload table (load short.Refused table.heading limits bytes) found refl
 
 pub load_is_upserts : LoadIsUpserts
 load_is_upserts limits db new name bytes count done = by_table limits db new name bytes count done (table_at db name) refl

@@ -11,6 +11,7 @@ use Rattle.gq_row.specs.Limits.{GREATEST}
 use Rattle.gq_group.specs.declared.grouping.Spent.{Spent}
 use Rattle.gq_group.specs.Groups.{keys_of}
 use Rattle.gq_load.specs.declared.load_refusal.LoadRefusal.TheVariants as fault
+use Rattle.gq_load.specs.declared.short_records.Short.TheVariants as short
 use Rattle.gq_load.specs.Payloads.{load}
 use Rattle.gq_command.specs.Commands.{Bytes}
 use Rattle.gq_command.specs.declared.command.By.{By}
@@ -340,32 +341,32 @@ abbrev one_city : Database
 one_city = after GREATEST empty_s (upsert_s (Int (pos 1)) (Text (codes "Rome")))
 
 -- of two records with one key the last stays, and both are counted
-last_of_one_key : (bytes : Bytes) → load s GREATEST bytes ≡ Ok (city 1 (codes "Oslo") ∷ city 1 (codes "Rome") ∷ []) → step GREATEST empty_s (item.Command (load_s (payload.Bytes bytes))) ≡ (one_city, reply.Done 2)
+last_of_one_key : (bytes : Bytes) → load short.Refused s GREATEST bytes ≡ Ok (city 1 (codes "Oslo") ∷ city 1 (codes "Rome") ∷ []) → step GREATEST empty_s (item.Command (load_s (payload.Bytes bytes))) ≡ (one_city, reply.Done 2)
 last_of_one_key bytes given = rw given refl
 
-over_one_there : (bytes : Bytes) → load s GREATEST bytes ≡ Ok (city 1 (codes "Oslo") ∷ city 2 (codes "Rome") ∷ []) → step GREATEST one_city (item.Command (load_s (payload.Bytes bytes))) ≡ (two_cities, reply.Done 2)
+over_one_there : (bytes : Bytes) → load short.Refused s GREATEST bytes ≡ Ok (city 1 (codes "Oslo") ∷ city 2 (codes "Rome") ∷ []) → step GREATEST one_city (item.Command (load_s (payload.Bytes bytes))) ≡ (two_cities, reply.Done 2)
 over_one_there bytes given = rw given refl
 
-no_records : (bytes : Bytes) → load s GREATEST bytes ≡ Ok [] → step GREATEST one_city (item.Command (load_s (payload.Bytes bytes))) ≡ (one_city, reply.Done 0)
+no_records : (bytes : Bytes) → load short.Refused s GREATEST bytes ≡ Ok [] → step GREATEST one_city (item.Command (load_s (payload.Bytes bytes))) ≡ (one_city, reply.Done 0)
 no_records bytes given = rw given refl
 
 -- a faulty record is named by its number, and none is put
-faulty_record : (bytes : Bytes) → load s GREATEST bytes ≡ Err (fault.BadInt 3) → step GREATEST one_city (item.Command (load_s (payload.Bytes bytes))) ≡ (one_city, reply.Refused BadInt (Some 3))
+faulty_record : (bytes : Bytes) → load short.Refused s GREATEST bytes ≡ Err (fault.BadInt 3) → step GREATEST one_city (item.Command (load_s (payload.Bytes bytes))) ≡ (one_city, reply.Refused BadInt (Some 3))
 faulty_record bytes given = rw given refl
 
-null_in_a_record : (bytes : Bytes) → load s GREATEST bytes ≡ Err (fault.NullKey 1) → step GREATEST one_city (item.Command (load_s (payload.Bytes bytes))) ≡ (one_city, reply.Refused NullKey (Some 1))
+null_in_a_record : (bytes : Bytes) → load short.Refused s GREATEST bytes ≡ Err (fault.NullKey 1) → step GREATEST one_city (item.Command (load_s (payload.Bytes bytes))) ≡ (one_city, reply.Refused NullKey (Some 1))
 null_in_a_record bytes given = rw given refl
 
-too_few_fields : (bytes : Bytes) → load s GREATEST bytes ≡ Err (fault.FieldCount 1) → step GREATEST one_city (item.Command (load_s (payload.Bytes bytes))) ≡ (one_city, reply.Refused FieldCount (Some 1))
+too_few_fields : (bytes : Bytes) → load short.Refused s GREATEST bytes ≡ Err (fault.FieldCount 1) → step GREATEST one_city (item.Command (load_s (payload.Bytes bytes))) ≡ (one_city, reply.Refused FieldCount (Some 1))
 too_few_fields bytes given = rw given refl
 
-no_text : (bytes : Bytes) → load s GREATEST bytes ≡ Err (fault.BadText 1) → step GREATEST one_city (item.Command (load_s (payload.Bytes bytes))) ≡ (one_city, reply.Refused BadText (Some 1))
+no_text : (bytes : Bytes) → load short.Refused s GREATEST bytes ≡ Err (fault.BadText 1) → step GREATEST one_city (item.Command (load_s (payload.Bytes bytes))) ≡ (one_city, reply.Refused BadText (Some 1))
 no_text bytes given = rw given refl
 
-another_header : (bytes : Bytes) → load s GREATEST bytes ≡ Err fault.Header → step GREATEST one_city (item.Command (load_s (payload.Bytes bytes))) ≡ (one_city, refused Header)
+another_header : (bytes : Bytes) → load short.Refused s GREATEST bytes ≡ Err fault.Header → step GREATEST one_city (item.Command (load_s (payload.Bytes bytes))) ≡ (one_city, refused Header)
 another_header bytes given = rw given refl
 
-long_text : (bytes : Bytes) → load s GREATEST bytes ≡ Err fault.Limit → step GREATEST one_city (item.Command (load_s (payload.Bytes bytes))) ≡ (one_city, refused Limit)
+long_text : (bytes : Bytes) → load short.Refused s GREATEST bytes ≡ Err fault.Limit → step GREATEST one_city (item.Command (load_s (payload.Bytes bytes))) ≡ (one_city, refused Limit)
 long_text bytes given = rw given refl
 
 -- an open payload, one that is too long, one for which there was no memory
@@ -394,10 +395,10 @@ two_of_three = after three_each (after three_each (after three_each [] create_s)
 abbrev three_of_three : Database
 three_of_three = after three_each (after three_each (after three_each two_of_three (upsert_s (Int (pos 1)) (Text (codes "x")))) (upsert_s (Int (pos 2)) (Text (codes "y")))) (upsert_s (Int (pos 3)) (Text (codes "z")))
 
-as_many_as_may_be : (bytes : Bytes) → load s three_each bytes ≡ Ok (city 1 (codes "x") ∷ city 2 (codes "y") ∷ city 3 (codes "z") ∷ []) → step three_each two_of_three (item.Command (load_s (payload.Bytes bytes))) ≡ (three_of_three, reply.Done 3)
+as_many_as_may_be : (bytes : Bytes) → load short.Refused s three_each bytes ≡ Ok (city 1 (codes "x") ∷ city 2 (codes "y") ∷ city 3 (codes "z") ∷ []) → step three_each two_of_three (item.Command (load_s (payload.Bytes bytes))) ≡ (three_of_three, reply.Done 3)
 as_many_as_may_be bytes given = rw given refl
 
-one_row_too_many : (bytes : Bytes) → load s three_each bytes ≡ Ok (city 3 (codes "z") ∷ city 4 (codes "q") ∷ []) → step three_each two_of_three (item.Command (load_s (payload.Bytes bytes))) ≡ (two_of_three, refused Limit)
+one_row_too_many : (bytes : Bytes) → load short.Refused s three_each bytes ≡ Ok (city 3 (codes "z") ∷ city 4 (codes "q") ∷ []) → step three_each two_of_three (item.Command (load_s (payload.Bytes bytes))) ≡ (two_of_three, refused Limit)
 one_row_too_many bytes given = rw given refl
 
 -- the levels of a rollup

@@ -1,10 +1,13 @@
 -- What a load finds in its payload.
-use Rattle.std.specs.Prelude.{ℕ, Bool, true, false, List, Some, Result, Ok, Err}
+use Rattle.std.specs.Prelude.{◌≡◌, ◌⊎◌, ℕ, Bool, true, false, List, Option, Some, IfSome, Result, Ok, Err}
 use Rattle.gq_row.specs.declared.value.Value.{Value}
 use Rattle.gq_row.specs.declared.limits.Bounds.{Bounds}
 use Rattle.gq_row.specs.Headings.{Heading}
 use Rattle.gq_load.specs.declared.load_refusal.LoadRefusal.{LoadRefusal}
 use Rattle.gq_load.specs.declared.load_refusal.LoadRefusal.TheVariants as fault
+use Rattle.gq_load.specs.declared.row_fault.RowFault.{RowFault}
+use Rattle.gq_load.specs.declared.row_fault.RowFault.TheVariants as row_fault
+use Rattle.gq_load.specs.declared.short_records.Short.{Short}
 use Rattle.gq_load.specs.Payloads.{load}
 use Rattle.gq_command.specs.declared.command.Payload.{Payload}
 use Rattle.gq_command.specs.declared.command.Payload.TheVariants as payload
@@ -13,6 +16,8 @@ use Rattle.gq_reply.specs.declared.refusal.Refusal.{Refusal}
 use Rattle.gq_reply.specs.declared.refusal.Refusal.TheVariants as refusal
 use Rattle.gq_reply.specs.declared.refusal.Refused.{Refused}
 use Rattle.gq_reply.specs.Refusals.{unnumbered}
+use Rattle.gq_engine.specs.declared.csv_fault.CsvFault.{CsvFault}
+use Rattle.gq_engine.specs.declared.csv_fault.CsvFault.TheVariants as csv_fault
 
 -- a payload for which there was no memory
 abbrev pub is_lost : Payload → Bool
@@ -47,5 +52,20 @@ abbrev pub refused_by : Result (List (List Value)) LoadRefusal → Result (List 
 refused_by (Ok rows) = Ok rows
 refused_by (Err fault) = Err (fault_refusal fault)
 
-abbrev pub rows_told : Bounds → Heading → Bytes → Result (List (List Value)) Refused
-rows_told limits heading bytes = refused_by (load heading limits bytes)
+abbrev pub rows_told : Short → Bounds → Heading → Bytes → Result (List (List Value)) Refused
+rows_told short limits heading bytes = refused_by (load short heading limits bytes)
+
+-- the fault of a CSV text, by that of its rows
+abbrev pub csv_told : RowFault → CsvFault
+csv_told (row_fault.Refused why) = csv_fault.Refused (fault_refusal why)
+csv_told row_fault.Read = csv_fault.Read
+
+-- the refusal for it, where no read fails but for want of memory
+abbrev pub refused_in : CsvFault → Refused
+refused_in (csv_fault.Refused why) = why
+refused_in csv_fault.Read = unnumbered refusal.Memory
+
+-- a CSV text is refused as reading it is, where it is known what that gives, or there was no memory, or a read failed
+abbrev pub IsTold : {A : Type 0} → Option (Result A Refused) → CsvFault → Type 0
+IsTold read (csv_fault.Refused why) = (why ≡ unnumbered refusal.Memory) ⊎ IfSome read (λ given. given ≡ Err why)
+IsTold read csv_fault.Read = Unit {0}

@@ -15,7 +15,8 @@ use Rattle.gq_engine.specs.declared.sending.WriteFault.{WriteFault}
 use Rattle.gq_engine.specs.Databases.{Database}
 use Rattle.gq_engine.specs.Headline.{State}
 use Rattle.gq_reply.specs.Refusals.{unnumbered, told}
-use Rattle.gq_reply.specs.Replies.{text}
+use Rattle.gq_engine.specs.declared.output.Output.{Output}
+use Rattle.gq_engine.specs.Outputs.{text_as}
 use Rattle.gq_engine.specs.Runs.{Setting, AnsweredAlike, IsGrouped, is_store_fault, SameTables, KeptUnlessDone, FaultsHappened}
 use Rattle.gq_engine.specs.Refusing.{key_within, stored_key}
 use Rattle.gq_engine.specs.Sending.{AppendsFront}
@@ -100,19 +101,19 @@ Deletes values (Err why) old new = (new ≡ old) × (key_within old.heading (sto
 abbrev pub deleted : Bool → Reply
 deleted found = reply.Done (if found then 1 else 0)
 
--- an item was answered, and the reply's text written
-pub record Wrote (setting : Setting) (old : State) (it : Item) (new : State) (before after : Option Bytes) (answer : Reply) : Type 0 where
+-- an item was answered, and what the reply brings to the output was written
+pub record Wrote (output : Output) (earlier : Bool) (setting : Setting) (old : State) (it : Item) (new : State) (before after : Option Bytes) (answer : Reply) : Type 0 where
   pub legal : AnsweredAlike setting old.database it answer new.database
   pub faults : FaultsHappened (answer ∷ []) old.failures new.failures
-  pub written : Appends before after (text answer)
+  pub written : Appends before after (text_as output earlier answer)
 
--- an item was answered, and a front of the reply's text written
-pub record WroteFront (setting : Setting) (old : State) (it : Item) (new : State) (before after : Option Bytes) : Type 0 where
+-- an item was answered, and a front of that was written
+pub record WroteFront (output : Output) (earlier : Bool) (setting : Setting) (old : State) (it : Item) (new : State) (before after : Option Bytes) : Type 0 where
   pub answer : Reply
   pub legal : AnsweredAlike setting old.database it answer new.database
   pub faults : FaultsHappened (answer ∷ []) old.failures new.failures
-  pub written : AppendsFront before after (text answer)
+  pub written : AppendsFront before after (text_as output earlier answer)
 
-abbrev pub Served : Setting → State → Item → State → Option Bytes → Option Bytes → Result Reply WriteFault → Type 0
-Served setting old it new before after (Ok answer) = Wrote setting old it new before after answer
-Served setting old it new before after (Err e) = WroteFront setting old it new before after
+abbrev pub Served : Output → Bool → Setting → State → Item → State → Option Bytes → Option Bytes → Result Reply WriteFault → Type 0
+Served output earlier setting old it new before after (Ok answer) = Wrote output earlier setting old it new before after answer
+Served output earlier setting old it new before after (Err e) = WroteFront output earlier setting old it new before after

@@ -8,6 +8,8 @@ use Rattle.gq_row.specs.Fitting.{is_null, stored_in}
 use Rattle.gq_row.specs.Folding.{folded}
 use Rattle.gq_row.specs.Headings.{Heading, positions_of}
 use Rattle.gq_row.specs.Tables.{PlainTable, delete, has_row}
+use Rattle.gq_load.specs.declared.short_records.Short.{Short}
+use Rattle.gq_load.specs.declared.short_records.Short.TheVariants as short
 use Rattle.gq_command.specs.Commands.{Bytes, column_names, some}
 use Rattle.gq_clause.specs.declared.condition.Test.{Test}
 use Rattle.gq_command.specs.declared.command.Command.{Command}
@@ -79,12 +81,12 @@ with_rows limits db name new = do
   Ok (with_table db name (record table { rows = rows }))
 
 -- the rows of a payload are put; that there was no memory for the payload is told before all else
-abbrev pub load_table : Bounds → Database → List ℕ → Payload → Outcome
-load_table limits db name payload = do
+abbrev pub load_table : Short → Bounds → Database → List ℕ → Payload → Outcome
+load_table short limits db name payload = do
   there ← true_or Memory (not (is_lost payload))
   table ← table_in db name
   bytes ← bytes_told payload
-  rows ← rows_told limits table.heading bytes
+  rows ← rows_told short limits table.heading bytes
   new ← with_rows limits db name rows
   Ok (new, reply.Done (length rows))
 
@@ -154,7 +156,7 @@ distinct db name on tests = do
 abbrev pub outcome : Bounds → Database → Command → Outcome
 outcome bounds db (Create table columns key) = create bounds db table columns key
 outcome bounds db (Drop table) = drop_table db table
-outcome bounds db (Load table payload) = load_table bounds db table payload
+outcome bounds db (Load table payload) = load_table short.Refused bounds db table payload
 outcome bounds db (Upsert table values) = upsert bounds db table values
 outcome bounds db (Delete table values) = delete_row db table values
 outcome bounds db (Show table) = show_table db table

@@ -4,6 +4,7 @@ use Rattle.gq_row.specs.declared.value.Value.{Value}
 use Rattle.gq_row.specs.declared.value.Value.TheVariants.{Null, Int, Text, NoCase}
 use Rattle.gq_row.specs.declared.limits.Bounds.{Bounds}
 use Rattle.gq_row.specs.Tables.{PlainTable}
+use Rattle.gq_load.specs.declared.short_records.Short.TheVariants as short
 use Rattle.gq_load.specs.Payloads.{load}
 use Rattle.gq_command.specs.declared.command.Command.TheVariants.{Load, Upsert}
 use Rattle.gq_command.specs.declared.command.Payload.TheVariants as payload
@@ -31,7 +32,7 @@ pub record UpsertsOf (limits : Bounds) (db : Database) (name bytes : Bytes) (cou
   pub table : PlainTable
   pub found : table_at db name ≡ Some table
   pub rows : List (List Value)
-  pub given : load table.heading limits bytes ≡ Ok rows
+  pub given : load short.Refused table.heading limits bytes ≡ Ok rows
   pub counted : length rows ≡ count
   pub same : after_all limits db (upserts name rows) ≡ new
   pub accepted : replies_to limits db (upserts name rows) ≡ map (λ row. reply.Done 1) rows

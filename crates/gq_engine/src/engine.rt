@@ -2,16 +2,19 @@
 ghost use Rattle.std.specs.Prelude.{◌≡◌, ◌∷◌, []};
 
 use crate::catalog::Catalog;
+use crate::csv_fault::CsvFault;
 use crate::grouping::{rows_asked, rows_different};
-use crate::payloads::stage_for;
+use crate::payloads::{stage_for, stage_text};
 use crate::showing::all_shown;
 use gq_command::{Command, Item, Payload, Test};
 use gq_group::{Budget, Spent};
+use gq_load::Short;
 use gq_plan::{GroupClauses, header_of, plan_distinct};
 use gq_reply::{Refusal, Refused, Reply};
 use gq_row::{Column, Key, Limits, Row, Schema, Sequence, Text, find_positions};
 use gq_spill::RunStore;
 use std::alloc::Global;
+use std::io::Read;
 use sw_probe::KeyHash;
 
 /// A database of tables, and what carries out commands on it. `H` hashes the keys of their rows. `S`
@@ -29,13 +32,16 @@ pub struct Engine<H: KeyHash<Key>, S> {
 }
 
 impl<H: KeyHash<Key> + Copy, S: RunStore> Engine<H, S> {
-    ghost use Rattle.std.specs.Prelude.{◌≡◌, ◌∷◌, [], true};
+    ghost use Rattle.std.specs.Prelude.{◌≡◌, ◌∷◌, [], true, IfOk, IfSome, OnErr};
+    ghost use Rattle.gq_command.specs.declared.command.Payload.TheVariants as payload;
     ghost use Rattle.gq_command.specs.Commands.{is_command, as_said};
     ghost use Rattle.gq_engine.specs.Engines.{database, setting_of, failures_of, budget_of, spent_of, NOTHING_SPENT};
     ghost use Rattle.gq_engine.specs.Carrying.{Carried};
     ghost use Rattle.gq_engine.specs.Databases.{IsKeyed};
-    ghost use Rattle.gq_engine.specs.Runs.{AnsweredAlike, AnsweredAsLists, KeptUnlessDone, FaultsHappened, takes_no_memory};
+    ghost use Rattle.gq_engine.specs.Runs.{AnsweredAlike, AnsweredAsLists, KeptUnlessDone, FaultsHappened, SameTables, takes_no_memory};
     ghost use Rattle.gq_engine.specs.Spending.{Spends};
+    ghost use Rattle.gq_engine.specs.Staging.{HasLoaded, HasPut};
+    ghost use Rattle.gq_engine.specs.Steps.{load_table};
 
     /// An engine without tables, whose keys will be hashed by `hasher`.
     pub fn new(alloc: Global, hasher: H, store: S, budget: Budget, limits: Limits) -> Engine<H, S>
@@ -112,6 +118,35 @@ impl<H: KeyHash<Key> + Copy, S: RunStore> Engine<H, S> {
             Ok(reply) => reply,
             Err(refused) => Reply::told(refused),
         }
+    }
+
+    /// Puts the rows of a CSV text into the table of a name, all or none, and returns how many they
+    /// are, as a `load` command does with the text as its payload. The text may be longer than a
+    /// payload: it is read piece by piece, and never held whole. After a fault the tables are as before.
+    pub fn load_csv<R: Read + Drop>(
+        &mut self,
+        name: &str,
+        text: R,
+        short: Short,
+    ) -> Result<u64, CsvFault>
+        // Where the text's bytes are known: what the steps of a load of them come to.
+        ensures loaded { IfSome (R.remaining text) (λ bytes. HasLoaded
+            (load_table short (setting_of S.runs self.old).limits (database self.old) name.now (payload.Bytes bytes))
+            result (database self.old) (database self.new)) }
+        // Always: only rows that are put into the table of that name change the tables.
+        ensures put { IfOk result (λ count. HasPut (setting_of S.runs self.old).limits (database self.old)
+            name.now count (database self.new)) }
+        ensures kept { OnErr result (SameTables (database self.old) (database self.new)) }
+        ensures setting { setting_of S.runs self.new ≡ setting_of S.runs self.old }
+        ensures failures { failures_of S.runs self.new ≡ failures_of S.runs self.old }
+        ensures budget { budget_of self.new ≡ budget_of self.old }
+        ensures spent { spent_of self.new ≡ spent_of self.old }
+    {
+        let (alloc, limits) = (self.alloc, &self.limits);
+        let (staged, count) = stage_text(alloc, &self.catalog, name, text, short, limits)?;
+        let _keyed = self.tables();
+        self.catalog.load(name, staged, &self.limits)?;
+        Ok(count)
     }
 
     // One command, step by step.

@@ -34,17 +34,23 @@
 #![tactic(auto)]
 
 mod catalog;
+mod csv_fault;
 mod engine;
 mod grouping;
 mod keys;
 pub mod laws;
+mod output;
 mod payloads;
 mod run;
 mod sending;
 mod showing;
 
+pub use csv_fault::CsvFault;
 pub use engine::Engine;
+pub use gq_format::Format;
 pub use gq_group::{Budget, Spent};
+pub use gq_load::Short;
 pub use gq_reply::{Refusal, Refused, Reply, reply_text};
 pub use gq_spill::{MemStore, RunStore};
+pub use output::Output;
 pub use run::{Fault, Summary};

@@ -1,22 +1,25 @@
 //! The rows that a load's payload gives, in a table of their own, or the refusal that its first
 //! fault is.
-ghost use Rattle.std.specs.Prelude.{◌≡◌, ◌⊎◌, [], Err, IfOk, IfErr, OnOk, IsTrue, false};
+ghost use Rattle.std.specs.Prelude.{◌≡◌, ◌⊎◌, [], Err, IfOk, IfErr, IfSome, OnOk, IsTrue, false, option_map};
 ghost use Rattle.gq_row.specs.Fitting.{fits_columns, has_null};
 ghost use Rattle.gq_table.specs.Changes.{IsPut};
 ghost use Rattle.gq_table.specs.Refusing.{WhyNotPut};
 ghost use Rattle.gq_reply.specs.Refusals.{unnumbered};
 ghost use Rattle.gq_reply.specs.declared.refusal.Refusal.TheVariants.{Memory};
-ghost use Rattle.gq_engine.specs.Loading.{bytes_told, fault_refusal, is_lost, numbered, refused_by, rows_told};
-ghost use Rattle.gq_engine.specs.Staging.{HasStaged, IsStagedFor};
+ghost use Rattle.gq_command.specs.declared.command.Payload.TheVariants as payload;
+ghost use Rattle.gq_engine.specs.Loading.{IsTold, bytes_told, fault_refusal, is_lost, numbered, refused_by, rows_told};
+ghost use Rattle.gq_engine.specs.Staging.{HasStaged, IsStagedFor, IsStagedFrom};
 ghost use Rattle.gq_engine.specs.Steps.{load_table};
 
 use crate::catalog::Catalog;
+use crate::csv_fault::{CsvFault, fault_of_text, refused_in};
 use gq_command::Payload;
-use gq_load::{LoadRefusal, RowReader, line_ends};
+use gq_load::{LoadRefusal, RowReader, Short, line_ends};
 use gq_reply::{Refusal, Refused};
 use gq_row::{Key, Limits, Row, Schema, Sequence};
 use gq_table::{Table, TableRefusal};
 use std::alloc::Global;
+use std::io::Read;
 use sw_probe::KeyHash;
 
 // Whether there was no memory for a payload.
@@ -50,56 +53,75 @@ pub fn stage_for<H: KeyHash<Key> + Copy>(
     ensures staged { IfOk result (λ staged. IsStagedFor limits.now.bounds catalog.now name.now payload
         staged.0 staged.1) }
     ensures refused { IfErr result (λ why. (why ≡ unnumbered Memory)
-        ⊎ (load_table limits.now.bounds catalog.now name.now payload ≡ Err why)) }
+        ⊎ (load_table Short.Refused limits.now.bounds catalog.now name.now payload ≡ Err why)) }
 {
     if is_lost(&payload) {
         return Err(Refused::from(Refusal::Memory));
     }
     let table = catalog.get(name).ok_or(Refusal::NoTable)?;
     let bytes = bytes_of(payload)?;
-    stage(alloc, bytes.as_slice(), table, limits)
+    let lines = line_ends(bytes.as_slice()).min(limits.bounds.rows);
+    match stage(
+        alloc,
+        bytes.as_slice(),
+        Short::Refused,
+        lines,
+        table,
+        limits,
+    ) {
+        Ok(staged) => Ok(staged),
+        Err(fault) => Err(refused_in(fault)),
+    }
 }
 
-// The rows of a payload for a table, put one after the other into a table of their own, and how
-// many they were; or the refusal for the payload's first fault.
-fn stage<H: KeyHash<Key> + Copy>(
+/// The same of a CSV text, from any reader.
+pub fn stage_text<H: KeyHash<Key> + Copy, R: Read + Drop>(
     alloc: Global,
-    bytes: &[u8],
+    catalog: &Catalog<H>,
+    name: &str,
+    text: R,
+    short: Short,
+    limits: &Limits,
+) -> Result<(Table<H>, u64), CsvFault>
+    ensures staged { IfOk result (λ staged. IsStagedFrom short limits.now.bounds catalog.now name.now
+        (R.remaining text) staged.0 staged.1) }
+    ensures fault { IfErr result (λ fault. IsTold (option_map (λ bytes.
+        load_table short limits.now.bounds catalog.now name.now (payload.Bytes bytes)) (R.remaining text)) fault) }
+{
+    match catalog.get(name) {
+        Some(table) => stage(alloc, text, short, 0, table, limits),
+        None => Err(CsvFault::Refused(Refused::from(Refusal::NoTable))),
+    }
+}
+
+// The rows of a text for a table, put one after the other into a table of their own, and how
+// many they were; or the first fault. The text has about so many lines; 0 where that is unknown.
+fn stage<H: KeyHash<Key> + Copy, R: Read + Drop>(
+    alloc: Global,
+    text: R,
+    short: Short,
+    lines: usize,
     table: &Table<H>,
     limits: &Limits,
-) -> Result<(Table<H>, u64), Refused>
-    ensures staged { IfOk result (λ staged. HasStaged (rows_told limits.now.bounds table.now.heading
-        bytes.now) table.now.heading staged.0 staged.1) }
-    ensures refused { IfErr result (λ why. (why ≡ unnumbered Memory)
-        ⊎ (rows_told limits.now.bounds table.now.heading bytes.now ≡ Err why)) }
+) -> Result<(Table<H>, u64), CsvFault>
+    ensures staged { IfOk result (λ staged. HasStaged (option_map
+        (rows_told short limits.now.bounds table.now.heading) (R.remaining text))
+        table.now.heading staged.0 staged.1) }
+    ensures fault { IfErr result (λ fault. IsTold (option_map
+        (rows_told short limits.now.bounds table.now.heading) (R.remaining text)) fault) }
 {
     // It grows as keys come, as records may share theirs: rows that lie close are found faster.
-    let mut staged = table.new_like()?;
-    let count = stage_all(alloc, bytes, table.schema(), &mut staged, limits)?;
-    Ok((staged, count))
-}
-
-// Puts the rows of a payload into a table of this schema that has none, and answers how many they were.
-fn stage_all<H: KeyHash<Key> + Copy>(
-    alloc: Global,
-    bytes: &[u8],
-    schema: &Schema,
-    staged: &mut Table<H>,
-    limits: &Limits,
-) -> Result<u64, Refused>
-    requires heading { staged.old.heading ≡ schema.now }
-    requires empty { staged.old.rows ≡ [] }
-    ensures staged { IfOk result (λ count. HasStaged (rows_told limits.now.bounds schema.now bytes.now)
-        schema.now staged.new count) }
-    ensures refused { IfErr result (λ why. (why ≡ unnumbered Memory)
-        ⊎ (rows_told limits.now.bounds schema.now bytes.now ≡ Err why)) }
-{
-    let mut reader = match RowReader::new(alloc, bytes, schema, limits) {
-        Ok(reader) => reader,
-        Err(fault) => return Err(refused_by(fault)),
+    let Ok(mut staged) = table.new_like() else {
+        return Err(CsvFault::Refused(Refused::from(Refusal::Memory)));
     };
-    let lines = line_ends(bytes).min(limits.bounds.rows);
-    stage_rows(alloc, &mut reader, staged, lines, limits)
+    let mut reader = match RowReader::new(alloc, text, short, table.schema(), limits) {
+        Ok(reader) => reader,
+        Err(fault) => return Err(fault_of_text(fault)),
+    };
+    match stage_rows(alloc, &mut reader, &mut staged, lines, limits) {
+        Ok(count) => Ok((staged, count)),
+        Err(fault) => Err(fault),
+    }
 }
 
 // Makes room for all lines of a payload where an eighth of them are read and hardly one of their rows
@@ -140,37 +162,36 @@ fn put_row<H: KeyHash<Key> + Copy>(
 // limit, so a row is refused for want of memory alone. A row that replaces another gives way to it,
 // and the memory of the row that was replaced is used for the next, as is that of a row whose cells
 // moved into a list.
-fn stage_rows<H: KeyHash<Key> + Copy>(
+fn stage_rows<H: KeyHash<Key> + Copy, R: Read + Drop>(
     alloc: Global,
-    reader: &mut RowReader<'_>,
+    reader: &mut RowReader<'_, R>,
     staged: &mut Table<H>,
     lines: usize,
     limits: &Limits,
-) -> Result<u64, Refused>
+) -> Result<u64, CsvFault>
     requires heading { reader.old.heading ≡ staged.old.heading }
     requires empty { staged.old.rows ≡ [] }
     ensures staged { IfOk result (λ count.
-        HasStaged (refused_by reader.old.rows) staged.old.heading staged.new count) }
-    ensures refused { IfErr result (λ why. (why ≡ unnumbered Memory)
-        ⊎ (refused_by reader.old.rows ≡ Err why)) }
+        HasStaged (option_map refused_by reader.old.rows) staged.old.heading staged.new count) }
+    ensures fault { IfErr result (λ fault. IsTold (option_map refused_by reader.old.rows) fault) }
 {
     let mut row = Row::new(Vec::new(alloc));
     for count in 0..u64::MAX {
         match reader.read(&mut row) {
-            Err(fault) => return Err(refused_by(fault)),
+            Err(fault) => return Err(fault_of_text(fault)),
             Ok(false) => return Ok(count),
             Ok(true) => {
                 if put_row(staged, &mut row, count, lines, limits).is_err() {
-                    return Err(Refused::from(Refusal::Memory));
+                    return Err(CsvFault::Refused(Refused::from(Refusal::Memory)));
                 }
             }
         }
     }
-    Err(Refused::from(Refusal::Memory))
+    Err(CsvFault::Refused(Refused::from(Refusal::Memory)))
 }
 
 // The refusal for a payload's fault, with the number of the faulty record where there is one.
-fn refused_by(fault: LoadRefusal) -> Refused
+pub(crate) fn refused_by(fault: LoadRefusal) -> Refused
     ensures { result ≡ fault_refusal fault }
 {
     match fault {

@@ -2,18 +2,20 @@
 ghost use Rattle.std.specs.Prelude.{◌≡◌, ◌+◌, ◌<◌, ◌≤◌, ◌∷◌, ◌^◌, [], if◌then◌else◌, IfSome, IfNone, IfErr, OnOk};
 ghost use Rattle.std.specs.Io.KnownBytes.{Appends};
 ghost use Rattle.gq_command.specs.Items.{IsReady};
-ghost use Rattle.gq_reply.specs.Replies.{text, IsLine, is_refusal};
+ghost use Rattle.gq_reply.specs.Replies.{IsLine, is_refusal};
+ghost use Rattle.gq_engine.specs.Outputs.{IsResultIn, is_result, text_as};
 ghost use Rattle.gq_engine.specs.Sending.{AppendsFront};
 ghost use Rattle.gq_engine.specs.Steps.{line_refusal};
 
 use crate::engine::Engine;
+use crate::output::{Complaints, Output, had_result, result_in, send_between, send_line};
 use crate::sending::{WriteFault, send};
 use gq_command::{CommandReader, Item, LineRefusal, ReadFault};
-use gq_reply::{Refusal, Reply, line_of, rows_text};
+use gq_reply::{Refusal, Reply};
 use gq_row::Key;
 use gq_spill::RunStore;
 use std::alloc::AllocError;
-use std::io::{Read, Write};
+use std::io::{Read, Write, sink};
 use sw_probe::KeyHash;
 use thiserror::Error;
 
@@ -57,8 +59,9 @@ impl<H: KeyHash<Key> + Copy, S: RunStore> Engine<H, S> {
     ghost use Rattle.gq_command.specs.Items.{IsReady};
     ghost use Rattle.gq_engine.specs.Engines.{database, failures_of, setting_of, budget_of, state_of};
     ghost use Rattle.gq_engine.specs.Headline.{Ran};
+    ghost use Rattle.gq_engine.specs.Outputs.{IsResultIn, RanAs};
     ghost use Rattle.gq_engine.specs.Serving.{Served};
-    ghost use Rattle.gq_reply.specs.Replies.{text, IsLine};
+    ghost use Rattle.gq_reply.specs.Replies.{IsLine};
     ghost use Rattle.gq_engine.specs.Runs.{AnsweredAlike, FaultsHappened, KeptUnlessDone};
 
     /// Answers the items of a script, one after the other, and writes each reply and flushes. A
@@ -75,8 +78,34 @@ impl<H: KeyHash<Key> + Copy, S: RunStore> Engine<H, S> {
         ensures setting { setting_of S.runs self.new ≡ setting_of S.runs self.old }
         ensures budget { budget_of self.new ≡ budget_of self.old }
     {
+        self.run_as(Output::Replies, reader, writer, &mut sink())
+    }
+
+    /// Answers the items of a script like [`Engine::run`], and writes of each reply what an output
+    /// has of it: all of it, or a query's result. Then what is refused is told to `errors`, with the
+    /// number of its line; a fault there ends that, and not the run.
+    pub fn run_as<R: Read + Drop, W: Write, E: Write>(
+        &mut self,
+        output: Output,
+        reader: R,
+        writer: &mut W,
+        errors: &mut E,
+    ) -> Result<Summary, Fault>
+        ensures ran { RanAs output (setting_of S.runs self.old) (state_of S.runs self.old) (R.remaining reader)
+            (state_of S.runs self.new) (W.contents writer.old) (W.contents writer.new)
+            (E.contents errors.old) (E.contents errors.new) result }
+        // Where replies are written, nothing is told.
+        ensures quiet { output ≡ Output.Replies → errors.new ≡ errors.old }
+        ensures setting { setting_of S.runs self.new ≡ setting_of S.runs self.old }
+        ensures budget { budget_of self.new ≡ budget_of self.old }
+    {
         let _tables = self.tables();
         let mut script = CommandReader::new(reader);
+        let mut earlier = false;
+        let mut complaints = Complaints {
+            output,
+            is_open: true,
+        };
         let mut summary = Summary {
             commands: 0,
             refused: 0,
@@ -87,24 +116,34 @@ impl<H: KeyHash<Key> + Copy, S: RunStore> Engine<H, S> {
                 Ok(None) => return Ok(summary),
                 Err(ReadFault) => return Err(Fault::Read),
             };
-            match self.serve(item, writer) {
-                Ok(reply) => summary.add(&reply),
+            match self.serve(output, earlier, item, writer) {
+                Ok(reply) => {
+                    summary.add(&reply);
+                    complaints.tell(script.line(), &reply, errors);
+                    earlier = had_result(earlier, &reply);
+                }
                 Err(WriteFault) => return Err(Fault::Write),
             }
         }
         Err(Fault::Read)
     }
 
-    // Answers one item and writes the reply.
-    fn serve<W: Write>(&mut self, item: Item, writer: &mut W) -> Result<Reply, WriteFault>
+    // Answers one item and writes what the output has of the reply.
+    fn serve<W: Write>(
+        &mut self,
+        output: Output,
+        earlier: bool,
+        item: Item,
+        writer: &mut W,
+    ) -> Result<Reply, WriteFault>
         requires { IsReady (setting_of S.runs self.old).limits item }
-        ensures served { Served (setting_of S.runs self.old) (state_of S.runs self.old) item (state_of S.runs self.new)
+        ensures served { Served output earlier (setting_of S.runs self.old) (state_of S.runs self.old) item (state_of S.runs self.new)
             (W.contents writer.old) (W.contents writer.new) result }
         ensures setting { setting_of S.runs self.new ≡ setting_of S.runs self.old }
         ensures budget { budget_of self.new ≡ budget_of self.old }
     {
-        let (reply, text) = self.answer(item);
-        send_reply(writer, &reply, text)?;
+        let (reply, text) = self.answer(output, item);
+        send_reply(writer, output, earlier, &reply, text)?;
         Ok(reply)
     }
 
@@ -125,8 +164,8 @@ impl<H: KeyHash<Key> + Copy, S: RunStore> Engine<H, S> {
         }
     }
 
-    // The reply to an item, and its text where that needs memory.
-    fn answer(&mut self, item: Item) -> (Reply, Option<Vec<u8>>)
+    // The reply to an item, and the text of a result.
+    fn answer(&mut self, output: Output, item: Item) -> (Reply, Option<Vec<u8>>)
         requires { IsReady (setting_of S.runs self.old).limits item }
         ensures legal { AnsweredAlike (setting_of S.runs self.old) (database self.old) item result.0
             (database self.new) }
@@ -134,35 +173,40 @@ impl<H: KeyHash<Key> + Copy, S: RunStore> Engine<H, S> {
             (failures_of S.runs self.new) }
         ensures setting { setting_of S.runs self.new ≡ setting_of S.runs self.old }
         ensures budget { budget_of self.new ≡ budget_of self.old }
-        ensures text { IfSome result.1 (λ bytes. bytes.items ≡ text result.0) }
+        ensures text { IfSome result.1 (λ bytes. IsResultIn output result.0 bytes.items) }
         ensures line { IfNone result.1 (IsLine result.0) }
     {
         let reply = self.reply_to(item);
         match &reply {
-            Reply::Rows { header, rows } => match rows_text(self.alloc(), header, rows) {
+            Reply::Rows { header, rows } => match result_in(self.alloc(), output, header, rows) {
                 Ok(text) => (reply, Some(text)),
                 Err(AllocError) => (Reply::refused(Refusal::Memory), None),
             },
-            _ => (reply, None),
+            Reply::Done(_) | Reply::Refused { code: _, number: _ } => (reply, None),
         }
     }
 }
 
-// Writes a reply, whose text is made where that needs memory.
+// Writes what the output has of a reply, of which a result's text is made.
 fn send_reply<W: Write>(
     writer: &mut W,
+    output: Output,
+    earlier: bool,
     reply: &Reply,
     made: Option<Vec<u8>>,
 ) -> Result<(), WriteFault>
-    requires made { IfSome made (λ bytes. bytes.items ≡ text reply.now) }
+    requires made { IfSome made (λ bytes. IsResultIn output reply.now bytes.items) }
     requires line { IfNone made (IsLine reply.now) }
-    ensures ok { OnOk result (Appends (W.contents writer.old) (W.contents writer.new) (text reply.now)) }
+    ensures ok { OnOk result (Appends (W.contents writer.old) (W.contents writer.new) (text_as output earlier reply.now)) }
     ensures err { IfErr result (λ _. AppendsFront (W.contents writer.old) (W.contents writer.new)
-        (text reply.now)) }
+        (text_as output earlier reply.now)) }
 {
     match made {
-        Some(text) => send(writer, text.as_slice()),
-        None => send(writer, line_of(reply).as_slice()),
+        Some(text) => {
+            send_between(writer, output, earlier)?;
+            send(writer, text.as_slice())
+        }
+        None => send_line(writer, output, reply),
     }
 }
 

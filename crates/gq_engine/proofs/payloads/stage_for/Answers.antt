@@ -5,6 +5,7 @@ use Rattle.gq_reply.specs.declared.refusal.Refusal.TheVariants.{NoTable}
 use Rattle.gq_reply.specs.declared.refusal.Refused.{Refused}
 use Rattle.gq_reply.specs.Refusals.{unnumbered}
 use Rattle.gq_reply.proofs.StepLemmas.{missed}
+use Rattle.gq_load.specs.declared.short_records.Short.TheVariants as short
 use Rattle.gq_engine.specs.Databases.{table_at}
 use Rattle.gq_engine.proofs.FormLemmas.{load_none, load_untold, load_faulted}
 use Rattle.gq_engine.proofs.payloads.stage_for.Goals as goal
@@ -16,35 +17,12 @@ pub returns-in_err-table-clause-refused : goal.returns-in_err-table-clause-refus
 returns-in_err-table-clause-refused g c =
     let p = err_from_is_err_and c.from_residual.result c.from_residual.ensures.1 in
     let m = missed c.get.result c.in_err-table.field-0.0 NoTable c.in_err-table.ensures.value in
-    rw p.1 (inr (load_none c.args.limits.now.bounds c.args.catalog.now c.args.name.now c.args.payload (sym c.is_lost.ensures ∙ c.if-is_lost.false) (search rules) ∙ sym (ap Err (p.2 ∙ ap unnumbered m.1))))
+    rw p.1 (inr (load_none short.Refused c.args.limits.now.bounds c.args.catalog.now c.args.name.now c.args.payload (sym c.is_lost.ensures ∙ c.if-is_lost.false) (search rules) ∙ sym (ap Err (p.2 ∙ ap unnumbered m.1))))
 
 pub returns-in_err-bytes-clause-refused : goal.returns-in_err-bytes-clause-refused
 returns-in_err-bytes-clause-refused g c =
     let db = c.args.catalog.now in
     let found : table_at db c.args.name.now ≡ Some c.in_ok-table.table.now = search rules in
     let p = err_from_is_err_and c.from_residual-in_err-bytes.result c.from_residual-in_err-bytes.ensures.1 in
-    rw p.1 (inr (load_untold c.args.limits.now.bounds db c.args.name.now c.in_ok-table.table.now found c.args.payload p.0 (sym c.is_lost.ensures ∙ c.if-is_lost.false)
+    rw p.1 (inr (load_untold short.Refused c.args.limits.now.bounds db c.args.name.now c.in_ok-table.table.now found c.args.payload p.0 (sym c.is_lost.ensures ∙ c.if-is_lost.false)
     (sym c.in_err-bytes.ensures ∙ ap (λ (w : Refused). Err w) (sym p.2))))
-
-pub returns-clause-staged : goal.returns-clause-staged
-returns-clause-staged g c =
-    let db = c.args.catalog.now in
-    let found : table_at db c.args.name.now ≡ Some c.in_ok-table.table.now = search rules in
-    IfOk-weaker c.stage.result _ _
-    (λ own staged. record {
-      table = c.in_ok-table.table.now;
-      bytes = c.in_ok-bytes.bytes;
-      found = found;
-      carried = sym c.is_lost.ensures ∙ c.if-is_lost.false;
-      told = sym c.in_ok-bytes.ensures;
-      staged = staged;
-    })
-    (rw c.as_slice.ensures at c.stage.ensures.staged)
-
-pub returns-clause-refused : goal.returns-clause-refused
-returns-clause-refused g c =
-    let db = c.args.catalog.now in
-    let found : table_at db c.args.name.now ≡ Some c.in_ok-table.table.now = search rules in
-    IfErr-weaker c.stage.result _ _
-    (λ why faulted. load_faulted c.args.limits.now.bounds db c.args.name.now c.in_ok-table.table.now found c.args.payload c.in_ok-bytes.bytes why (sym c.is_lost.ensures ∙ c.if-is_lost.false) (sym c.in_ok-bytes.ensures) faulted)
-    (rw c.as_slice.ensures at c.stage.ensures.refused)

@@ -1,0 +1,135 @@
+-- Texts and complaints with one reply more, and what streams have of them.
+use Rattle.std.proofs.Common.{◌≡◌, ℕ, Bool, true, false, List, [], ◌∷◌, ◌++◌, length, Option, Some, None, Result, Ok, Err, refl, sym, ap, ◌∙◌, subst, append_assoc, ◌+◌, arith}
+use Rattle.std.specs.Prelude.{◌||◌, ⊤, flat_map}
+use Rattle.std.specs.List.{list_any}
+use Rattle.std.specs.Io.KnownBytes.{Appends}
+use Rattle.std.proofs.Math.Bool.{or_assoc}
+use Rattle.std.proofs.lemmas.List.{append-nil}
+use Rattle.std.proofs.lemmas.List.Folds.{list_any-append}
+use Rattle.gq_command.specs.Commands.{Bytes}
+use Rattle.gq_command.specs.Script.{Entry}
+use Rattle.gq_reply.specs.declared.reply.Reply.{Reply}
+use Rattle.gq_reply.specs.declared.reply.Reply.TheVariants as reply
+use Rattle.gq_reply.specs.Replies.{text}
+use Rattle.gq_engine.specs.declared.output.Output.{Output}
+use Rattle.gq_engine.specs.declared.output.Output.TheVariants.{Replies, Results}
+use Rattle.gq_engine.specs.declared.run.Summary.{Summary}
+use Rattle.gq_engine.specs.declared.run.Fault.{Fault}
+use Rattle.gq_engine.specs.declared.run.Fault.TheVariants as fault
+use Rattle.gq_engine.specs.Headline.{Answered, Ran, State}
+use Rattle.gq_engine.specs.Outputs.{IsResultIn, RanAs, RanInto, TellsOn, between, complaint, complaints, is_result, result_in, text_as, texts, texts_after}
+use Rattle.gq_engine.specs.Runs.{Setting}
+use Rattle.gq_engine.specs.Sending.{AppendsFront}
+use Rattle.gq_reply.proofs.Texts.{flat_map-push}
+use Rattle.gq_engine.proofs.Bytes.{appends_more, appends_nothing}
+
+or_false : (b : Bool) → (b || false) ≡ b
+or_false true = refl
+or_false false = refl
+
+pub any_push : (rs : List Reply) (r : Reply) → list_any is_result (rs ++ r ∷ []) ≡ (list_any is_result rs || is_result r)
+any_push rs r = list_any-append is_result rs (r ∷ []) ∙ ap (λ b. list_any is_result rs || b) (or_false (is_result r))
+
+texts_more : (output : Output) (earlier : Bool) (rs : List Reply) (r : Reply) → texts_after output earlier (rs ++ r ∷ []) ≡ texts_after output earlier rs ++ text_as output (earlier || list_any is_result rs) r
+texts_more output earlier [] r = append-nil (text_as output earlier r) ∙ ap (λ b. text_as output b r) (sym (or_false earlier))
+texts_more output earlier (x ∷ xs) r =
+    ap (λ l. text_as output earlier x ++ l) (texts_more output (earlier || is_result x) xs r ∙ ap (λ b. texts_after output (earlier || is_result x) xs ++ text_as output b r) (or_assoc earlier (is_result x) (list_any is_result xs)))
+    ∙ sym (append_assoc (text_as output earlier x) (texts_after output (earlier || is_result x) xs) (text_as output (earlier || (is_result x || list_any is_result xs)) r))
+
+pub texts_push : (output : Output) (rs : List Reply) (r : Reply) → texts output (rs ++ r ∷ []) ≡ texts output rs ++ text_as output (list_any is_result rs) r
+texts_push output rs r = texts_more output false rs r
+
+pub complaints_push : (output : Output) (lines : List ℕ) (line : ℕ) (rs : List Reply) (r : Reply) → length lines ≡ length rs → complaints output (lines ++ line ∷ []) (rs ++ r ∷ []) ≡ complaints output lines rs ++ complaint output line r
+complaints_push output [] line [] r e = append-nil (complaint output line r)
+complaints_push output [] line (x ∷ xs) r e = absurd (omega (arith, e))
+complaints_push output (n ∷ ns) line [] r e = absurd (omega (arith, e))
+complaints_push output (n ∷ ns) line (x ∷ xs) r e =
+    ap (λ l. complaint output n x ++ l) (complaints_push output ns line xs r (omega (arith, e))) ∙ sym (append_assoc (complaint output n x) (complaints output ns xs) (complaint output line r))
+
+-- a stream has all of the bytes while it takes them, and a front once it has failed
+abbrev pub Told : Bool → Option Bytes → Option Bytes → Bytes → Type 0
+Told true before after bytes = Appends before after bytes
+Told false before after bytes = AppendsFront before after bytes
+
+pub told_nothing : (a : Option Bytes) → Told true a a []
+told_nothing a = appends_nothing a
+
+pub front_longer : (a b : Option Bytes) (x y : Bytes) → AppendsFront a b x → AppendsFront a b (x ++ y)
+front_longer a b x y h = record { front = h.front; rest = h.rest ++ y; is = ap (λ l. l ++ y) h.is ∙ append_assoc h.front h.rest y; appends = h.appends }
+
+pub whole_front : (a b : Option Bytes) (x : Bytes) → Appends a b x → AppendsFront a b x
+whole_front a b x h = record { front = x; rest = []; is = sym (append-nil x); appends = h }
+
+pub front_after : (a b c : Option Bytes) (x y : Bytes) → Appends a b x → AppendsFront b c y → AppendsFront a c (x ++ y)
+front_after a b c x y h k = record { front = x ++ k.front; rest = k.rest; is = ap (λ l. x ++ l) k.is ∙ sym (append_assoc x k.front k.rest); appends = appends_more a b c x k.front h k.appends }
+
+-- a result's text after what comes before it, of which a front was written, or all of the one and a front of the other
+pub result_front : (output : Output) (earlier : Bool) (r : Reply) (a b : Option Bytes) (bytes : Bytes) → IsResultIn output r bytes → AppendsFront a b (between output earlier) → AppendsFront a b (text_as output earlier r)
+result_front output earlier (reply.Done n) a b bytes is h = absurd is
+result_front output earlier (reply.Rows header rows) a b bytes is h = front_longer a b (between output earlier) (result_in output header rows) h
+result_front output earlier (reply.Refused why number) a b bytes is h = absurd is
+
+pub result_cut : (output : Output) (earlier : Bool) (r : Reply) (a b c : Option Bytes) (bytes : Bytes) → IsResultIn output r bytes → Appends a b (between output earlier) → AppendsFront b c bytes → AppendsFront a c (text_as output earlier r)
+result_cut output earlier (reply.Done n) a b c bytes is h k = absurd is
+result_cut output earlier (reply.Rows header rows) a b c bytes is h k = let P : Bytes → Type 0 = λ l. AppendsFront a c (between output earlier ++ l) in subst P is (front_after a b c (between output earlier) bytes h k)
+result_cut output earlier (reply.Refused why number) a b c bytes is h k = absurd is
+
+pub told_as_front : (is_open : Bool) (a b : Option Bytes) (x : Bytes) → Told is_open a b x → AppendsFront a b x
+told_as_front true a b x h = whole_front a b x h
+told_as_front false a b x h = h
+
+pub told_more : (is_open is_open' : Bool) (a b c : Option Bytes) (x y : Bytes) → Told is_open a b x → TellsOn is_open is_open' b c y → Told is_open' a c (x ++ y)
+told_more true true a b c x y h k = appends_more a b c x y h k
+told_more true false a b c x y h k = front_after a b c x y h k
+told_more false true a b c x y h k = absurd k
+told_more false false a b c x y h k = let P : Option Bytes → Type 0 = λ o. AppendsFront a o (x ++ y) in subst P (sym k) (front_longer a b x y h)
+
+-- replies as they are bring their texts
+plain : (earlier : Bool) (r : Reply) → text_as Replies earlier r ≡ text r
+plain earlier (reply.Done n) = refl
+plain earlier (reply.Rows header rows) = refl
+plain earlier (reply.Refused why number) = refl
+
+plain_after : (earlier : Bool) (rs : List Reply) → texts_after Replies earlier rs ≡ flat_map text rs
+plain_after earlier [] = refl
+plain_after earlier (r ∷ rs) = ap (λ l. l ++ texts_after Replies (earlier || is_result r) rs) (plain earlier r) ∙ ap (λ l. text r ++ l) (plain_after (earlier || is_result r) rs)
+
+-- a run that writes replies as they are
+pub ran_plainly : (setting : Setting) (old : State) (script : Option Bytes) (new : State) (before after errors told : Option Bytes) (ended : Result Summary Fault) → RanAs Replies setting old script new before after errors told ended → Ran setting old script new before after ended
+ran_plainly setting old None new before after errors told ended h = tt
+ran_plainly setting old (Some script) new before after errors told (Ok summary) h =
+    let Q : List Entry → Type 0 = λ entries. Answered setting old entries new h.replies in
+    let P : Bytes → Type 0 = λ l. Appends before after l in
+    record {
+      within = h.ends.within;
+      replies = h.replies;
+      answered = subst Q (sym (h.first ∙ ap (λ l. h.done ++ l) h.ends.nothing_left ∙ append-nil h.done)) h.answered;
+      written = subst P (plain_after false h.replies) h.wrote;
+      commands = h.ends.commands;
+      refused = h.ends.refused;
+    }
+ran_plainly setting old (Some script) new before after errors told (Err fault.Read) h =
+    let P : Bytes → Type 0 = λ l. Appends before after l in
+    record {
+      done = h.done;
+      left = h.left;
+      first = h.first;
+      replies = h.replies;
+      answered = h.answered;
+      written = subst P (plain_after false h.replies) h.wrote;
+    }
+ran_plainly setting old (Some script) new before after errors told (Err fault.Write) h =
+    let P : Bytes → Type 0 = λ l. Appends before after (l ++ h.wrote.front) in
+    let A : List Reply → Type 0 = λ l. Answered setting old h.done new l in
+    record {
+      done = h.done;
+      left = h.left;
+      first = h.first;
+      replies = h.wrote.first;
+      last = h.wrote.last;
+      answered = subst A h.wrote.is h.answered;
+      front = h.wrote.front;
+      rest = h.wrote.rest;
+      cut = sym (plain (list_any is_result h.wrote.first) h.wrote.last) ∙ h.wrote.cut;
+      written = subst P (plain_after false h.wrote.first) h.wrote.written;
+    }

@@ -1,0 +1,125 @@
+-- What a run writes of its replies: to the standard output their texts in an output, and to the standard error what is said of refusals.
+use Rattle.std.specs.Prelude.{◌≡◌, ◌≤◌, ⊤, ℕ, Bool, true, false, ◌||◌, List, [], ◌∷◌, ◌++◌, length, count_by, if◌then◌else◌, Option, Some, None, Result, Ok, Err}
+use Rattle.std.specs.List.{list_any}
+use Rattle.std.specs.Io.KnownBytes.{Appends}
+use Rattle.gq_row.specs.declared.value.Value.{Value}
+use Rattle.gq_command.specs.Commands.{Bytes}
+use Rattle.gq_command.specs.Script.{Entry, items}
+use Rattle.gq_reply.specs.declared.reply.Reply.{Reply}
+use Rattle.gq_reply.specs.declared.reply.Reply.TheVariants as reply
+use Rattle.gq_reply.specs.Replies.{text, is_refusal}
+use Rattle.gq_format.specs.Formats.{result_text, separator_of}
+use Rattle.gq_format.specs.Refusals.{refusal_text}
+use Rattle.gq_engine.specs.declared.output.Output.{Output}
+use Rattle.gq_engine.specs.declared.output.Output.TheVariants.{Replies, Results}
+use Rattle.gq_engine.specs.declared.run.Summary.{Summary}
+use Rattle.gq_engine.specs.declared.run.Fault.{Fault}
+use Rattle.gq_engine.specs.declared.run.Fault.TheVariants as fault
+use Rattle.gq_engine.specs.Headline.{Answered, State}
+use Rattle.gq_engine.specs.Runs.{Setting}
+use Rattle.gq_engine.specs.Sending.{AppendsFront}
+
+abbrev pub is_result : Reply → Bool
+is_result (reply.Done n) = false
+is_result (reply.Rows header rows) = true
+is_result (reply.Refused why number) = false
+
+-- what comes before a result, if another came earlier
+abbrev pub between : Output → Bool → Bytes
+between Replies earlier = []
+between (Results format) earlier = if earlier then separator_of format else []
+
+-- a result in an output
+abbrev pub result_in : Output → List Bytes → List (List Value) → Bytes
+result_in Replies header rows = text (reply.Rows header rows)
+result_in (Results format) header rows = result_text format header rows
+
+-- the reply is a result with this text
+abbrev pub IsResultIn : Output → Reply → Bytes → Type 0
+IsResultIn output (reply.Done n) bytes = ⊥
+IsResultIn output (reply.Rows header rows) bytes = bytes ≡ result_in output header rows
+IsResultIn output (reply.Refused why number) bytes = ⊥
+
+-- a reply that is no result: its line, or nothing
+abbrev pub line_in : Output → Reply → Bytes
+line_in Replies r = text r
+line_in (Results format) r = []
+
+-- what a reply brings to the standard output
+abbrev pub text_as : Output → Bool → Reply → Bytes
+text_as output earlier (reply.Done n) = line_in output (reply.Done n)
+text_as output earlier (reply.Rows header rows) = between output earlier ++ result_in output header rows
+text_as output earlier (reply.Refused why number) = line_in output (reply.Refused why number)
+
+-- what replies bring to it, one after the other
+abbrev pub texts_after : Output → Bool → List Reply → Bytes
+texts_after output earlier [] = []
+texts_after output earlier (r ∷ rs) = text_as output earlier r ++ texts_after output (earlier || is_result r) rs
+
+abbrev pub texts : Output → List Reply → Bytes
+texts output replies = texts_after output false replies
+
+-- what the standard error is told of the reply to the command on a line
+abbrev pub complaint : Output → ℕ → Reply → Bytes
+complaint Replies line r = []
+complaint (Results format) line (reply.Done n) = []
+complaint (Results format) line (reply.Rows header rows) = []
+complaint (Results format) line (reply.Refused why number) = refusal_text line why number
+
+-- what it is told of replies to commands on these lines
+abbrev pub complaints : Output → List ℕ → List Reply → Bytes
+complaints output [] replies = []
+complaints output (line ∷ lines) [] = []
+complaints output (line ∷ lines) (r ∷ rs) = complaint output line r ++ complaints output lines rs
+
+-- all texts were written but for the last, and a front of that
+pub record WroteInPart (output : Output) (replies : List Reply) (before after : Option Bytes) : Type 0 where
+  pub first : List Reply
+  pub last : Reply
+  pub is : replies ≡ first ++ last ∷ []
+  pub front : Bytes
+  pub rest : Bytes
+  pub cut : text_as output (list_any is_result first) last ≡ front ++ rest
+  pub written : Appends before after (texts output first ++ front)
+
+-- all texts were written, where no write failed
+abbrev pub WroteTexts : Output → List Reply → Option Bytes → Option Bytes → Result Summary Fault → Type 0
+WroteTexts output replies before after (Ok summary) = Appends before after (texts output replies)
+WroteTexts output replies before after (Err fault.Read) = Appends before after (texts output replies)
+WroteTexts output replies before after (Err fault.Write) = WroteInPart output replies before after
+
+-- a run that came to the end of a script within the limit left nothing, and counted its replies
+pub record CameToEnd (setting : Setting) (script : Bytes) (left : List Entry) (replies : List Reply) (summary : Summary) : Type 0 where
+  pub within : length script ≤ setting.limits.script
+  pub nothing_left : left ≡ []
+  pub commands : summary.commands ≡ length replies
+  pub refused : summary.refused ≡ count_by is_refusal replies
+
+abbrev pub Ends : Setting → Bytes → List Entry → List Reply → Result Summary Fault → Type 0
+Ends setting script left replies (Ok summary) = CameToEnd setting script left replies summary
+Ends setting script left replies (Err why) = ⊤
+
+-- Some first items of the script were answered, their texts written, and the refusals among them told with the numbers of some lines, as far as the standard error took it; where no fault came, all items.
+pub record RanInto (output : Output) (setting : Setting) (old : State) (script : Bytes) (new : State) (before after errors told : Option Bytes) (ended : Result Summary Fault) : Type 0 where
+  pub done : List Entry
+  pub left : List Entry
+  pub first : items setting.limits script ≡ done ++ left
+  pub replies : List Reply
+  pub answered : Answered setting old done new replies
+  pub wrote : WroteTexts output replies before after ended
+  pub lines : List ℕ
+  pub numbered : length lines ≡ length replies
+  pub complained : AppendsFront errors told (complaints output lines replies)
+  pub ends : Ends setting script left replies ended
+
+-- the same where the script's bytes are known
+abbrev pub RanAs : Output → Setting → State → Option Bytes → State → Option Bytes → Option Bytes → Option Bytes → Option Bytes → Result Summary Fault → Type 0
+RanAs output setting old None new before after errors told ended = ⊤
+RanAs output setting old (Some script) new before after errors told ended = RanInto output setting old script new before after errors told ended
+
+-- bytes were sent to a stream that takes them or has failed, and then takes nothing more
+abbrev pub TellsOn : Bool → Bool → Option Bytes → Option Bytes → Bytes → Type 0
+TellsOn true true before after bytes = Appends before after bytes
+TellsOn true false before after bytes = AppendsFront before after bytes
+TellsOn false true before after bytes = ⊥
+TellsOn false false before after bytes = after ≡ before
