@@ -47,7 +47,6 @@ budget-waits = record {
   value = λ plain. value-turns plain refl;
   settles = λ {rows} {text} new is. record { faultless = rw (new, same-test text ∙ is) refl; put_in = refl };
   refused = λ text is. rw (same-test text ∙ is) refl;
-  again = λ one two. refl;
 }
 
 -- `--budget=N`
@@ -70,9 +69,9 @@ takes-one-budget = record {
   joined_no_budget = λ name text more is. rw (same-test text ∙ is) refl;
   below_zero = λ name more. refl;
   without_value = λ name. refl;
-  twice = λ name one two is. twice-refused budget-waits name one two is (budget-plain one is);
-  seed_first = λ name seed budget is_s is_b. both-words name (seed-puts seed) (budget-puts budget is_b) refl (asks-number seed is_s refl refl);
-  budget_first = λ name seed budget is_s is_b. both-words name (budget-puts budget is_b) (seed-puts seed) refl (asks-number seed is_s refl refl);
+  twice = λ name one two is. twice-refused budget-waits budget-waits (λ one two. refl) name one two is (budget-plain one is);
+  seed_first = λ name seed budget is_s is_b. both-words name (seed-puts seed) (budget-puts budget is_b) refl (asks-number seed is_s refl refl refl);
+  budget_first = λ name seed budget is_s is_b. both-words name (budget-puts budget is_b) (seed-puts seed) refl (asks-number seed is_s refl refl refl);
 }
 
 pub budgets-worked : BudgetsWorked

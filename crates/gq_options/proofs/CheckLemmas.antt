@@ -9,7 +9,7 @@ use Rattle.gq_options.proofs.SeedLemmas.{asks-number, seed-puts}
 use Rattle.gq_options.proofs.StatsLemmas.{stats-puts}
 use Rattle.gq_options.proofs.StepLemmas.{asks, ends, goes-on, names, nothing-waits}
 
-check-puts : Puts (codes "--check") (codes "check") (codes "true")
+pub check-puts : Puts (codes "--check") (codes "check") (codes "true")
 unfolding clap_on_literals
 check-puts = record {
   turns = λ settles new. record { faultless = rw (settles.faultless, settles.put_in, new) refl; leads = rw settles.put_in refl };
@@ -32,5 +32,5 @@ takes-check = record {
       (goes-on ((spill-puts folder).turns nothing-waits refl)
       (goes-on (stats-puts.turns nothing-waits refl)
       (goes-on (check-puts.turns nothing-waits refl)
-      (ends nothing-waits (asks-number seed is_s refl refl)))))));
+      (ends nothing-waits (asks-number seed is_s refl refl refl)))))));
 }

@@ -16,7 +16,6 @@ spill-waits = record {
   value = λ plain. value-turns plain refl;
   settles = λ new is. record { faultless = rw new refl; put_in = refl };
   refused = λ text is. absurd (true≢false is);
-  again = λ one two. refl;
 }
 
 -- `--spill=DIR`
@@ -39,9 +38,9 @@ takes-one-folder = record {
   option_behind = λ name more. refl;
   without_value = λ name. refl;
   before_dashes = λ name path. refl;
-  twice = λ name one two. twice-refused spill-waits name one two refl;
-  seed_first = λ name seed folder is. both-words name (seed-puts seed) (spill-puts folder) refl (asks-number seed is refl refl);
-  before_seed = λ name seed folder is. both-words name (spill-puts folder) (seed-puts seed) refl (asks-number seed is refl refl);
+  twice = λ name one two. twice-refused spill-waits spill-waits (λ one two. refl) name one two refl;
+  seed_first = λ name seed folder is. both-words name (seed-puts seed) (spill-puts folder) refl (asks-number seed is refl refl refl);
+  before_seed = λ name seed folder is. both-words name (spill-puts folder) (seed-puts seed) refl (asks-number seed is refl refl refl);
   budget_first = λ name budget folder is. both-words name (budget-puts budget is) (spill-puts folder) refl (asks refl refl);
   before_budget = λ name budget folder is. both-words name (spill-puts folder) (budget-puts budget is) refl (asks refl refl);
 }

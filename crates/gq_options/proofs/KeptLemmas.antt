@@ -7,7 +7,7 @@ use Rattle.std.specs.Str.{bytes_eq, chars}
 use Rattle.clap.specs.Lexer.{long_of, short_of}
 use Rattle.clap.specs.Faults.{action_fault, bundle_fault, bundle_step_fault, entered_fault, flag_word_fault, flags_fault, long_fault, option_fault, other_fault, positional_fault, react_fault, repeat_fault, settle_fault, short_fault, step_fault, stray_fault, turn_fault, use_fault, values_fault, walk_fault, word_fault}
 use Rattle.clap.specs.Kinds.{Kinds, or_else}
-use Rattle.clap.specs.Walk.{Held, Outcome, Row, Rule, Step, Text, Waiting, Walk, action_of, after_flag, after_step, arg_by_id, arg_by_index, arg_by_long, arg_by_short, at_row, attached_value, bundle, bundle_met, bundle_step, default_rows, done, finished, first_of, flag_met, has_long, has_row, has_short, idle, is_pending, long_met, long_or_other, more_values, next, option, option_met, option_word, plain, plain_word, positional, pushed, reacted, reading_by, refused, settled, settled_rows, short_met, short_or_plain, subcommand, subcommand_met, subcommand_or_other, takes_several, takes_values, to_positional, trailing, used, used_as, used_by_id, value, values_or_missing, waits, walked, walked_from, with_default, with_values, without, word_met}
+use Rattle.clap.specs.Walk.{Held, Outcome, Row, Rule, Step, Text, Waiting, Walk, action_of, after_flag, after_step, arg_by_id, arg_by_index, arg_by_long, arg_by_short, at_row, attached_value, bundle, bundle_met, bundle_step, default_rows, done, finished, first_of, flag_met, has_long, has_row, has_short, idle, is_pending, long_met, long_or_other, more_values, next, stronger, option, option_met, option_word, plain, plain_word, positional, pushed, reacted, reading_by, refused, settled, settled_rows, short_met, short_or_plain, subcommand, subcommand_met, subcommand_or_other, takes_several, takes_values, to_positional, trailing, used, used_as, used_by_id, value, values_or_missing, waits, walked, walked_from, with_default, with_values, without, word_met}
 use Rattle.clap.specs.declared.builder.action.ArgAction.{ArgAction}
 use Rattle.clap.specs.declared.builder.action.ArgAction.TheVariants.{Append, Count, Set, SetFalse, SetTrue}
 use Rattle.clap.specs.declared.builder.value_parser.Reading.{Reading}
@@ -16,8 +16,8 @@ use Rattle.clap.specs.declared.error.kind.ErrorKind.TheVariants as kind
 use Rattle.clap.specs.declared.parser.matches.ValueSource.{ValueSource}
 use Rattle.clap.specs.declared.parser.matches.ValueSource.TheVariants.{CommandLine, DefaultValue}
 use Rattle.clap.proofs.WalkLemmas.{both}
-use Rattle.gq_options.specs.CommandLine.{names_seed}
-use Rattle.gq_options.proofs.StepLemmas.{BUILT, RULES, SHAPE, end-faults, faults-from, seed-faults}
+use Rattle.gq_options.specs.CommandLine.{faults_in, names_seed}
+use Rattle.gq_options.proofs.StepLemmas.{BUILT, RULES, SHAPE, end-faults, faults-from}
 
 -- ---- faults
 
@@ -61,6 +61,10 @@ at-end id change missing (r ∷ rs) e =
     let parts = neither (bytes_eq r.id id) (has_row id rs) e in
     rw parts.0 (ap (λ rest. r ∷ rest) (at-end id change missing rs parts.1))
 
+-- rows without the row of a new id are the same rows
+pub without-new : (id : Text) (rows : List Row) → has_row id rows ≡ false → without id rows ≡ rows
+without-new id rows new = at-end id (λ r. []) [] rows new ∙ append-nil rows
+
 -- of a text that is the first value of the seed's row
 module _ (text : Text) where
   abbrev Named : List Row → Type 0
@@ -72,31 +76,57 @@ module _ (text : Text) where
   kept-alone : (id : Text) (how : Reading) (source : ValueSource) (values : List Text) (rows : List Row) → has_row id rows ≡ false → Named rows
       → Named (with_values id how source values (without id rows))
   kept-alone id how source values rows new named =
-      let same : without id rows ≡ rows = at-end id (λ r. []) [] rows new ∙ append-nil rows in
-      subst (λ rs. Named (with_values id how source values rs)) (sym same) (kept-new id how source values rows new named)
+      subst (λ rs. Named (with_values id how source values rs)) (sym (without-new id rows new)) (kept-new id how source values rows new named)
+
+  -- values behind those of a row leave its first as it is
+  abbrev first-value : Option Row → Option Text
+  first-value = option_and_then (λ (q : Row). slice_get q.values 0)
+
+  kept-more : (id : Text) (how : Reading) (source : ValueSource) (values : List Text) (rows : List Row) → Named rows → Named (with_values id how source values rows)
+  kept-more id how source values [] named = absurd (none≢some text named)
+  kept-more id how source values (r ∷ rs) named = by-id (bytes_eq r.id id) (kept-more id how source values rs)
+    where
+      longer : Row
+      longer = record r { values = r.values ++ values; source = Some (stronger r.source source) }
+
+      still-first : (old : List Text) → slice_get old 0 ≡ Some text → slice_get (old ++ values) 0 ≡ Some text
+      still-first [] e = absurd (none≢some text e)
+      still-first (v ∷ vs) e = e
+
+      here : (b : Bool) (rest : Option Row) → first-value (cond b (Some r) rest) ≡ Some text → first-value (cond b (Some longer) rest) ≡ Some text
+      here true rest e = still-first r.values e
+      here false rest e = e
+
+      later : (b : Bool) (rest more : Option Row) → (first-value rest ≡ Some text → first-value more ≡ Some text) → first-value (cond b (Some r) rest) ≡ Some text → first-value (cond b (Some r) more) ≡ Some text
+      later true rest more kept e = e
+      later false rest more kept e = kept e
+
+      by-id : (b : Bool) → (Named rs → Named (with_values id how source values rs))
+          → Named (if b then longer ∷ rs else r ∷ with_values id how source values rs)
+      by-id true kept = here (bytes_eq r.id (codes "seed")) (find (λ q. bytes_eq q.id (codes "seed")) rs) named
+      by-id false kept = later (bytes_eq r.id (codes "seed")) (find (λ q. bytes_eq q.id (codes "seed")) rs) (find (λ q. bytes_eq q.id (codes "seed")) (with_values id how source values rs)) kept named
 
   -- ---- one use of an argument
 
-  -- an argument that sets its row once, or makes none
-  abbrev sets-once : ArgAction → Bool
-  sets-once Append = false
-  sets-once Count = false
-  sets-once _ = true
+  -- an argument that sets its row once, adds to it, or makes none
+  abbrev counts-none : ArgAction → Bool
+  counts-none Count = false
+  counts-none _ = true
 
   abbrev is-plain : Rule → Bool
-  is-plain a = sets-once (action_of a)
+  is-plain a = counts-none (action_of a)
 
   kept-set : (a : Rule) (source : ValueSource) (values : List Text) (rows : List Row) → or_else (repeat_fault false a.id rows) (values_fault a values) ≡ [] → Named rows
       → Named (with_values a.id (reading_by a) source values (without a.id rows))
   kept-set a source values rows e named =
       kept-alone a.id (reading_by a) source values rows (unrepeated (has_row a.id rows) (both-none (repeat_fault false a.id rows) (values_fault a values) e).0) named
 
-  kept-as : (does : ArgAction) (a : Rule) (values : List Text) (rows : List Row) → sets-once does ≡ true → action_fault does false a values rows ≡ [] → Named rows
+  kept-as : (does : ArgAction) (a : Rule) (values : List Text) (rows : List Row) → counts-none does ≡ true → action_fault does false a values rows ≡ [] → Named rows
       → Named (used_as does a.id (reading_by a) values rows)
   kept-as Set a values rows once e named = kept-set a CommandLine values rows e named
   kept-as SetTrue a values rows once e named = kept-set a CommandLine values rows e named
   kept-as SetFalse a values rows once e named = kept-set a CommandLine values rows e named
-  kept-as Append a values rows once e named = absurd (true≢false (sym once))
+  kept-as Append a values rows once e named = kept-more a.id (reading_by a) CommandLine values rows named
   kept-as Count a values rows once e named = absurd (true≢false (sym once))
   kept-as _ a values rows once e named = named
 
@@ -294,7 +324,7 @@ module _ (text : Text) where
   pub refused-behind : (words : List Text) (w : Walk) → Named w.held.rows → w.held.skip ≡ 0 → names_seed text ≡ false → faults-from w words ≡ [] → ⊥
   refused-behind words w named skip is e =
       let end : Walk = fold (walked RULES []) w words in
-      let parts = both-none (or_else (walk_fault SHAPE [] w words) (end-faults end)) (seed-faults (finished RULES end.held)) e in
+      let parts = both-none (or_else (walk_fault SHAPE [] w words) (end-faults end)) (faults_in (finished RULES end.held)) e in
       let walk = both-none (walk_fault SHAPE [] w words) (end-faults end) parts.0 in
       let settling = both-none (settle_fault RULES SHAPE.args_override_self end.held) _ (both-none (entered_fault BUILT end.stopped) _ walk.1).1 in
       let held = kept-walk words w walk.0 (named, skip) in

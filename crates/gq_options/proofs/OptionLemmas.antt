@@ -39,7 +39,6 @@ pub record Waits (word id : Text) (test : Text → Bool) : Type 0 where
   pub value : {rows : List Row} {text : Text} {position : ℕ} → has_dash text ≡ false → Turns (waits id rows position) text (has-value id rows text position)
   pub settles : {rows : List Row} {text : Text} → has_row id rows ≡ false → test text ≡ true → Settles rows (Some (id, text ∷ [])) (put id text rows)
   pub refused : (text : Text) → test text ≡ false → settle-faults [] (Some (id, text ∷ [])) ≡ ValueValidation ∷ []
-  pub again : (one two : Text) → settle-faults (put id one []) (Some (id, two ∷ [])) ≡ ArgumentConflict ∷ []
 
 -- any word without a dash at its front is the value of an option that takes one
 pub value-turns : {id : Text} {rows : List Row} {text : Text} {position : ℕ} → has_dash text ≡ false
@@ -85,15 +84,18 @@ module _ {word id : Text} {test : Text → Bool} (it : Waits word id test) where
       (fails-on (it.value plain)
       (fails-at-end (it.refused text is))))
 
-  pub twice-refused : (name one two : Text) → test one ≡ true → has_dash one ≡ false → has_dash two ≡ false
-      → faults_of (name ∷ word ∷ one ∷ word ∷ two ∷ []) ≡ ArgumentConflict ∷ []
-  twice-refused name one two is plain two_plain =
-      refuses name
-      (fails-on (it.turns nothing-waits)
-      (fails-on (it.value plain)
-      (fails-on (it.turns (it.settles refl is))
-      (fails-on (it.value two_plain)
-      (fails-at-end (it.again one two))))))
+-- the option a second time, under the same name or another
+pub twice-refused : {word other id : Text} {test : Text → Bool} → Waits word id test → Waits other id test
+    → ((one two : Text) → settle-faults (put id one []) (Some (id, two ∷ [])) ≡ ArgumentConflict ∷ [])
+    → (name one two : Text) → test one ≡ true → has_dash one ≡ false → has_dash two ≡ false
+    → faults_of (name ∷ word ∷ one ∷ other ∷ two ∷ []) ≡ ArgumentConflict ∷ []
+twice-refused it same again name one two is plain two_plain =
+    refuses name
+    (fails-on (it.turns nothing-waits)
+    (fails-on (it.value plain)
+    (fails-on (same.turns (it.settles refl is))
+    (fails-on (same.value two_plain)
+    (fails-at-end (again one two))))))
 
 -- ---- one word alone: a value in its option's word, and a flag
 

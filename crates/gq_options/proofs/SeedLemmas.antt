@@ -1,9 +1,9 @@
 -- Command lines with a seed.
 use Rattle.std.proofs.Common.{arith, refl, sym, ap, subst, codes, ℕ, Bool, true, false, true≢false, Option, Some, None, Ok, Err, List, [], ◌∷◌, ◌++◌, ◌≡◌, ◌&&◌, ◌^◌, nat_le, nat_lt, ltb-true, le-leb, ◌∙◌}
 use Rattle.std.proofs.lemmas.Slice.Eq.{bytes_eq-Decides}
-use Rattle.std.specs.Option.{option_map_or}
 use Rattle.std.specs.Str.Parse.{ParsesUnsigned, without_leading_plus}
 use Rattle.clap.specs.Words.{Text}
+use Rattle.clap.specs.Kinds.{Kinds, or_else}
 use Rattle.clap.specs.ValueTests.{is_numeral, is_unsigned_in}
 use Rattle.clap.specs.Walk.{Row, first_of, idle}
 use Rattle.clap.specs.declared.builder.value_parser.ValueParser.TheVariants.{Unsigned}
@@ -11,11 +11,11 @@ use Rattle.clap.specs.declared.error.kind.ErrorKind.TheVariants.{ValueValidation
 use Rattle.clap.proofs.OnLiterals.{clap_on_literals}
 use Rattle.clap.proofs.ValueTestLemmas.{Accepts-accepts, accepts-Accepts}
 use Rattle.clap.proofs.WalkLemmas.{both}
-use Rattle.gq_options.specs.CommandLine.{Asked, SeedsWorked, TakesOneSeed, has_dash, is_random, is_seed, number_of, seed_fault, seed_named}
+use Rattle.gq_options.specs.CommandLine.{Asked, SeedsWorked, TakesOneSeed, asked_in, has_dash, is_random, is_seed, number_of, output_fault, script_fault, seed_by, seed_fault, seed_named, values_in}
 use Rattle.gq_options.specs.declared.options.Seed.{Seed}
 use Rattle.gq_options.specs.declared.options.Seed.TheVariants.{Number}
 use Rattle.gq_options.proofs.OptionLemmas.{Puts, Waits, alone, before, behind, numeral-plain, twice-refused, value-turns, word-alone, word-before, word-behind}
-use Rattle.gq_options.proofs.StepLemmas.{Asks, asked-by, fails-on, holding, names-no-seed, next-word, nothing-waits, path-settles, path-turns, put, refuses, with-defaults}
+use Rattle.gq_options.proofs.StepLemmas.{Asks, fails-on, holding, names-no-seed, next-word, nothing-waits, path-settles, path-turns, put, refuses, with-defaults}
 use Rattle.gq_options.proofs.KeptLemmas.{refused-behind}
 
 -- a seed begins with no dash
@@ -63,18 +63,22 @@ unparsed-seed E text e unparsed = by-test (is_seed text) refl
 
 -- what the matches' text of the seed is read as
 pub number-read : (named : Option Text) (text : Text) (n : ℕ) → named ≡ Some text → is_random text ≡ false → is_seed text ≡ true → n ≡ number_of text
-    → (seed_fault named ≡ []) × (option_map_or seed_named named (Number 0) ≡ Number n)
+    → (seed_fault named ≡ []) × (seed_by named ≡ Number n)
 number-read named text n is plain number n_is = (rw (is, plain, number) refl, rw (is, plain) (ap Number (sym n_is)))
 
 pub text-refused : (named : Option Text) (text : Text) → named ≡ Some text → is_random text ≡ false → is_seed text ≡ false → seed_fault named ≡ ValueValidation ∷ []
 text-refused named text is plain number = rw (is, plain, number) refl
 
+-- the faults of rows behind the seed's
+abbrev other-faults : List Row → Kinds
+other-faults rows = or_else (output_fault (first_of (codes "output") rows)) (script_fault (first_of (codes "SCRIPT") rows) (values_in (codes "command") rows))
+
 -- rows whose seed is a number
 pub asks-number : {rows : List Row} {asked : Asked} (text : Text) → is_seed text ≡ true → first_of (codes "seed") (with-defaults rows) ≡ Some text
-    → record (asked-by (with-defaults rows)) { seed = Number (number_of text) } ≡ asked → Asks rows asked
-asks-number {rows} text is there asked_is = record {
-  seeded = rw (there, number-no-word text is, is) refl;
-  asked_is = ap (λ (s : Seed). record (asked-by (with-defaults rows)) { seed = s }) (ap (λ o. option_map_or seed_named o (Number 0)) there ∙ number-named text is) ∙ asked_is;
+    → other-faults (with-defaults rows) ≡ [] → record (asked_in (with-defaults rows)) { seed = Number (number_of text) } ≡ asked → Asks rows asked
+asks-number {rows} text is there others asked_is = record {
+  faultless = rw (there, number-no-word text is, is) others;
+  asked_is = ap (λ (s : Seed). record (asked_in (with-defaults rows)) { seed = s }) (ap seed_by there ∙ number-named text is) ∙ asked_is;
 }
 
 -- `--seed N`; any text is its value, and is read behind the last word
@@ -85,7 +89,6 @@ seed-waits = record {
   value = λ plain. value-turns plain refl;
   settles = λ new is. record { faultless = rw new refl; put_in = refl };
   refused = λ text is. absurd (true≢false is);
-  again = λ one two. refl;
 }
 
 -- `--seed=N`
@@ -98,12 +101,12 @@ seed-puts text = record {
 pub takes-one-seed : TakesOneSeed
 unfolding clap_on_literals
 takes-one-seed = record {
-  alone = λ name seed is. alone seed-waits name refl (seed-plain seed is) (asks-number seed is refl refl);
-  before = λ name seed path is plain. before seed-waits name refl (seed-plain seed is) plain refl (asks-number seed is refl refl);
-  behind = λ name seed path is plain. behind seed-waits name refl (seed-plain seed is) plain refl (asks-number seed is refl refl);
-  joined = λ name seed is. word-alone (seed-puts seed) name (asks-number seed is refl refl);
-  joined_before = λ name seed path is plain. word-before (seed-puts seed) name plain refl (asks-number seed is refl refl);
-  joined_behind = λ name seed path is plain. word-behind (seed-puts seed) name plain refl (asks-number seed is refl refl);
+  alone = λ name seed is. alone seed-waits name refl (seed-plain seed is) (asks-number seed is refl refl refl);
+  before = λ name seed path is plain. before seed-waits name refl (seed-plain seed is) plain refl (asks-number seed is refl refl refl);
+  behind = λ name seed path is plain. behind seed-waits name refl (seed-plain seed is) plain refl (asks-number seed is refl refl refl);
+  joined = λ name seed is. word-alone (seed-puts seed) name (asks-number seed is refl refl refl);
+  joined_before = λ name seed path is plain. word-before (seed-puts seed) name plain refl (asks-number seed is refl refl refl);
+  joined_behind = λ name seed path is plain. word-behind (seed-puts seed) name plain refl (asks-number seed is refl refl refl);
   no_seed = λ name text is plain.
       refuses name
       (fails-on (seed-waits.turns nothing-waits)
@@ -128,7 +131,7 @@ takes-one-seed = record {
       (names-no-seed text nothing-waits refl is)));
   below_zero = λ name more. refl;
   without_value = λ name. refl;
-  twice = λ name one two. twice-refused seed-waits name one two refl;
+  twice = λ name one two. twice-refused seed-waits seed-waits (λ one two. refl) name one two refl;
 }
 
 pub seeds-worked : SeedsWorked

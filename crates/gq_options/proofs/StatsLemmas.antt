@@ -22,8 +22,8 @@ takes-stats = record {
   behind = λ name path plain. word-behind stats-puts name plain refl (asks refl refl);
   with_value = λ name text more. refl;
   twice = λ name more. refl;
-  seed_first = λ name seed is. both-words name (seed-puts seed) stats-puts refl (asks-number seed is refl refl);
-  before_seed = λ name seed is. both-words name stats-puts (seed-puts seed) refl (asks-number seed is refl refl);
+  seed_first = λ name seed is. both-words name (seed-puts seed) stats-puts refl (asks-number seed is refl refl refl);
+  before_seed = λ name seed is. both-words name stats-puts (seed-puts seed) refl (asks-number seed is refl refl refl);
   budget_first = λ name budget is. both-words name (budget-puts budget is) stats-puts refl (asks refl refl);
   before_budget = λ name budget is. both-words name stats-puts (budget-puts budget is) refl (asks refl refl);
   folder_first = λ name folder. both-words name (spill-puts folder) stats-puts refl (asks refl refl);
@@ -34,5 +34,5 @@ takes-stats = record {
       (goes-on ((budget-puts budget is_b).turns nothing-waits refl)
       (goes-on ((spill-puts folder).turns nothing-waits refl)
       (goes-on (stats-puts.turns nothing-waits refl)
-      (ends nothing-waits (asks-number seed is_s refl refl))))));
+      (ends nothing-waits (asks-number seed is_s refl refl refl))))));
 }

@@ -1,21 +1,21 @@
 -- Command lines read word by word: what is held before a word, and behind it.
-use Rattle.std.proofs.Common.{refl, ap, codes, ℕ, Bool, true, false, Option, Some, None, is_some, List, [], ◌∷◌, ◌≡◌, ◌∙◌, if◌then◌else◌}
-use Rattle.std.proofs.Math.Bool.{and-false, or-true}
+use Rattle.std.proofs.Common.{refl, sym, ap, codes, ℕ, Bool, true, false, true≢false, Option, Some, None, is_some, List, [], ◌∷◌, ◌≡◌, ◌∙◌, ◌||◌, if◌then◌else◌}
+use Rattle.std.proofs.Math.Bool.{and-false}
 use Rattle.std.specs.Prelude.{fold}
-use Rattle.std.specs.Option.{option_map_or}
+use Rattle.std.specs.List.{list_all}
 use Rattle.std.specs.Str.{bytes_eq}
 use Rattle.clap.specs.Lexer.{long_of, short_of}
-use Rattle.clap.specs.Faults.{check_fault, defaults_fault, entered_fault, settle_fault, turn_fault, walk_fault}
+use Rattle.clap.specs.Faults.{check_fault, default_fault, defaults_fault, entered_fault, given_default_fault, settle_fault, turn_fault, walk_fault}
 use Rattle.clap.specs.Kinds.{Kinds, or_else}
 use Rattle.clap.specs.Simple.{App, Shape, built, entered}
-use Rattle.clap.specs.Walk.{Row, Rule, Text, Waiting, Walk, finished, first_of, has_row, idle, is_pending, nothing_held, one_of, settled, settled_rows, walk_from, walked, with_default, with_values, without}
+use Rattle.clap.specs.Walk.{Row, Rule, Text, Waiting, Walk, finished, first_of, has_row, idle, is_empty, is_pending, nothing_held, settled, settled_rows, walk_from, walked, with_default, with_values, without}
 use Rattle.clap.specs.declared.builder.value_parser.Reading.TheVariants.{AsWritten}
 use Rattle.clap.specs.declared.error.kind.ErrorKind.{ErrorKind}
 use Rattle.clap.specs.declared.error.kind.ErrorKind.TheVariants.{ValueValidation}
 use Rattle.clap.specs.declared.parser.matches.ValueSource.TheVariants.{CommandLine}
 use Rattle.clap.proofs.OnLiterals.{clap_on_literals}
-use Rattle.gq_options.specs.CommandLine.{Asked, LINE, Names, SCRIPT, faults_of, has_dash, is_set, names_seed, number_of, seed_fault, seed_named}
-use Rattle.gq_options.specs.declared.options.Seed.TheVariants.{Number}
+use Rattle.clap.proofs.WalkLemmas.{both}
+use Rattle.gq_options.specs.CommandLine.{Asked, LINE, Names, SCRIPT, asked_in, faults_in, faults_of, has_dash, names_seed}
 
 -- the line as clap builds it
 abbrev pub BUILT : App
@@ -34,32 +34,17 @@ end-faults end = or_else (entered_fault BUILT end.stopped)
     (or_else (defaults_fault (settled RULES end.held).rows RULES)
     (check_fault SHAPE (finished RULES end.held) (is_some (entered BUILT end.stopped)))))
 
--- what is wrong with the text of the seed among rows
-abbrev pub seed-faults : List Row → Kinds
-seed-faults rows = seed_fault (first_of (codes "seed") rows)
-
 -- the faults of the words that are left, where these are the faults of the walk over them
 abbrev pub faults-by : Kinds → Walk → Kinds
-faults-by kinds end = or_else (or_else kinds (end-faults end)) (seed-faults (finished RULES end.held))
+faults-by kinds end = or_else (or_else kinds (end-faults end)) (faults_in (finished RULES end.held))
 
 -- the faults of the words that are left
 abbrev pub faults-from : Walk → List Text → Kinds
 faults-from w words = faults-by (walk_fault SHAPE [] w words) (fold (walked RULES []) w words)
 
--- what rows ask for
-abbrev pub asked-by : List Row → Asked
-asked-by rows = record {
-  script = first_of (codes "SCRIPT") rows;
-  seed = option_map_or seed_named (first_of (codes "seed") rows) (Number 0);
-  budget = option_map_or number_of (one_of (codes "budget") rows) 65536;
-  spill = first_of (codes "spill") rows;
-  stats = option_map_or is_set (one_of (codes "stats") rows) false;
-  check = option_map_or is_set (one_of (codes "check") rows) false;
-}
-
 -- what the words that are left ask for, with what is held
 abbrev pub asked-from : Walk → List Text → Asked
-asked-from w words = asked-by (finished RULES (fold (walked RULES []) w words).held)
+asked-from w words = asked_in (finished RULES (fold (walked RULES []) w words).held)
 
 -- ---- a line, word by word
 
@@ -135,38 +120,65 @@ pub record Settles (rows : List Row) (pending : Option (Text × List Text)) (aft
 abbrev pub with-defaults : List Row → List Row
 with-defaults rows = fold with_default rows RULES
 
--- with the defaults, rows have no fault in the seed, and ask for this
+-- with the defaults, rows have no fault, and ask for this
 pub record Asks (rows : List Row) (asked : Asked) : Type 0 where
-  pub seeded : seed-faults (with-defaults rows) ≡ []
-  pub asked_is : asked-by (with-defaults rows) ≡ asked
+  pub faultless : faults_in (with-defaults rows) ≡ []
+  pub asked_is : asked_in (with-defaults rows) ≡ asked
 
-pub asks : {rows : List Row} {asked : Asked} → seed-faults (with-defaults rows) ≡ [] → asked-by (with-defaults rows) ≡ asked → Asks rows asked
-asks seeded asked_is = record { seeded = seeded; asked_is = asked_is }
+pub asks : {rows : List Row} {asked : Asked} → faults_in (with-defaults rows) ≡ [] → asked_in (with-defaults rows) ≡ asked → Asks rows asked
+asks faultless asked_is = record { faultless = faultless; asked_is = asked_is }
 
-either-way : (b : Bool) → ◌≡◌ {A = Kinds} (if b then [] else []) []
-either-way true = refl
-either-way false = refl
+no-kinds : Kinds → Bool
+no-kinds [] = true
+no-kinds (k ∷ ks) = false
+
+-- a rule without a default, or with one that has no fault
+has-fit-default : Rule → Bool
+has-fit-default a = is_empty a.defaults || no-kinds (given_default_fault a a.defaults)
+
+default-passes : (rows : List Row) (a : Rule) → has-fit-default a ≡ true → default_fault rows a ≡ []
+unfolding has-fit-default no-kinds
+default-passes rows a fit = by-case (has_row a.id rows) (is_empty a.defaults) (given_default_fault a a.defaults) fit
+  where
+    by-case : (given none : Bool) (kinds : Kinds) → (none || no-kinds kinds) ≡ true → ◌≡◌ {A = Kinds} (if given || none then [] else kinds) []
+    by-case true none kinds fit = refl
+    by-case false true kinds fit = refl
+    by-case false false [] fit = refl
+    by-case false false (k ∷ ks) fit = absurd (true≢false (sym fit))
+
+defaults-pass-by : (rules : List Rule) (rows : List Row) → list_all has-fit-default rules ≡ true → defaults_fault rows rules ≡ []
+unfolding defaults_fault
+defaults-pass-by [] rows fit = refl
+defaults-pass-by (a ∷ rules) rows fit =
+    let parts = both (has-fit-default a) (list_all has-fit-default rules) fit in
+    ap (λ (kinds : Kinds). or_else kinds (defaults_fault (with_default rows a) rules)) (default-passes rows a parts.0)
+    ∙ defaults-pass-by rules (with_default rows a) parts.1
 
 -- the defaults have no fault
 defaults-pass : (rows : List Row) → defaults_fault rows RULES ≡ []
-unfolding clap_on_literals
-defaults-pass rows = simp (or-true, either-way) refl
+unfolding clap_on_literals has-fit-default no-kinds
+defaults-pass rows = defaults-pass-by RULES rows refl
 
 -- behind the last word
 pub ends : {rows after : List Row} {pending : Option (Text × List Text)} {waiting : Waiting} {position : ℕ} {asked : Asked}
     → Settles rows pending after → Asks after asked → Goes (holding rows pending waiting position) [] asked
 unfolding walk_fault
 ends {rows} {after} settles it = record {
-  accepted = rw (settles.faultless, settles.put_in, defaults-pass after) it.seeded;
+  accepted = rw (settles.faultless, settles.put_in, defaults-pass after) it.faultless;
   asked_is = rw settles.put_in it.asked_is;
 }
 
--- the text of the seed names none, which is found behind the last word
+-- the matches have a fault, which is found behind the last word
+pub fails-last : {rows after : List Row} {pending : Option (Text × List Text)} {waiting : Waiting} {position : ℕ} {kind : ErrorKind}
+    → Settles rows pending after → faults_in (with-defaults after) ≡ kind ∷ [] → Fails (holding rows pending waiting position) [] kind
+unfolding walk_fault
+fails-last {rows} {after} settles is = record { found = rw (settles.faultless, settles.put_in, defaults-pass after) is }
+
+-- such is a text of the seed that names none
 pub names-no-seed : {rows after : List Row} {pending : Option (Text × List Text)} {waiting : Waiting} {position : ℕ} (text : Text)
     → Settles rows pending after → first_of (codes "seed") (with-defaults after) ≡ Some text → names_seed text ≡ false
     → Fails (holding rows pending waiting position) [] ValueValidation
-unfolding walk_fault
-names-no-seed {rows} {after} text settles there is = record { found = rw (settles.faultless, settles.put_in, defaults-pass after, there, is) refl }
+names-no-seed text settles there is = fails-last settles (rw (there, is) refl)
 
 -- what waits has a fault, behind the last word
 pub fails-at-end : {rows : List Row} {pending : Option (Text × List Text)} {waiting : Waiting} {position : ℕ} {kind : ErrorKind}

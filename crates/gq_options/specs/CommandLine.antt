@@ -1,15 +1,17 @@
 -- The program's command line, in clap's terms, and what that comes to.
-use Rattle.std.specs.Prelude.{◌≡◌, ◌≢◌, ◌==◌, ◌&&◌, ◌||◌, ◌++◌, ◌^◌, ℕ, Bool, true, false, if◌then◌else◌, List, [], ◌∷◌, Option, Some, None, codes, nat_le, nat_lt}
+use Rattle.std.specs.Prelude.{◌≡◌, ◌≢◌, ◌==◌, ◌&&◌, ◌||◌, ◌++◌, ◌^◌, ℕ, Bool, true, false, if◌then◌else◌, List, [], ◌∷◌, Option, Some, None, codes, find, fold, is_some, map, nat_le, nat_lt, option_and_then, option_map, unwrap_or}
 use Rattle.std.specs.Option.{option_map_or}
 use Rattle.std.specs.Str.{bytes_eq}
 use Rattle.std.specs.Str.Parse.{digits_value, without_leading_plus}
 pub use Rattle.clap.specs.Words.{Text}
-use Rattle.clap.specs.Words.{App, Kinds, Rule, fault_of, first_of, matches_of, new_app, new_rule, one_of, with_rule}
+use Rattle.clap.specs.Words.{App, Kinds, Row, Rule, all_of, fault_of, first_of, matches_of, new_app, new_rule, one_of, with_rule}
 use Rattle.clap.specs.Kinds.{or_else}
 use Rattle.clap.specs.ValueTests.{is_numeral}
-use Rattle.clap.specs.declared.builder.action.ArgAction.TheVariants.{SetTrue}
+use Rattle.clap.specs.declared.builder.action.ArgAction.TheVariants.{Append, SetTrue}
 use Rattle.clap.specs.declared.builder.value_parser.ValueParser.TheVariants as vp
 use Rattle.clap.specs.declared.error.kind.ErrorKind.TheVariants.{ArgumentConflict, DisplayHelp, DisplayVersion, InvalidValue, TooManyValues, UnknownArgument, ValueValidation}
+use Rattle.gq_options.specs.declared.options.Output.{Output}
+use Rattle.gq_options.specs.declared.options.Output.TheVariants.{Replies, Csv, Json, Box}
 use Rattle.gq_options.specs.declared.options.Seed.{Seed}
 use Rattle.gq_options.specs.declared.options.Seed.TheVariants.{Number, Random}
 
@@ -19,6 +21,26 @@ option_named name = record (new_rule name) {
   long = Some name;
   value_names = 1;
 }
+
+-- an option with one value, by its long name and its short one, a letter
+abbrev pub short_named : Text → ℕ → Rule
+short_named name letter = record (option_named name) { short = Some letter }
+
+-- the same, and it may be given several times
+abbrev pub repeated_named : Text → ℕ → Rule
+repeated_named name letter = record (short_named name letter) { action = Some Append }
+
+-- an option with one value, any text, that may be given several times; its letter is t
+abbrev pub TABLE : Rule
+TABLE = repeated_named (codes "table") 116
+
+-- the same with the letter c
+abbrev pub COMMAND : Rule
+COMMAND = repeated_named (codes "command") 99
+
+-- an option with one value, any text, and `replies` if it is not given; its letter is o
+abbrev pub OUTPUT : Rule
+OUTPUT = record (short_named (codes "output") 111) { defaults = codes "replies" ∷ [] }
 
 -- an option with one value, any text, and `0` where it is not given
 abbrev pub SEED : Rule
@@ -44,6 +66,10 @@ flag_named name = record (new_rule name) {
 }
 
 -- a flag
+abbrev pub RAGGED : Rule
+RAGGED = flag_named (codes "ragged")
+
+-- a flag too
 abbrev pub STATS : Rule
 STATS = flag_named (codes "stats")
 
@@ -59,13 +85,21 @@ SCRIPT = new_rule (codes "SCRIPT")
 abbrev pub with_version : App → App
 with_version app = record app { top = record app.top { has_version = true } }
 
--- the options `--budget N`, `--seed N`, `--spill DIR`, `--stats` and `--check`, at most one word, which is the script's path, the version, and the help that each command line has
-abbrev pub LINE : App
-LINE = with_rule (with_rule (with_rule (with_rule (with_rule (with_rule (with_version (new_app (codes "groupsh"))) BUDGET) SEED) SPILL) STATS) CHECK) SCRIPT
+-- the options and the word, in the order of the help
+abbrev pub ARGUMENTS : List Rule
+ARGUMENTS = TABLE ∷ COMMAND ∷ OUTPUT ∷ RAGGED ∷ BUDGET ∷ SEED ∷ SPILL ∷ STATS ∷ CHECK ∷ SCRIPT ∷ []
 
--- what a command line may ask for: a script by its path, or else the standard input; a seed, by its number or from the system; a budget; a folder for runs, or else memory; whether the work is reported; and whether the script is only checked
+-- the command line: these options, at most one word, which is the script's path, `--version`, and the `--help` that each command line has
+abbrev pub LINE : App
+LINE = fold with_rule (with_version (new_app (codes "groupsh"))) ARGUMENTS
+
+-- what a command line may ask for: a script by its path, or else the standard input; the tables to load and the commands to run in place of a script, each as given and in order; the format of results; whether rows may differ in length; a seed, by its number or from the system; a budget; a folder for runs, or else memory; whether the work is reported; and whether the script is only checked
 pub record Asked : Type 0 where
   pub script : Option Text
+  pub tables : List Text
+  pub commands : List Text
+  pub output : Output
+  pub ragged : Bool
   pub seed : Seed
   pub budget : ℕ
   pub spill : Option Text
@@ -74,11 +108,7 @@ pub record Asked : Type 0 where
 
 -- what a command line without words asks for
 abbrev pub DEFAULTS : Asked
-DEFAULTS = record { script = None; seed = Number 0; budget = 65536; spill = None; stats = false; check = false }
-
--- the script that the words name
-abbrev pub script_of : List Text → Option Text
-script_of words = first_of (codes "SCRIPT") (matches_of LINE words)
+DEFAULTS = record { script = None; tables = []; commands = []; output = Replies; ragged = false; seed = Number 0; budget = 65536; spill = None; stats = false; check = false }
 
 -- the number that digits spell, with or without `+` before them
 abbrev pub number_of : Text → ℕ
@@ -92,40 +122,56 @@ is_random text = bytes_eq text (codes "random")
 abbrev pub seed_named : Text → Seed
 seed_named text = if is_random text then Random else Number (number_of text)
 
--- the seed that the words name, and the number 0 where they name none
-abbrev pub seed_of : List Text → Seed
-seed_of words = option_map_or seed_named (first_of (codes "seed") (matches_of LINE words)) (Number 0)
+-- the names of the output formats
+abbrev pub FORMATS : List (Text × Output)
+FORMATS = (codes "replies", Replies) ∷ (codes "csv", Csv) ∷ (codes "json", Json) ∷ (codes "box", Box) ∷ []
 
--- the budget that the words name, and 65,536 where they name none
-abbrev pub budget_of : List Text → ℕ
-budget_of words = option_map_or number_of (one_of (codes "budget") (matches_of LINE words)) 65536
-
--- the folder that the words name
-abbrev pub spill_of : List Text → Option Text
-spill_of words = first_of (codes "spill") (matches_of LINE words)
+-- the output format that a text names, if it names one
+abbrev pub output_named : Text → Option Output
+output_named text = option_map (λ format. format.1) (find (λ format. bytes_eq text format.0) FORMATS)
 
 -- the value of a flag by its text
 abbrev pub is_set : Text → Bool
 is_set text = bytes_eq text (codes "true")
 
--- whether the words ask for the work to be reported
-abbrev pub stats_of : List Text → Bool
-stats_of words = option_map_or is_set (one_of (codes "stats") (matches_of LINE words)) false
+-- all values of an option, in order
+abbrev pub values_in : Text → List Row → List Text
+values_in name rows = unwrap_or (all_of name rows) []
 
--- whether the words ask for the script to be checked alone
-abbrev pub check_of : List Text → Bool
-check_of words = option_map_or is_set (one_of (codes "check") (matches_of LINE words)) false
+-- the number that is an option's value, or this one without a value
+abbrev pub number_in : Text → ℕ → List Row → ℕ
+number_in name otherwise rows = option_map_or number_of (one_of name rows) otherwise
+
+-- whether a flag is set
+abbrev pub flag_in : Text → List Row → Bool
+flag_in name rows = option_map_or is_set (one_of name rows) false
+
+-- the seed by its text, and the number 0 without one
+abbrev pub seed_by : Option Text → Seed
+seed_by named = option_map_or seed_named named (Number 0)
+
+-- the output format by its text, and replies without one
+abbrev pub output_by : Option Text → Output
+output_by named = unwrap_or (option_and_then output_named named) Replies
+
+-- what clap's matches ask for
+abbrev pub asked_in : List Row → Asked
+asked_in rows = record {
+  script = first_of (codes "SCRIPT") rows;
+  tables = values_in (codes "table") rows;
+  commands = values_in (codes "command") rows;
+  output = output_by (first_of (codes "output") rows);
+  ragged = flag_in (codes "ragged") rows;
+  seed = seed_by (first_of (codes "seed") rows);
+  budget = number_in (codes "budget") 65536 rows;
+  spill = first_of (codes "spill") rows;
+  stats = flag_in (codes "stats") rows;
+  check = flag_in (codes "check") rows;
+}
 
 -- what the words ask for
 abbrev pub asked_of : List Text → Asked
-asked_of words = record {
-  script = script_of words;
-  seed = seed_of words;
-  budget = budget_of words;
-  spill = spill_of words;
-  stats = stats_of words;
-  check = check_of words;
-}
+asked_of words = asked_in (matches_of LINE words)
 
 -- a word that may be an option
 abbrev pub has_dash : Text → Bool
@@ -145,9 +191,31 @@ abbrev pub seed_fault : Option Text → Kinds
 seed_fault None = []
 seed_fault (Some text) = if names_seed text then [] else ValueValidation ∷ []
 
--- what is wrong with the words, or that they ask for help or the version, by clap's account and then by the text of the seed; nothing where they may be run
+-- the text names an output format
+abbrev pub is_output : Text → Bool
+is_output text = is_some (output_named text)
+
+-- what is wrong with the text of an output format, if there is one
+abbrev pub output_fault : Option Text → Kinds
+output_fault None = []
+output_fault (Some text) = if is_output text then [] else InvalidValue ∷ []
+
+-- commands can't be used with a script
+abbrev pub script_fault : Option Text → List Text → Kinds
+script_fault None commands = []
+script_fault (Some path) [] = []
+script_fault (Some path) (lines ∷ more) = ArgumentConflict ∷ []
+
+-- the first fault of clap's matches: in the text of the seed, in that of the output format, or commands given with a script
+abbrev pub faults_in : List Row → Kinds
+faults_in rows =
+    or_else (seed_fault (first_of (codes "seed") rows))
+    (or_else (output_fault (first_of (codes "output") rows))
+    (script_fault (first_of (codes "SCRIPT") rows) (values_in (codes "command") rows)))
+
+-- what is wrong with the words, or that they ask for help or the version: the faults that clap finds, or else those of its matches; none if the words may be run
 abbrev pub faults_of : List Text → Kinds
-faults_of words = or_else (fault_of LINE words) (seed_fault (first_of (codes "seed") (matches_of LINE words)))
+faults_of words = or_else (fault_of LINE words) (faults_in (matches_of LINE words))
 
 -- digits, with or without `+` before them, of a number of 1 to 1,048,576
 abbrev pub is_budget : Text → Bool
@@ -203,7 +271,7 @@ pub record TakesRandom : Type 0 where
   pub capital : (name : Text) → faults_of (name ∷ codes "--seed" ∷ codes "Random" ∷ []) ≡ ValueValidation ∷ []
   pub longer : (name : Text) → faults_of (name ∷ codes "--seed=random1" ∷ []) ≡ ValueValidation ∷ []
   -- beside a budget, a folder and the flag for the report
-  pub all : (name budget folder : Text) → is_budget budget ≡ true → Names (name ∷ codes "--seed=random" ∷ (codes "--budget=" ++ budget) ∷ (codes "--spill=" ++ folder) ∷ codes "--stats" ∷ []) (record { script = None; seed = Random; budget = number_of budget; spill = Some folder; stats = true; check = false })
+  pub all : (name budget folder : Text) → is_budget budget ≡ true → Names (name ∷ codes "--seed=random" ∷ (codes "--budget=" ++ budget) ∷ (codes "--spill=" ++ folder) ∷ codes "--stats" ∷ []) (record DEFAULTS { script = None; seed = Random; budget = number_of budget; spill = Some folder; stats = true; check = false })
 
 -- And of `--budget N` and `--budget=N`, alike, with a number of 1 to 1,048,576.
 pub record TakesOneBudget : Type 0 where
@@ -255,7 +323,7 @@ pub record TakesStats : Type 0 where
   pub before_budget : (name budget : Text) → is_budget budget ≡ true → Names (name ∷ codes "--stats" ∷ (codes "--budget=" ++ budget) ∷ []) (record DEFAULTS { budget = number_of budget; stats = true })
   pub folder_first : (name folder : Text) → Names (name ∷ (codes "--spill=" ++ folder) ∷ codes "--stats" ∷ []) (record DEFAULTS { spill = Some folder; stats = true; check = false })
   pub before_folder : (name folder : Text) → Names (name ∷ codes "--stats" ∷ (codes "--spill=" ++ folder) ∷ []) (record DEFAULTS { spill = Some folder; stats = true; check = false })
-  pub all : (name seed budget folder : Text) → is_seed seed ≡ true → is_budget budget ≡ true → Names (name ∷ (codes "--seed=" ++ seed) ∷ (codes "--budget=" ++ budget) ∷ (codes "--spill=" ++ folder) ∷ codes "--stats" ∷ []) (record { script = None; seed = Number (number_of seed); budget = number_of budget; spill = Some folder; stats = true; check = false })
+  pub all : (name seed budget folder : Text) → is_seed seed ≡ true → is_budget budget ≡ true → Names (name ∷ (codes "--seed=" ++ seed) ∷ (codes "--budget=" ++ budget) ∷ (codes "--spill=" ++ folder) ∷ codes "--stats" ∷ []) (record DEFAULTS { script = None; seed = Number (number_of seed); budget = number_of budget; spill = Some folder; stats = true; check = false })
 
 -- And of `--check`, alike.
 pub record TakesCheck : Type 0 where
@@ -267,7 +335,65 @@ pub record TakesCheck : Type 0 where
   -- beside the flag for the report, in either order, and beside all others
   pub stats_first : (name : Text) → Names (name ∷ codes "--stats" ∷ codes "--check" ∷ []) (record DEFAULTS { stats = true; check = true })
   pub before_stats : (name : Text) → Names (name ∷ codes "--check" ∷ codes "--stats" ∷ []) (record DEFAULTS { stats = true; check = true })
-  pub all : (name seed budget folder : Text) → is_seed seed ≡ true → is_budget budget ≡ true → Names (name ∷ (codes "--seed=" ++ seed) ∷ (codes "--budget=" ++ budget) ∷ (codes "--spill=" ++ folder) ∷ codes "--stats" ∷ codes "--check" ∷ []) (record { script = None; seed = Number (number_of seed); budget = number_of budget; spill = Some folder; stats = true; check = true })
+  pub all : (name seed budget folder : Text) → is_seed seed ≡ true → is_budget budget ≡ true → Names (name ∷ (codes "--seed=" ++ seed) ∷ (codes "--budget=" ++ budget) ∷ (codes "--spill=" ++ folder) ∷ codes "--stats" ∷ codes "--check" ∷ []) (record DEFAULTS { script = None; seed = Number (number_of seed); budget = number_of budget; spill = Some folder; stats = true; check = true })
+
+-- And of `--table FILE`, `--table=FILE`, `-t FILE`, `-tFILE` and `-t=FILE`: in the same word any text is the value, but the text after `-t` without `=` is not empty and doesn't begin with `=`; in the next word any text that doesn't begin with a dash, or a dash alone. It may be given several times, and the values keep their order.
+pub record TakesTables : Type 0 where
+  pub alone : (name file : Text) → has_dash file ≡ false → Names (name ∷ codes "--table" ∷ file ∷ []) (record DEFAULTS { tables = file ∷ [] })
+  pub short : (name file : Text) → has_dash file ≡ false → Names (name ∷ codes "-t" ∷ file ∷ []) (record DEFAULTS { tables = file ∷ [] })
+  pub dash : (name : Text) → Names (name ∷ codes "-t" ∷ codes "-" ∷ []) (record DEFAULTS { tables = codes "-" ∷ [] })
+  pub before : (name file path : Text) → has_dash file ≡ false → has_dash path ≡ false → Names (name ∷ codes "-t" ∷ file ∷ path ∷ []) (record DEFAULTS { script = Some path; tables = file ∷ [] })
+  pub behind : (name file path : Text) → has_dash file ≡ false → has_dash path ≡ false → Names (name ∷ path ∷ codes "-t" ∷ file ∷ []) (record DEFAULTS { script = Some path; tables = file ∷ [] })
+  pub joined : (name file : Text) → Names (name ∷ (codes "--table=" ++ file) ∷ []) (record DEFAULTS { tables = file ∷ [] })
+  pub joined_before : (name file path : Text) → has_dash path ≡ false → Names (name ∷ (codes "--table=" ++ file) ∷ path ∷ []) (record DEFAULTS { script = Some path; tables = file ∷ [] })
+  pub joined_behind : (name file path : Text) → has_dash path ≡ false → Names (name ∷ path ∷ (codes "--table=" ++ file) ∷ []) (record DEFAULTS { script = Some path; tables = file ∷ [] })
+  pub short_joined : (name : Text) (c : ℕ) (file : Text) → (c == 61) ≡ false → Names (name ∷ (codes "-t" ++ c ∷ file) ∷ []) (record DEFAULTS { tables = (c ∷ file) ∷ [] })
+  pub short_equals : (name file : Text) → Names (name ∷ (codes "-t=" ++ file) ∷ []) (record DEFAULTS { tables = file ∷ [] })
+  pub two : (name one two : Text) → has_dash one ≡ false → has_dash two ≡ false → Names (name ∷ codes "-t" ∷ one ∷ codes "-t" ∷ two ∷ []) (record DEFAULTS { tables = one ∷ two ∷ [] })
+  pub many : (name : Text) (files : List Text) → Names (name ∷ map (λ file. codes "--table=" ++ file) files) (record DEFAULTS { tables = files })
+  pub option_behind : (name : Text) (more : List Text) → faults_of (name ∷ codes "-t" ∷ codes "-x" ∷ more) ≡ UnknownArgument ∷ []
+  pub without_value : (name : Text) → faults_of (name ∷ codes "--table" ∷ []) ≡ InvalidValue ∷ []
+  pub short_without_value : (name : Text) → faults_of (name ∷ codes "-t" ∷ []) ≡ InvalidValue ∷ []
+
+-- And of `--command LINES`, `--command=LINES`, `-c LINES`, `-cLINES` and `-c=LINES`, alike; with a path it is refused.
+pub record TakesCommands : Type 0 where
+  pub alone : (name lines : Text) → has_dash lines ≡ false → Names (name ∷ codes "--command" ∷ lines ∷ []) (record DEFAULTS { commands = lines ∷ [] })
+  pub short : (name lines : Text) → has_dash lines ≡ false → Names (name ∷ codes "-c" ∷ lines ∷ []) (record DEFAULTS { commands = lines ∷ [] })
+  pub dash : (name : Text) → Names (name ∷ codes "-c" ∷ codes "-" ∷ []) (record DEFAULTS { commands = codes "-" ∷ [] })
+  pub joined : (name lines : Text) → Names (name ∷ (codes "--command=" ++ lines) ∷ []) (record DEFAULTS { commands = lines ∷ [] })
+  pub short_joined : (name : Text) (c : ℕ) (lines : Text) → (c == 61) ≡ false → Names (name ∷ (codes "-c" ++ c ∷ lines) ∷ []) (record DEFAULTS { commands = (c ∷ lines) ∷ [] })
+  pub short_equals : (name lines : Text) → Names (name ∷ (codes "-c=" ++ lines) ∷ []) (record DEFAULTS { commands = lines ∷ [] })
+  pub two : (name one two : Text) → has_dash one ≡ false → has_dash two ≡ false → Names (name ∷ codes "-c" ∷ one ∷ codes "-c" ∷ two ∷ []) (record DEFAULTS { commands = one ∷ two ∷ [] })
+  pub many : (name : Text) (all : List Text) → Names (name ∷ map (λ lines. codes "--command=" ++ lines) all) (record DEFAULTS { commands = all })
+  pub before : (name lines path : Text) → has_dash lines ≡ false → has_dash path ≡ false → faults_of (name ∷ codes "-c" ∷ lines ∷ path ∷ []) ≡ ArgumentConflict ∷ []
+  pub behind : (name lines path : Text) → has_dash lines ≡ false → has_dash path ≡ false → faults_of (name ∷ path ∷ codes "-c" ∷ lines ∷ []) ≡ ArgumentConflict ∷ []
+  pub joined_before : (name lines path : Text) → has_dash path ≡ false → faults_of (name ∷ (codes "--command=" ++ lines) ∷ path ∷ []) ≡ ArgumentConflict ∷ []
+  pub joined_behind : (name lines path : Text) → has_dash path ≡ false → faults_of (name ∷ path ∷ (codes "--command=" ++ lines) ∷ []) ≡ ArgumentConflict ∷ []
+  pub option_behind : (name : Text) (more : List Text) → faults_of (name ∷ codes "-c" ∷ codes "-x" ∷ more) ≡ UnknownArgument ∷ []
+  pub without_value : (name : Text) → faults_of (name ∷ codes "--command" ∷ []) ≡ InvalidValue ∷ []
+  pub short_without_value : (name : Text) → faults_of (name ∷ codes "-c" ∷ []) ≡ InvalidValue ∷ []
+
+-- And of `--output FORMAT`, `--output=FORMAT` and `-o FORMAT`, once, with the name of an output format; with another text it is refused.
+pub record TakesOutput : Type 0 where
+  pub alone : (name text : Text) (output : Output) → output_named text ≡ Some output → Names (name ∷ codes "--output" ∷ text ∷ []) (record DEFAULTS { output = output })
+  pub short : (name text : Text) (output : Output) → output_named text ≡ Some output → Names (name ∷ codes "-o" ∷ text ∷ []) (record DEFAULTS { output = output })
+  pub before : (name text path : Text) (output : Output) → output_named text ≡ Some output → has_dash path ≡ false → Names (name ∷ codes "-o" ∷ text ∷ path ∷ []) (record DEFAULTS { script = Some path; output = output })
+  pub behind : (name text path : Text) (output : Output) → output_named text ≡ Some output → has_dash path ≡ false → Names (name ∷ path ∷ codes "-o" ∷ text ∷ []) (record DEFAULTS { script = Some path; output = output })
+  pub joined : (name text : Text) (output : Output) → output_named text ≡ Some output → Names (name ∷ (codes "--output=" ++ text) ∷ []) (record DEFAULTS { output = output })
+  pub no_output : (name text : Text) → is_output text ≡ false → has_dash text ≡ false → faults_of (name ∷ codes "-o" ∷ text ∷ []) ≡ InvalidValue ∷ []
+  pub joined_no_output : (name text : Text) → is_output text ≡ false → faults_of (name ∷ (codes "--output=" ++ text) ∷ []) ≡ InvalidValue ∷ []
+  pub without_value : (name : Text) → faults_of (name ∷ codes "--output" ∷ []) ≡ InvalidValue ∷ []
+  pub twice : (name one two : Text) → has_dash one ≡ false → has_dash two ≡ false → faults_of (name ∷ codes "-o" ∷ one ∷ codes "--output" ∷ two ∷ []) ≡ ArgumentConflict ∷ []
+
+-- And of `--ragged`: it stands alone, before a path or behind it, and is refused the second time and with a value.
+pub record TakesRagged : Type 0 where
+  pub alone : (name : Text) → Names (name ∷ codes "--ragged" ∷ []) (record DEFAULTS { ragged = true })
+  pub before : (name path : Text) → has_dash path ≡ false → Names (name ∷ codes "--ragged" ∷ path ∷ []) (record DEFAULTS { script = Some path; ragged = true })
+  pub behind : (name path : Text) → has_dash path ≡ false → Names (name ∷ path ∷ codes "--ragged" ∷ []) (record DEFAULTS { script = Some path; ragged = true })
+  pub with_value : (name text : Text) (more : List Text) → faults_of (name ∷ (codes "--ragged=" ++ text) ∷ more) ≡ TooManyValues ∷ []
+  pub twice : (name : Text) (more : List Text) → faults_of (name ∷ codes "--ragged" ∷ codes "--ragged" ∷ more) ≡ ArgumentConflict ∷ []
+  -- with all other options
+  pub all : (name seed budget folder file lines : Text) → is_seed seed ≡ true → is_budget budget ≡ true → Names (name ∷ (codes "--table=" ++ file) ∷ (codes "--command=" ++ lines) ∷ codes "--output=csv" ∷ codes "--ragged" ∷ (codes "--seed=" ++ seed) ∷ (codes "--budget=" ++ budget) ∷ (codes "--spill=" ++ folder) ∷ codes "--stats" ∷ codes "--check" ∷ []) (record { script = None; tables = file ∷ []; commands = lines ∷ []; output = Csv; ragged = true; seed = Number (number_of seed); budget = number_of budget; spill = Some folder; stats = true; check = true })
 
 -- Worked examples.
 pub record SeedsWorked : Type 0 where
@@ -293,4 +419,20 @@ pub record FoldersWorked : Type 0 where
   pub empty : (name : Text) → Names (name ∷ codes "--spill=" ∷ []) (record DEFAULTS { spill = Some [] })
   pub dashed : (name : Text) → Names (name ∷ codes "--spill=-x" ∷ []) (record DEFAULTS { spill = Some (codes "-x") })
   pub flag_behind : (name : Text) → faults_of (name ∷ codes "--spill" ∷ codes "--stats" ∷ []) ≡ InvalidValue ∷ []
-  pub all : (name : Text) → Names (name ∷ codes "--stats" ∷ codes "--budget" ∷ codes "1" ∷ codes "--spill" ∷ codes "runs" ∷ codes "--seed" ∷ codes "7" ∷ codes "a.gq" ∷ []) (record { script = Some (codes "a.gq"); seed = Number 7; budget = 1; spill = Some (codes "runs"); stats = true; check = false })
+  pub all : (name : Text) → Names (name ∷ codes "--stats" ∷ codes "--budget" ∷ codes "1" ∷ codes "--spill" ∷ codes "runs" ∷ codes "--seed" ∷ codes "7" ∷ codes "a.gq" ∷ []) (record DEFAULTS { script = Some (codes "a.gq"); seed = Number 7; budget = 1; spill = Some (codes "runs"); stats = true; check = false })
+
+pub record TablesWorked : Type 0 where
+  pub files : (name : Text) → Names (name ∷ codes "-t" ∷ codes "a.csv" ∷ codes "-tb=c.csv" ∷ codes "--table" ∷ codes "d.csv" ∷ codes "a.gq" ∷ []) (record DEFAULTS { script = Some (codes "a.gq"); tables = codes "a.csv" ∷ codes "b=c.csv" ∷ codes "d.csv" ∷ [] })
+  pub around : (name : Text) → Names (name ∷ codes "-t" ∷ codes "a.csv" ∷ codes "a.gq" ∷ codes "-t=b.csv" ∷ []) (record DEFAULTS { script = Some (codes "a.gq"); tables = codes "a.csv" ∷ codes "b.csv" ∷ [] })
+  pub two_behind : (name : Text) → faults_of (name ∷ codes "-t" ∷ codes "a.csv" ∷ codes "b.csv" ∷ codes "c.csv" ∷ []) ≡ UnknownArgument ∷ []
+  pub flag_behind : (name : Text) → faults_of (name ∷ codes "-t" ∷ codes "--ragged" ∷ []) ≡ InvalidValue ∷ []
+  pub help_example : (name : Text) → Names (name ∷ codes "-t" ∷ codes "cities.csv" ∷ codes "-c" ∷ codes "group cities by country show count(*)" ∷ codes "-o" ∷ codes "csv" ∷ []) (record DEFAULTS { tables = codes "cities.csv" ∷ []; commands = codes "group cities by country show count(*)" ∷ []; output = Csv })
+
+pub record OutputsWorked : Type 0 where
+  pub replies : (name : Text) → Names (name ∷ codes "-o" ∷ codes "replies" ∷ []) DEFAULTS
+  pub csv : (name : Text) → Names (name ∷ codes "-ocsv" ∷ codes "a.gq" ∷ []) (record DEFAULTS { script = Some (codes "a.gq"); output = Csv })
+  pub json : (name : Text) → Names (name ∷ codes "-o=json" ∷ []) (record DEFAULTS { output = Json })
+  pub box : (name : Text) → Names (name ∷ codes "--output=box" ∷ []) (record DEFAULTS { output = Box })
+  pub capitals : (name : Text) → faults_of (name ∷ codes "-o" ∷ codes "CSV" ∷ []) ≡ InvalidValue ∷ []
+  pub longer : (name : Text) → faults_of (name ∷ codes "--output=csv2" ∷ []) ≡ InvalidValue ∷ []
+  pub empty : (name : Text) → faults_of (name ∷ codes "--output=" ∷ []) ≡ InvalidValue ∷ []

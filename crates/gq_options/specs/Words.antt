@@ -1,14 +1,14 @@
 -- What reading a command line answers.
-use Rattle.std.specs.Prelude.{◌≡◌, ◌≢◌, ◌||◌, ℕ, Bool, true, false, List, [], ◌∷◌, Option, Some, None, Result, Ok, Err, codes, option_map}
+use Rattle.std.specs.Prelude.{◌≡◌, ◌≢◌, ◌||◌, ℕ, Bool, true, false, List, [], ◌∷◌, Option, Some, None, Result, Ok, Err, codes, map, option_map}
 use Rattle.std.specs.Option.{option_map_or}
 use Rattle.std.specs.Str.{bytes_eq}
-use Rattle.clap.specs.Words.{IsAmong, Text}
+use Rattle.clap.specs.Words.{IsAmong, Kinds, Row, Text, one_of}
 use Rattle.clap.specs.declared.error.kind.ErrorKind.{ErrorKind}
 use Rattle.clap.specs.declared.error.kind.ErrorKind.TheVariants as kind
-use Rattle.gq_options.specs.CommandLine.{Asked, Names, faults_of, is_set, number_of, seed_fault, seed_named}
+use Rattle.gq_options.specs.CommandLine.{Asked, Names, asked_in, faults_in, faults_of, is_budget, is_set, number_of, output_by, output_fault, seed_by, seed_fault}
 use Rattle.gq_options.specs.declared.options.Options.{Options}
+use Rattle.gq_options.specs.declared.options.Output.{Output}
 use Rattle.gq_options.specs.declared.options.Seed.{Seed}
-use Rattle.gq_options.specs.declared.options.Seed.TheVariants.{Number}
 use Rattle.gq_options.specs.declared.options.BadLine.{BadLine}
 use Rattle.gq_options.specs.declared.options.BadLine.TheVariants.{Help, Version, Mistake, Memory}
 
@@ -23,12 +23,12 @@ IsToldAs k (Version text) = k ≡ kind.DisplayVersion
 IsToldAs k (Mistake text) = AsksNothing k × (k ≢ kind.OutOfMemory)
 IsToldAs k Memory = Unit {0}
 
--- the words have a fault that is told as this
-abbrev pub IsBad : List Text → BadLine → Type 0
-IsBad words (Help text) = IsAmong kind.DisplayHelp (faults_of words)
-IsBad words (Version text) = IsAmong kind.DisplayVersion (faults_of words)
-IsBad words (Mistake text) = (k : ErrorKind) × IsAmong k (faults_of words) × AsksNothing k
-IsBad words Memory = Unit {0}
+-- a fault is told as this
+abbrev pub IsBad : Kinds → BadLine → Type 0
+IsBad faults (Help text) = IsAmong kind.DisplayHelp faults
+IsBad faults (Version text) = IsAmong kind.DisplayVersion faults
+IsBad faults (Mistake text) = (k : ErrorKind) × IsAmong k faults × AsksNothing k
+IsBad faults Memory = Unit {0}
 
 -- the text of a number is read as that number, where it passes the test, and no text as another
 abbrev pub IsReadAs : (Text → Bool) → ℕ → Option Text → ℕ → Type 0
@@ -53,13 +53,22 @@ IsToldAsMistake Memory = Unit {0}
 
 -- a text is read as the seed that it names, and no text as 0; another text is told as a mistake
 abbrev pub ReadsSeed : Option Text → Result Seed BadLine → Type 0
-ReadsSeed named (Ok seed) = (seed_fault named ≡ []) × (option_map_or seed_named named (Number 0) ≡ seed)
+ReadsSeed named (Ok seed) = (seed_fault named ≡ []) × (seed_by named ≡ seed)
 ReadsSeed named (Err bad) = (seed_fault named ≡ kind.ValueValidation ∷ []) × IsToldAsMistake bad
+
+-- a text is read as the output format that it names, and no text as replies; another text is told as a mistake
+abbrev pub ReadsOutput : Option Text → Result Output BadLine → Type 0
+ReadsOutput named (Ok output) = (output_fault named ≡ []) × (output_by named ≡ output)
+ReadsOutput named (Err bad) = (output_fault named ≡ kind.InvalidValue ∷ []) × IsToldAsMistake bad
 
 -- what options ask for
 abbrev pub asked_by : Options → Asked
 asked_by options = record {
   script = option_map (λ s. s.now) options.script;
+  tables = map (λ s. s.now) options.tables.items;
+  commands = map (λ s. s.now) options.commands.items;
+  output = options.output;
+  ragged = options.ragged;
   seed = options.seed;
   budget = options.budget;
   spill = option_map (λ s. s.now) options.spill;
@@ -67,7 +76,23 @@ asked_by options = record {
   check = options.check;
 }
 
+-- the text, if there is one, passes the test
+abbrev pub Passes : (Text → Bool) → Option Text → Type 0
+Passes test text = option_map_or test text true ≡ true
+
+-- the numbers and the flags among clap's matches are such
+pub record AreParsed (rows : List Row) : Type 0 where
+  pub budget : Passes is_budget (one_of (codes "budget") rows)
+  pub ragged : Passes is_flag (one_of (codes "ragged") rows)
+  pub stats : Passes is_flag (one_of (codes "stats") rows)
+  pub check : Passes is_flag (one_of (codes "check") rows)
+
+-- options come only of matches without a fault, and ask for what these ask for
+abbrev pub ReadsMatches : List Row → Result Options BadLine → Type 0
+ReadsMatches rows (Ok options) = (faults_in rows ≡ []) × (AreParsed rows → asked_in rows ≡ asked_by options)
+ReadsMatches rows (Err bad) = IsBad (faults_in rows) bad
+
 -- options come only of words without a fault, and ask for what these ask for
 abbrev pub Reads : List Text → Result Options BadLine → Type 0
 Reads words (Ok options) = Names words (asked_by options)
-Reads words (Err bad) = IsBad words bad
+Reads words (Err bad) = IsBad (faults_of words) bad

@@ -1,6 +1,6 @@
 //! Laws: what the definitions come to. Each is the contract of a function that does nothing.
-ghost use Rattle.gq_options.specs.CommandLine.{BudgetsWorked, FoldersWorked, SeedsWorked};
-ghost use Rattle.gq_options.specs.CommandLine.{TakesCheck, TakesOneBudget, TakesOneFolder, TakesOnePath, TakesOneSeed, TakesRandom, TakesStats};
+ghost use Rattle.gq_options.specs.CommandLine.{BudgetsWorked, FoldersWorked, OutputsWorked, SeedsWorked, TablesWorked};
+ghost use Rattle.gq_options.specs.CommandLine.{TakesCheck, TakesCommands, TakesOneBudget, TakesOneFolder, TakesOnePath, TakesOneSeed, TakesOutput, TakesRagged, TakesRandom, TakesStats, TakesTables};
 
 /// The program takes one path, or none, and tells help and the version from mistakes.
 pub fn takes_one_path()
@@ -38,4 +38,26 @@ pub fn takes_stats()
 /// Besides these it takes the flag for a check, once.
 pub fn takes_check()
     ensures { TakesCheck }
+{}
+
+/// Besides these it takes tables, any number of them, and keeps their order.
+pub fn takes_tables()
+    ensures vary { TakesTables }
+    ensures worked { TablesWorked }
+{}
+
+/// Without a path it takes commands, any number of them, and keeps their order.
+pub fn takes_commands()
+    ensures { TakesCommands }
+{}
+
+/// Besides these it takes one of four output formats.
+pub fn takes_output()
+    ensures vary { TakesOutput }
+    ensures worked { OutputsWorked }
+{}
+
+/// Besides these it takes the flag for rows of other lengths, once.
+pub fn takes_ragged()
+    ensures { TakesRagged }
 {}

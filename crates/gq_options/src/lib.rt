@@ -3,10 +3,10 @@
 //! The contract above this crate is that of [`read_words`], in the terms of clap's own definitions:
 //! options come only of words without a fault, and ask for what these ask for; and help, the version,
 //! mistakes and want of memory are told apart. The laws in [`laws`] say the same without clap, of
-//! paths, the seed, the budget, the folder and the two flags.
+//! paths, tables, commands, the output format, the seed, the budget, the folder and the flags.
 #![tactic(auto)]
 
 pub mod laws;
 mod options;
 
-pub use options::{BadLine, Options, Seed, read_words};
+pub use options::{BadLine, Options, Output, Seed, read_words};

@@ -1,8 +1,8 @@
 //! The program's command line.
-ghost use Rattle.std.specs.Prelude.{◌≡◌, false, IfOk, codes, map, string_bytes};
-ghost use Rattle.clap.specs.Words.{app_of, first_value, found_of, kind_of, one_text, rule_of};
-ghost use Rattle.gq_options.specs.CommandLine.{BUDGET, LINE, SCRIPT, SEED, SPILL, flag_named, is_budget, option_named};
-ghost use Rattle.gq_options.specs.Words.{IsReadAs, IsReadAsFlag, IsToldAs, IsToldAsMistake, Reads, ReadsSeed};
+ghost use Rattle.std.specs.Prelude.{◌≡◌, [], false, IfOk, codes, map, option_map, string_bytes, unwrap_or};
+ghost use Rattle.clap.specs.Words.{app_of, first_value, found_of, kind_of, matched_of, one_text, raw_values, rows_of, rule_of};
+ghost use Rattle.gq_options.specs.CommandLine.{BUDGET, COMMAND, LINE, OUTPUT, SCRIPT, SEED, SPILL, TABLE, flag_named, is_budget, option_named, output_named, repeated_named};
+ghost use Rattle.gq_options.specs.Words.{IsReadAs, IsReadAsFlag, IsToldAs, IsToldAsMistake, Reads, ReadsMatches, ReadsOutput, ReadsSeed};
 
 use clap::error::ErrorKind;
 use clap::{Arg, ArgAction, ArgMatches, Command, Error, value_parser};
@@ -18,11 +18,32 @@ pub enum Seed {
     Random,
 }
 
-/// What a command line asks for.
+/// How the results of queries are written.
 #[derive(Clone, Copy, Debug, PartialEq, Eq)]
+pub enum Output {
+    /// As replies: CSV after a line that counts the rows.
+    Replies,
+    /// CSV.
+    Csv,
+    /// A JSON array of objects.
+    Json,
+    /// A table drawn with lines.
+    Box,
+}
+
+/// What a command line asks for.
+#[derive(Debug, Drop, PartialEq)]
 pub struct Options<'a> {
     /// The path of the script. Without one the script is the standard input.
     pub script: Option<&'a str>,
+    /// The tables to load before the script, each `FILE` or `NAME=FILE`, as given.
+    pub tables: Vec<&'a str>,
+    /// The commands to run in place of a script. If there are any, `script` is `None`.
+    pub commands: Vec<&'a str>,
+    /// How the results of queries are written.
+    pub output: Output,
+    /// Whether records of a table's file that have fewer fields than its header are completed.
+    pub ragged: bool,
     /// The seed of the hash by which tables keep their rows. No reply depends on it.
     pub seed: Seed,
     /// How many groups are kept in memory at once: 1 to 1,048,576. No reply depends on it.
@@ -58,12 +79,15 @@ pub enum BadLine {
 const VERSION: &str = "0.1.0 (rattle-kit-13f logic dac8208d650f15bf)";
 
 const ABOUT: &str =
-    "Keeps rows in tables, and tells of groups of them: counts, sums, least and greatest values.
+    "Groups rows of CSV files and of tables in memory: counts, sums, minimum and maximum values.
 
 Each line of the script is a command, and each command gets a reply. Tables are kept in memory until
 the script ends.";
 
-const MORE: &str = "Example script:
+const MORE: &str = "Example:
+  groupsh -t cities.csv -c 'group cities by country show count(*)' -o csv
+
+Example script:
   create s (id int, city text, key (id))
   upsert s (1, 'Oslo')
   upsert s (2, 'Rome')
@@ -84,16 +108,50 @@ To have it in the PATH, in the folder of the launcher:
 
 Exit status:
   0  all commands were accepted; with --check, each line is a command
-  1  some command was refused; with --check, some line is none
+  1  a command or the file of a table was refused; with --check, some line is no command
   2  the command line is wrong
-  3  the script can't be read, a reply can't be written, or there was no memory, or no random seed, to
+  3  a file can't be read, a reply can't be written, or there was no memory, or no random seed, to
      begin with";
+
+const TABLE_HELP: &str =
+    "Load a CSV file as a table, named after the file unless NAME is given; may be repeated";
+
+const COMMAND_HELP: &str = "Run these commands, one a line, in place of a script; may be repeated";
+
+const OUTPUT_HELP: &str = "How results are written: replies, csv, json or box";
+
+const RAGGED_HELP: &str =
+    "Complete records of a CSV file that have fewer fields than its header with nulls";
 
 const STATS_HELP: &str =
     "Tell on standard error, at the end, what grouping took: rows, groups, runs; and a random seed";
 
 const CHECK_HELP: &str =
     "Run nothing: tell each line that is no command, as FILE:LINE:COLUMN: MESSAGE";
+
+fn table_option<'a>(alloc: Global) -> Arg<'a>
+    ensures rule { rule_of result ≡ TABLE }
+    ensures local { result.global ≡ false }
+{
+    repeated(alloc, "table", 't', "[NAME=]FILE").help(TABLE_HELP)
+}
+
+fn command_option<'a>(alloc: Global) -> Arg<'a>
+    ensures rule { rule_of result ≡ COMMAND }
+    ensures local { result.global ≡ false }
+{
+    repeated(alloc, "command", 'c', "LINES").help(COMMAND_HELP)
+}
+
+fn output_option<'a>(alloc: Global) -> Arg<'a>
+    ensures rule { rule_of result ≡ OUTPUT }
+    ensures local { result.global ≡ false }
+{
+    valued(alloc, "output", "FORMAT")
+        .short('o')
+        .default_value("replies")
+        .help(OUTPUT_HELP)
+}
 
 fn budget_option<'a>(alloc: Global) -> Arg<'a>
     ensures rule { rule_of result ≡ BUDGET }
@@ -133,6 +191,16 @@ fn valued<'a>(alloc: Global, name: &'a str, value: &'a str) -> Arg<'a>
     Arg::new(alloc, name).long(name).value_name(value)
 }
 
+// An option with one value, by its long name and its short one, that may be given several times.
+fn repeated<'a>(alloc: Global, name: &'a str, letter: char, value: &'a str) -> Arg<'a>
+    ensures rule { rule_of result ≡ repeated_named name.entry.now letter }
+    ensures local { result.global ≡ false }
+{
+    valued(alloc, name, value)
+        .short(letter)
+        .action(ArgAction::Append)
+}
+
 // A flag by its long name.
 fn flag<'a>(alloc: Global, name: &'a str, help: &'a str) -> Arg<'a>
     ensures rule { rule_of result ≡ flag_named name.entry.now }
@@ -157,6 +225,10 @@ fn command_line<'a>(alloc: Global) -> Result<Command<'a>, AllocError>
     ensures { IfOk result (λ c. app_of c ≡ LINE) }
 {
     let Ok(args) = vec![in alloc;
+        table_option(alloc),
+        command_option(alloc),
+        output_option(alloc),
+        flag(alloc, "ragged", RAGGED_HELP),
         budget_option(alloc),
         seed_option(alloc),
         spill_option(alloc),
@@ -192,16 +264,83 @@ fn seed_in(alloc: Global, matches: &ArgMatches) -> Result<Seed, BadLine>
     }
 }
 
-// What is told of a text that names no seed, in the form of clap's own mistakes.
+// The message on a text that names no seed, in the form of clap's own.
 fn bad_seed(alloc: Global, text: &str, error: &ParseIntError) -> BadLine
     ensures { IsToldAsMistake result }
 {
-    let told = format!(in alloc;
+    mistake(format!(in alloc;
         "error: invalid value '{text}' for '--seed <N>': {error}\n\nFor more information, try '--help'.\n"
-    );
-    match told {
+    ))
+}
+
+// A mistake with this message, or out of memory.
+fn mistake(message: Result<String, AllocError>) -> BadLine
+    ensures mistake { IsToldAsMistake result }
+    ensures kept { IfOk message (λ text. result ≡ BadLine.Mistake text) }
+{
+    match message {
         Ok(message) => BadLine::Mistake(message),
         Err(AllocError) => BadLine::Memory,
+    }
+}
+
+// The output format that a text names.
+fn format_of(text: &str) -> Option<Output>
+    ensures { result ≡ output_named text.now }
+{
+    match text {
+        "replies" => Some(Output::Replies),
+        "csv" => Some(Output::Csv),
+        "json" => Some(Output::Json),
+        "box" => Some(Output::Box),
+        _ => None,
+    }
+}
+
+// The output format among the matches.
+fn output_in(alloc: Global, matches: &ArgMatches) -> Result<Output, BadLine>
+    ensures { ReadsOutput (first_value (found_of matches.now) (codes "output")) result }
+{
+    let Some(text) = matches.get_str("output") else {
+        return Ok(Output::Replies);
+    };
+    match format_of(text) {
+        Some(output) => Ok(output),
+        None => Err(bad_output(alloc, text)),
+    }
+}
+
+// The message on a text that names no output format, in the form of clap's own.
+fn bad_output(alloc: Global, text: &str) -> BadLine
+    ensures { IsToldAsMistake result }
+{
+    mistake(format!(in alloc;
+        "error: invalid value '{text}' for '--output <FORMAT>'\n  [possible values: replies, csv, json, box]\n\nFor more information, try '--help'.\n"
+    ))
+}
+
+// The message on commands given with a script, in the form of clap's own.
+fn bad_script(alloc: Global) -> BadLine
+    ensures { IsToldAsMistake result }
+{
+    mistake(String::from_str(
+        alloc,
+        "error: the argument '--command <LINES>' cannot be used with '[SCRIPT]'\n\nUsage: groupsh [OPTIONS] [SCRIPT]\n\nFor more information, try '--help'.\n",
+    ))
+}
+
+// All values of an option among the matches, in order.
+fn values_in<'a>(
+    alloc: Global,
+    matches: &ArgMatches<'a>,
+    name: &str,
+) -> Result<Vec<&'a str>, AllocError>
+    ensures { IfOk result (λ values. map (λ v. v.now) values.items
+        ≡ unwrap_or (option_map raw_values (matched_of (found_of matches.now) name.now)) []) }
+{
+    match matches.get_strs(name) {
+        Some(values) => Vec::from_slice(alloc, values),
+        None => Ok(Vec::new(alloc)),
     }
 }
 
@@ -212,18 +351,41 @@ fn budget_in(matches: &ArgMatches) -> u64
     matches.get_one("budget").unwrap_or(65_536)
 }
 
-// Whether the matches have the flag for the report.
-fn stats_in(matches: &ArgMatches) -> bool
-    ensures { IsReadAsFlag (one_text (found_of matches.now) (codes "stats")) result }
+// Whether the matches have a flag.
+fn flag_in(matches: &ArgMatches, name: &str) -> bool
+    ensures { IsReadAsFlag (one_text (found_of matches.now) name.now) result }
 {
-    matches.get_flag("stats")
+    matches.get_flag(name)
 }
 
-// Whether the matches have the flag for a check.
-fn check_in(matches: &ArgMatches) -> bool
-    ensures { IsReadAsFlag (one_text (found_of matches.now) (codes "check")) result }
+// What the matches ask for.
+fn options_in<'a>(alloc: Global, matches: &ArgMatches<'a>) -> Result<Options<'a>, BadLine>
+    ensures { ReadsMatches (rows_of (found_of matches.now)) result }
 {
-    matches.get_flag("check")
+    let seed = seed_in(alloc, matches)?;
+    let output = output_in(alloc, matches)?;
+    let Ok(tables) = values_in(alloc, matches, "table") else {
+        return Err(BadLine::Memory);
+    };
+    let Ok(commands) = values_in(alloc, matches, "command") else {
+        return Err(BadLine::Memory);
+    };
+    let script = matches.get_str("SCRIPT");
+    if script.is_some() && !commands.is_empty() {
+        return Err(bad_script(alloc));
+    }
+    Ok(Options {
+        script,
+        tables,
+        commands,
+        output,
+        ragged: flag_in(matches, "ragged"),
+        seed,
+        budget: budget_in(matches),
+        spill: matches.get_str("spill"),
+        stats: flag_in(matches, "stats"),
+        check: flag_in(matches, "check"),
+    })
 }
 
 // What clap answers in place of matches.
@@ -250,14 +412,7 @@ pub fn read_words<'a>(alloc: Global, words: &'a [String]) -> Result<Options<'a>,
         return Err(BadLine::Memory);
     };
     match line.try_get_matches_from(words) {
-        Ok(matches) => Ok(Options {
-            script: matches.get_str("SCRIPT"),
-            seed: seed_in(alloc, &matches)?,
-            budget: budget_in(&matches),
-            spill: matches.get_str("spill"),
-            stats: stats_in(&matches),
-            check: check_in(&matches),
-        }),
+        Ok(matches) => options_in(alloc, &matches),
         Err(error) => Err(bad_line(alloc, &error)),
     }
 }
