@@ -1,0 +1,7 @@
+pub mod NarrowLemmas
+pub mod ScanLemmas
+pub mod HeaderLemmas
+pub mod FileLemmas
+pub mod TableLemmas
+pub mod WordLemmas
+mod Vectors

@@ -1,0 +1,8 @@
+-- definitions for readers
+pub mod Kinds
+pub mod Files
+pub mod Laws
+pub mod Words
+pub mod Messages
+-- contracts of single functions
+pub mod Scanning
