@@ -1,0 +1,21 @@
+//! Tables that are made from CSV files before a script runs.
+//!
+//! A word of the command line names a file, and perhaps the table, its columns and its key
+//! (`gq_infer::TableWord`). The words are taken in order: the first word of a table makes it, with
+//! the columns that the word gives, or else with those that are inferred from all files of the
+//! table; then each file's rows are put into its table. The first file that can't be read or is
+//! refused ends that.
+//!
+//! # The contract above this crate
+//!
+//! [`make_tables`] leaves the engine's setting as it was, and reads the standard input only for a
+//! word that asks for it. Each step is an engine's `create`, an inference or a load, whose contracts
+//! say what they do; that these steps come in the order of the words is tested, and not proved.
+#![tactic(auto)]
+
+mod fault;
+mod making;
+mod reading;
+
+pub use fault::{TableFault, Why};
+pub use making::make_tables;
