@@ -1,2 +1,3 @@
 mod CheckLemmas
+mod InputLemmas
 mod StatusLemmas

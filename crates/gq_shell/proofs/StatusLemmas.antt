@@ -5,7 +5,8 @@ use Rattle.gq_engine.specs.declared.run.Fault.{Fault}
 use Rattle.gq_engine.specs.declared.run.Fault.TheVariants.{Read, Write}
 use Rattle.gq_engine.specs.Headline.{Ran, StoppedReading, StoppedWriting}
 use Rattle.gq_shell.specs.Session.{status_of}
-use Rattle.gq_shell.specs.Statuses.{AnsweredAll, Course, StatusesTell}
+use Rattle.gq_engine.proofs.OutputLemmas.{ran_plainly}
+use Rattle.gq_shell.specs.Statuses.{AnsweredAll, Course, Ends, StatusesTell}
 
 -- a run of these bytes and states ended so
 abbrev RanSo : Course → Result Summary Fault → Type 0
@@ -49,10 +50,13 @@ no-other : (ended : Result Summary Fault) (status : ℕ) → status ≡ status_o
 no-other (Ok summary) status e = by-count (summary.refused == 0) status e
 no-other (Err fault) status e = inr (inr e)
 
+plainly : {n : ℕ} (c : Course) (w : Ends c n) → RanSo c w.ended
+plainly c w = ran_plainly c.setting c.old (Some c.script) c.new c.replies.before c.replies.after c.errors.before w.refusals w.ended w.ran
+
 pub statuses-tell : StatusesTell
 statuses-tell = record {
-  zero = λ c w. zero-tells c w.ended w.ran w.status_is;
-  one = λ c w. one-tells c w.ended w.ran w.status_is;
-  three = λ c w. three-tells c w.ended w.ran w.status_is;
+  zero = λ c w. zero-tells c w.ended (plainly c w) w.status_is;
+  one = λ c w. one-tells c w.ended (plainly c w) w.status_is;
+  three = λ c w. three-tells c w.ended (plainly c w) w.status_is;
   only = λ c status w. no-other w.ended status w.status_is;
 }

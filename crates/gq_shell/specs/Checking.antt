@@ -1,5 +1,5 @@
 -- What checking a script came to.
-use Rattle.std.specs.Prelude.{◌≡◌, ℕ, Bool, true, false, List, ◌++◌, codes, flat_map, Option, Some, None, Result, Ok, Err, IfSome}
+use Rattle.std.specs.Prelude.{◌≡◌, ◌⊎◌, ℕ, Bool, true, false, List, [], ◌∷◌, ◌++◌, codes, flat_map, Option, Some, None, Result, Ok, Err, IfSome}
 use Rattle.std.specs.declared.io.Error.{Error}
 use Rattle.gq_row.specs.Limits.{GREATEST}
 use Rattle.gq_token.specs.Texts.{some}
@@ -9,7 +9,7 @@ use Rattle.gq_check.specs.declared.report.Report.{Report}
 use Rattle.gq_check.specs.Numbering.{Numbered, numbered}
 use Rattle.gq_check.specs.Reports.{Place, Reports, report_text}
 use Rattle.gq_options.specs.CommandLine.{Text}
-use Rattle.gq_shell.specs.Sources.{Sources, Stopped, StoppedBy, StoppedForMemory}
+use Rattle.gq_shell.specs.Sources.{Sources, Stopped, StoppedBy, StoppedForMemory, script_of}
 use Rattle.gq_shell.specs.Streams.{Stream, Got, GotFront, IsUntouched}
 use Rattle.gq_shell.specs.declared.checking.CheckStop.{CheckStop}
 use Rattle.gq_shell.specs.declared.checking.CheckStop.TheVariants as stop
@@ -72,3 +72,10 @@ abbrev pub CheckedNamed : {S : Type 0} → Sources S → Option Text → Stream 
 CheckedNamed sources None replies errors status = CheckedScript (codes "<stdin>") sources.input replies errors status
 CheckedNamed {S} sources (Some path) replies errors status =
     (opened : Result S Error) × sources.opens path opened × CheckedOpened sources path opened replies errors status
+
+-- commands of the command line are the script, if there are any, and have a name of their own too
+abbrev pub CheckedGiven : {S : Type 0} → Sources S → Option Text → List Text → Stream → Stream → ℕ → Type 0
+CheckedGiven sources path [] replies errors status = CheckedNamed sources path replies errors status
+CheckedGiven sources path (lines ∷ more) replies errors status =
+    CheckedScript (codes "<command>") (Some (script_of (lines ∷ more))) replies errors status
+    ⊎ (IsUntouched replies × StoppedForMemory errors status)

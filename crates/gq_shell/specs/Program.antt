@@ -1,20 +1,25 @@
 -- What the program did, told by the words of its command line, what opening a path gives, its two streams and its exit status.
-use Rattle.std.specs.Prelude.{◌≡◌, ◌⊎◌, ℕ, Bool, true, false, IsTrue, not, List, [], codes, string_bytes, is_some, Option, Some, None, Result, Ok, Err}
+use Rattle.std.specs.Prelude.{◌≡◌, ◌≢◌, ◌∷◌, ◌⊎◌, ℕ, Bool, true, false, IsTrue, not, List, [], codes, string_bytes, is_some, Option, Some, None, Result, Ok, Err}
 use Rattle.std.specs.declared.io.Error.{Error}
 use Rattle.gq_row.specs.Limits.{GREATEST}
 use Rattle.gq_command.specs.Commands.{Bytes}
 use Rattle.gq_group.specs.declared.grouping.Spent.{Spent}
+use Rattle.gq_format.specs.declared.format.Format.TheVariants.{Csv, Json, Box}
+use Rattle.gq_engine.specs.declared.output.Output.{Output}
+use Rattle.gq_engine.specs.declared.output.Output.TheVariants.{Replies, Results}
 use Rattle.gq_engine.specs.Headline.{State}
 use Rattle.gq_engine.specs.Runs.{Setting}
 use Rattle.gq_options.specs.CommandLine.{Asked, Text}
 use Rattle.gq_shell.specs.Session.{EndedWith, report_of}
-use Rattle.gq_shell.specs.Checking.{CheckedNamed}
+use Rattle.gq_shell.specs.Checking.{CheckedGiven}
 use Rattle.gq_shell.specs.Streams.{Stream, IsUntouched, Got, GotFront}
-pub use Rattle.gq_shell.specs.Sources.{Sources, Stopped, StoppedBy, StoppedForMemory}
+pub use Rattle.gq_shell.specs.Sources.{Sources, Stopped, StoppedBy, StoppedForMemory, script_of}
 use Rattle.gq_options.specs.Words.{Reads, asked_by}
 use Rattle.gq_options.specs.declared.options.BadLine.{BadLine}
 use Rattle.gq_options.specs.declared.options.BadLine.TheVariants.{Help, Version, Mistake, Memory}
 use Rattle.gq_options.specs.declared.options.Options.{Options}
+use Rattle.gq_options.specs.declared.options.Output.{Output as Asking}
+use Rattle.gq_options.specs.declared.options.Output.TheVariants as asking
 use Rattle.gq_options.specs.declared.options.Seed.{Seed}
 use Rattle.gq_options.specs.declared.options.Seed.TheVariants.{Number, Random}
 use Rattle.gq_shell.specs.declared.seeding.RunSeed.{RunSeed}
@@ -37,6 +42,13 @@ AnsweredBadLine Memory replies errors status = IsUntouched replies × StoppedFor
 abbrev pub setting_by : Option Text → Setting
 setting_by folder = record { limits = GREATEST; honest = not (is_some folder) }
 
+-- what the engine writes, by the format that was asked for
+abbrev pub output_of : Asking → Output
+output_of asking.Replies = Replies
+output_of asking.Csv = Results Csv
+output_of asking.Json = Results Json
+output_of asking.Box = Results Box
+
 -- no tables
 abbrev pub NOTHING : State
 NOTHING = record { database = []; failures = 0 }
@@ -52,11 +64,17 @@ abbrev pub DrawsFor : Seed → Result RunSeed Error → Type 0
 DrawsFor asked (Ok seed) = IsSeedFor asked seed
 DrawsFor asked (Err e) = asked ≡ Random
 
--- A session of an engine without tables read this script, and reported its work where that was asked for, and this seed if it was drawn.
+-- the program stopped before a run: it said why, and the status isn't 0
+abbrev pub IsStopped : Stream → ℕ → Type 0
+IsStopped errors status = ((text : Bytes) × GotFront errors text) × (status ≢ 0)
+
+-- A session of an engine read this script, and reported its work if that was asked for, and this seed if it was drawn. The engine had no tables but those that were asked for.
 pub record RanScript (asked : Asked) (seed : RunSeed) (script : Option Bytes) (replies errors : Stream) (status : ℕ) : Type 0 where
+  pub old : State
+  pub no_others : asked.tables ≡ [] → old ≡ NOTHING
   pub new : State
   pub spent : Spent
-  pub ended : EndedWith (setting_by asked.spill) NOTHING script new (report_of asked.stats seed spent) replies errors status
+  pub ended : EndedWith (output_of asked.output) (setting_by asked.spill) old script new (report_of asked.stats seed spent) replies errors status
 
 -- what opening a path gave was run; or it could not be opened
 abbrev pub RanOpened : {S : Type 0} → Sources S → Asked → RunSeed → Result S Error → Stream → Stream → ℕ → Type 0
@@ -69,21 +87,36 @@ RanNamed sources asked seed None replies errors status = RanScript asked seed so
 RanNamed {S} sources asked seed (Some path) replies errors status =
     (opened : Result S Error) × sources.opens path opened × RanOpened sources asked seed opened replies errors status
 
+-- there was no memory
+abbrev pub HadNoMemory : Stream → Stream → ℕ → Type 0
+HadNoMemory replies errors status = IsUntouched replies × StoppedForMemory errors status
+
+-- commands of the command line are the script, if there are any
+abbrev pub RanGiven : {S : Type 0} → Sources S → Asked → RunSeed → List Text → Stream → Stream → ℕ → Type 0
+RanGiven sources asked seed [] replies errors status = RanNamed sources asked seed asked.script replies errors status
+RanGiven sources asked seed (lines ∷ more) replies errors status =
+    RanScript asked seed (Some (script_of (lines ∷ more))) replies errors status ⊎ HadNoMemory replies errors status
+
 -- no seed came where a random one was asked for
 abbrev pub HadNoSeed : Asked → Stream → Stream → ℕ → Type 0
 HadNoSeed asked replies errors status =
     (asked.seed ≡ Random) × IsUntouched replies × ((e : Error) × StoppedBy e (codes "groupsh: no random seed\n") 3 errors status)
 
--- what was asked for was run, with such a seed; or none came, or there was no memory for a run store in a folder
+-- the tables that were asked for could not be made
+abbrev pub HadNoTables : Asked → Stream → Stream → ℕ → Type 0
+HadNoTables asked replies errors status = (asked.tables ≢ []) × IsUntouched replies × IsStopped errors status
+
+-- what was asked for was run, with such a seed; or none came, or there was no memory for a run store in a folder, or the tables could not be made
 abbrev pub RanAsked : {S : Type 0} → Sources S → Asked → Stream → Stream → ℕ → Type 0
 RanAsked sources asked replies errors status =
-    ((seed : RunSeed) × IsSeedFor asked.seed seed × RanNamed sources asked seed asked.script replies errors status)
+    ((seed : RunSeed) × IsSeedFor asked.seed seed × RanGiven sources asked seed asked.commands replies errors status)
     ⊎ (HadNoSeed asked replies errors status
-    ⊎ (IsTrue (is_some asked.spill) × IsUntouched replies × StoppedForMemory errors status))
+    ⊎ ((IsTrue (is_some asked.spill) × HadNoMemory replies errors status)
+    ⊎ HadNoTables asked replies errors status))
 
 -- a script was checked where that was asked for, and otherwise run
 abbrev pub DidAsked : {S : Type 0} → Bool → Sources S → Asked → Stream → Stream → ℕ → Type 0
-DidAsked true sources asked replies errors status = CheckedNamed sources asked.script replies errors status
+DidAsked true sources asked replies errors status = CheckedGiven sources asked.script asked.commands replies errors status
 DidAsked false sources asked replies errors status = RanAsked sources asked replies errors status
 
 -- what was done about a command line as it was read

@@ -5,9 +5,13 @@ use Rattle.gq_group.specs.declared.grouping.Spent.{Spent}
 use Rattle.gq_engine.specs.declared.run.Summary.{Summary}
 use Rattle.gq_engine.specs.declared.run.Fault.{Fault}
 use Rattle.gq_engine.specs.declared.run.Fault.TheVariants.{Read, Write}
-use Rattle.gq_engine.specs.Headline.{Ran, State}
+use Rattle.gq_engine.specs.declared.output.Output.{Output}
+use Rattle.gq_engine.specs.declared.output.Output.TheVariants.{Replies}
+use Rattle.gq_engine.specs.Headline.{State}
+use Rattle.gq_engine.specs.Outputs.{RanAs}
 use Rattle.gq_engine.specs.Runs.{Setting}
-use Rattle.gq_shell.specs.Streams.{Stream, GotFront}
+use Rattle.gq_engine.specs.Sending.{AppendsFront}
+use Rattle.gq_shell.specs.Streams.{Stream}
 use Rattle.gq_shell.specs.declared.seeding.RunSeed.{RunSeed}
 use Rattle.gq_shell.specs.declared.seeding.RunSeed.TheVariants.{Given, Drawn}
 
@@ -40,9 +44,11 @@ errors_text report (Ok summary) = report
 errors_text report (Err Read) = codes "groupsh: read fault\n"
 errors_text report (Err Write) = codes "groupsh: write fault\n"
 
--- The engine ran and ended in the way for which the status stands; the standard error was told of a fault, or otherwise the report, as far as it took it.
-pub record EndedWith (setting : Setting) (old : State) (script : Option Bytes) (new : State) (report : Bytes) (replies errors : Stream) (status : ℕ) : Type 0 where
+-- The engine ran and ended in the way for which the status stands. The standard error was told of refusals, and of none where replies are written; then of a fault, or otherwise the report, as far as it took it.
+pub record EndedWith (output : Output) (setting : Setting) (old : State) (script : Option Bytes) (new : State) (report : Bytes) (replies errors : Stream) (status : ℕ) : Type 0 where
   pub ended : Result Summary Fault
-  pub ran : Ran setting old script new replies.before replies.after ended
+  pub refusals : Option Bytes
+  pub ran : RanAs output setting old script new replies.before replies.after errors.before refusals ended
+  pub quiet : output ≡ Replies → refusals ≡ errors.before
   pub status_is : status ≡ status_of ended
-  pub told : GotFront errors (errors_text report ended)
+  pub told : AppendsFront refusals errors.after (errors_text report ended)

@@ -1,5 +1,5 @@
 -- Where scripts come from, and how the program stops before it has run one.
-use Rattle.std.specs.Prelude.{◌≡◌, ◌≢◌, ℕ, codes, Option, Result}
+use Rattle.std.specs.Prelude.{◌≡◌, ◌≢◌, ◌++◌, ℕ, List, codes, flat_map, Option, Result}
 use Rattle.std.specs.IoError.{error_kind}
 use Rattle.std.specs.declared.io.Error.{Error}
 use Rattle.std.specs.declared.io.ErrorKind.TheVariants as kind
@@ -26,3 +26,7 @@ pub record Sources (S : Type 0) : Type 1 where
   pub input : Option Bytes
   pub remaining : S → Option Bytes
   pub opens : Text → Result S Error → Type 0
+
+-- lines of the command line as a script: each is followed by a line feed
+abbrev pub script_of : List Text → Bytes
+script_of commands = flat_map (λ lines. lines ++ codes "\n") commands

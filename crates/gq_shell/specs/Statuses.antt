@@ -2,12 +2,13 @@
 use Rattle.std.specs.Prelude.{◌≡◌, ◌≢◌, ◌⊎◌, ℕ, Some}
 use Rattle.gq_command.specs.Commands.{Bytes}
 use Rattle.gq_engine.specs.declared.run.Summary.{Summary}
+use Rattle.gq_engine.specs.declared.output.Output.TheVariants.{Replies}
 use Rattle.gq_engine.specs.Headline.{RanToEnd, State, StoppedReading, StoppedWriting}
 use Rattle.gq_engine.specs.Runs.{Setting}
 use Rattle.gq_shell.specs.Session.{EndedWith}
 use Rattle.gq_shell.specs.Streams.{Stream}
 
--- one session's script, streams, states and report, its status aside
+-- one session's script, streams, states and report, its status aside; it writes replies
 pub record Course : Type 0 where
   pub setting : Setting
   pub old : State
@@ -18,7 +19,7 @@ pub record Course : Type 0 where
   pub errors : Stream
 
 abbrev pub Ends : Course → ℕ → Type 0
-Ends c status = EndedWith c.setting c.old (Some c.script) c.new c.report c.replies c.errors status
+Ends c status = EndedWith Replies c.setting c.old (Some c.script) c.new c.report c.replies c.errors status
 
 -- each item of the script was answered, and these are the counts
 abbrev pub AnsweredAll : Course → Summary → Type 0

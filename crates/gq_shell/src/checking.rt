@@ -1,17 +1,18 @@
 //! A script that is checked, and not run.
 ghost use Rattle.std.specs.Prelude.{◌≡◌, Option};
-ghost use Rattle.std.specs.Fn.{FnOnceReturnsAt};
+ghost use Rattle.std.specs.Fn.{FnReturnsAt};
 ghost use Rattle.gq_options.specs.Words.{asked_by};
 ghost use Rattle.gq_command.specs.Commands.{Bytes};
-ghost use Rattle.gq_shell.specs.Checking.{Begins, CheckedNamed, CheckedScript, ToldReport, ToldReports};
+ghost use Rattle.gq_shell.specs.Checking.{Begins, CheckedGiven, CheckedNamed, CheckedScript, ToldReport, ToldReports};
 ghost use Rattle.gq_shell.specs.Streams.{stream};
 
+use crate::script::script_of;
 use crate::stopping::{answer_error, stop, stop_for_memory};
 use crate::telling::{CutShort, tell};
 use gq_check::{CheckFault, Checker, Report};
 use gq_options::Options;
 use gq_row::Limits;
-use std::alloc::Global;
+use std::alloc::{AllocError, Global};
 use std::io::{self, Read, Write};
 
 /// Why a check stopped before the script's end.
@@ -26,11 +27,11 @@ pub enum CheckStop {
 }
 
 /// Tells what reading refuses of a script, and answers the exit status: 0 where it refuses nothing, 1
-/// where it does, 3 after a fault. The script is what `opener` gives for the path, and `input` where
-/// there is no path.
+/// where it does, 3 after a fault. The script is the commands of the command line, or what `opener`
+/// gives for the path, or `input`.
 pub fn check_script<R, S, F, W, E>(
     alloc: Global,
-    options: Options,
+    options: &Options,
     opener: F,
     input: R,
     replies: &mut W,
@@ -39,7 +40,41 @@ pub fn check_script<R, S, F, W, E>(
 where
     R: Read + Drop,
     S: Read + Drop,
-    F: FnOnce(&str) -> io::Result<S>,
+    F: Fn(&str) -> io::Result<S>,
+    W: Write,
+    E: Write,
+    requires { F.IsAlwaysCallable opener }
+    ensures { CheckedGiven
+        (record {
+          input = R.remaining input;
+          remaining = S.remaining;
+          opens = λ name opened. FnReturnsAt F.Fn opener name opened;
+        })
+        (asked_by options.now).script (asked_by options.now).commands (stream W.contents replies.old replies.new)
+        (stream E.contents errors.old errors.new) result }
+{
+    if options.commands.is_empty() {
+        return check_named(alloc, options, opener, input, replies, errors);
+    }
+    match script_of(alloc, options.commands.as_slice()) {
+        Ok(script) => check_open(alloc, "<command>", script.as_bytes(), replies, errors),
+        Err(AllocError) => stop_for_memory(errors),
+    }
+}
+
+// Likewise of the script of a path, or of the standard input.
+fn check_named<R, S, F, W, E>(
+    alloc: Global,
+    options: &Options,
+    opener: F,
+    input: R,
+    replies: &mut W,
+    errors: &mut E,
+) -> u8
+where
+    R: Read + Drop,
+    S: Read + Drop,
+    F: Fn(&str) -> io::Result<S>,
     W: Write,
     E: Write,
     requires { F.IsAlwaysCallable opener }
@@ -47,9 +82,9 @@ where
         (record {
           input = R.remaining input;
           remaining = S.remaining;
-          opens = λ name opened. FnOnceReturnsAt F.FnOnce opener name opened;
+          opens = λ name opened. FnReturnsAt F.Fn opener name opened;
         })
-        (asked_by options.entry).script (stream W.contents replies.old replies.new)
+        (asked_by options.now).script (stream W.contents replies.old replies.new)
         (stream E.contents errors.old errors.new) result }
 {
     match options.script {

@@ -1,5 +1,5 @@
 //! Command lines and what they ask for.
-use gq_options::{BadLine, Options, Seed, read_words};
+use gq_options::{BadLine, Options, Output, Seed, read_words};
 use std::alloc::{AllocError, Global};
 use std::test::Fail;
 
@@ -14,33 +14,46 @@ pub(crate) fn owned(alloc: Global, words: &[&str]) -> Result<Vec<String>, AllocE
 /// How the version begins. The whole line is held by `./test`, to that of the toolchain.
 pub(crate) const VERSION: &str = "groupsh 0.1.0 (rattle-kit-";
 
-const DEFAULTS: Options<'static> = Options {
-    script: None,
-    seed: Seed::Number(0),
-    budget: 65_536,
-    spill: None,
-    stats: false,
-    check: false,
-};
+fn defaults<'a>(alloc: Global) -> Options<'a> {
+    Options {
+        script: None,
+        tables: Vec::new(alloc),
+        commands: Vec::new(alloc),
+        output: Output::Replies,
+        ragged: false,
+        seed: Seed::Number(0),
+        budget: 65_536,
+        spill: None,
+        stats: false,
+        check: false,
+    }
+}
 
-fn scripted(script: &str) -> Options {
+fn scripted(alloc: Global, script: &str) -> Options {
     Options {
         script: Some(script),
-        ..DEFAULTS
+        ..defaults(alloc)
     }
 }
 
-fn seeded(seed: u64) -> Options<'static> {
+fn seeded<'a>(alloc: Global, seed: u64) -> Options<'a> {
     Options {
         seed: Seed::Number(seed),
-        ..DEFAULTS
+        ..defaults(alloc)
     }
 }
 
-fn spilling(folder: &str) -> Options {
+fn randomly_seeded<'a>(alloc: Global) -> Options<'a> {
+    Options {
+        seed: Seed::Random,
+        ..defaults(alloc)
+    }
+}
+
+fn spilling(alloc: Global, folder: &str) -> Options {
     Options {
         spill: Some(folder),
-        ..DEFAULTS
+        ..defaults(alloc)
     }
 }
 
@@ -55,127 +68,138 @@ fn names(alloc: Global, line: &[&str], due: Options) -> Result<bool, Fail> {
 
 #[test]
 fn command_lines_with_scripts(rt: HostRuntime) -> Result<(), Fail> {
+    let alloc = rt.alloc();
     let cases: [(&[&str], Options); 9] = [
-        (&["groupsh"], DEFAULTS),
-        (&["groupsh", "a.gq"], scripted("a.gq")),
-        (&["groupsh", ""], scripted("")),
-        (&["groupsh", "-"], scripted("-")),
-        (&["groupsh", "--", "a.gq"], scripted("a.gq")),
-        (&["groupsh", "--", "--help"], scripted("--help")),
-        (&["groupsh", "--", "-V"], scripted("-V")),
-        (&["groupsh", "--"], DEFAULTS),
-        (&["groupsh", "--", "--seed=5"], scripted("--seed=5")),
+        (&["groupsh"], defaults(alloc)),
+        (&["groupsh", "a.gq"], scripted(alloc, "a.gq")),
+        (&["groupsh", ""], scripted(alloc, "")),
+        (&["groupsh", "-"], scripted(alloc, "-")),
+        (&["groupsh", "--", "a.gq"], scripted(alloc, "a.gq")),
+        (&["groupsh", "--", "--help"], scripted(alloc, "--help")),
+        (&["groupsh", "--", "-V"], scripted(alloc, "-V")),
+        (&["groupsh", "--"], defaults(alloc)),
+        (&["groupsh", "--", "--seed=5"], scripted(alloc, "--seed=5")),
     ];
     for (line, due) in cases {
-        assert!(rt; names(rt.alloc(), line, due)?, "{line:?}");
+        assert!(rt; names(alloc, line, due)?, "{line:?}");
     }
     Ok(())
 }
 
 #[test]
 fn command_lines_with_numbers(rt: HostRuntime) -> Result<(), Fail> {
+    let alloc = rt.alloc();
     let cases: [(&[&str], Options); 10] = [
-        (&["groupsh", "--seed", "5"], seeded(5)),
+        (&["groupsh", "--seed", "5"], seeded(alloc, 5)),
         (
             &["groupsh", "a.gq", "--seed=5"],
             Options {
                 seed: Seed::Number(5),
-                ..scripted("a.gq")
+                ..scripted(alloc, "a.gq")
             },
         ),
-        (&["groupsh", "--seed", "+042"], seeded(42)),
-        (&["groupsh", "--seed", "0", "7"], scripted("7")),
+        (&["groupsh", "--seed", "+042"], seeded(alloc, 42)),
+        (&["groupsh", "--seed", "0", "7"], scripted(alloc, "7")),
         (
             &["groupsh", "--seed=18446744073709551615"],
-            seeded(u64::MAX),
+            seeded(alloc, u64::MAX),
         ),
         (
             &["groupsh", "--budget", "1"],
             Options {
                 budget: 1,
-                ..DEFAULTS
+                ..defaults(alloc)
             },
         ),
         (
             &["groupsh", "--budget=1048576", "a.gq"],
             Options {
                 budget: 1_048_576,
-                ..scripted("a.gq")
+                ..scripted(alloc, "a.gq")
             },
         ),
         (
             &["groupsh", "a.gq", "--budget", "+07"],
             Options {
                 budget: 7,
-                ..scripted("a.gq")
+                ..scripted(alloc, "a.gq")
             },
         ),
         (
             &["groupsh", "--budget=10", "--seed=5"],
             Options {
                 budget: 10,
-                ..seeded(5)
+                ..seeded(alloc, 5)
             },
         ),
         (
             &["groupsh", "--seed", "5", "--budget", "10"],
             Options {
                 budget: 10,
-                ..seeded(5)
+                ..seeded(alloc, 5)
             },
         ),
     ];
     for (line, due) in cases {
-        assert!(rt; names(rt.alloc(), line, due)?, "{line:?}");
+        assert!(rt; names(alloc, line, due)?, "{line:?}");
     }
     Ok(())
 }
 
 #[test]
 fn command_lines_with_random_seeds(rt: HostRuntime) -> Result<(), Fail> {
-    let random = Options {
-        seed: Seed::Random,
-        ..DEFAULTS
-    };
-    let named = Options {
-        script: Some("a.gq"),
-        ..random
-    };
+    let alloc = rt.alloc();
     let cases: [(&[&str], Options); 7] = [
-        (&["groupsh", "--seed", "random"], random),
-        (&["groupsh", "--seed=random"], random),
-        (&["groupsh", "--seed", "random", "a.gq"], named),
-        (&["groupsh", "a.gq", "--seed=random"], named),
-        (&["groupsh", "random"], scripted("random")),
-        (&["groupsh", "--seed", "0", "random"], scripted("random")),
-        (&["groupsh", "--spill", "random"], spilling("random")),
+        (&["groupsh", "--seed", "random"], randomly_seeded(alloc)),
+        (&["groupsh", "--seed=random"], randomly_seeded(alloc)),
+        (
+            &["groupsh", "--seed", "random", "a.gq"],
+            Options {
+                script: Some("a.gq"),
+                ..randomly_seeded(alloc)
+            },
+        ),
+        (
+            &["groupsh", "a.gq", "--seed=random"],
+            Options {
+                script: Some("a.gq"),
+                ..randomly_seeded(alloc)
+            },
+        ),
+        (&["groupsh", "random"], scripted(alloc, "random")),
+        (
+            &["groupsh", "--seed", "0", "random"],
+            scripted(alloc, "random"),
+        ),
+        (&["groupsh", "--spill", "random"], spilling(alloc, "random")),
     ];
     for (line, due) in cases {
-        assert!(rt; names(rt.alloc(), line, due)?, "{line:?}");
+        assert!(rt; names(alloc, line, due)?, "{line:?}");
     }
     Ok(())
 }
 
 #[test]
 fn command_lines_with_folders_and_reports(rt: HostRuntime) -> Result<(), Fail> {
+    let alloc = rt.alloc();
     let cases: [(&[&str], Options); 8] = [
-        (&["groupsh", "--spill", "d"], spilling("d")),
-        (&["groupsh", "--spill=-d"], spilling("-d")),
-        (&["groupsh", "--spill", "-"], spilling("-")),
-        (&["groupsh", "--spill="], spilling("")),
-        (&["groupsh", "--spill", ""], spilling("")),
+        (&["groupsh", "--spill", "d"], spilling(alloc, "d")),
+        (&["groupsh", "--spill=-d"], spilling(alloc, "-d")),
+        (&["groupsh", "--spill", "-"], spilling(alloc, "-")),
+        (&["groupsh", "--spill="], spilling(alloc, "")),
+        (&["groupsh", "--spill", ""], spilling(alloc, "")),
         (
             &["groupsh", "--stats"],
             Options {
                 stats: true,
-                ..DEFAULTS
+                ..defaults(alloc)
             },
         ),
         (
             &["groupsh", "a.gq", "--stats"],
             Options {
                 stats: true,
-                ..scripted("a.gq")
+                ..scripted(alloc, "a.gq")
             },
         ),
         (
@@ -197,11 +221,12 @@ fn command_lines_with_folders_and_reports(rt: HostRuntime) -> Result<(), Fail> {
                 spill: Some("d"),
                 stats: true,
                 check: true,
+                ..defaults(alloc)
             },
         ),
     ];
     for (line, due) in cases {
-        assert!(rt; names(rt.alloc(), line, due)?, "{line:?}");
+        assert!(rt; names(alloc, line, due)?, "{line:?}");
     }
     Ok(())
 }

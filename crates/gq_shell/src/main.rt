@@ -23,6 +23,7 @@ mod script;
 mod seeding;
 mod session;
 mod stopping;
+mod tables;
 mod telling;
 #[cfg(test)]
 mod tests;

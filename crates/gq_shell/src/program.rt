@@ -1,6 +1,6 @@
 //! The whole program, over what the process hands it.
 ghost use Rattle.std.specs.Prelude.{map, string_bytes};
-ghost use Rattle.std.specs.Fn.{FnOnceReturnsAt};
+ghost use Rattle.std.specs.Fn.{FnReturnsAt};
 ghost use Rattle.std.specs.Result.{result_map_both};
 ghost use Rattle.gq_shell.specs.Program.{RanProgram};
 ghost use Rattle.gq_shell.specs.Streams.{stream};
@@ -34,7 +34,7 @@ where
     N: RandomSource,
     R: Read + Drop,
     S: Read + Drop,
-    F: FnOnce(&str) -> io::Result<S>,
+    F: Fn(&str) -> io::Result<S>,
     W: Write,
     E: Write,
     requires { F.IsAlwaysCallable opener }
@@ -42,7 +42,7 @@ where
         (record {
           input = R.remaining input;
           remaining = S.remaining;
-          opens = λ name opened. FnOnceReturnsAt F.FnOnce opener name opened;
+          opens = λ name opened. FnReturnsAt F.Fn opener name opened;
         })
         (result_map_both (λ w. map string_bytes w.items) (λ e. e) words)
         (stream W.contents replies.old replies.new) (stream E.contents errors.old errors.new)
@@ -57,10 +57,10 @@ where
     };
     match read_words(alloc, words.as_slice()) {
         Ok(options) if options.check => {
-            check_script(alloc, options, opener, input, replies, errors)
+            check_script(alloc, &options, opener, input, replies, errors)
         }
         Ok(options) => run_script(
-            alloc, options, files, source, opener, input, replies, errors,
+            alloc, &options, files, source, opener, input, replies, errors,
         ),
         Err(bad) => answer_bad_line(&bad, replies, errors),
     }

@@ -1,17 +1,18 @@
 //! The script that a command line names, opened and run.
-ghost use Rattle.std.specs.Prelude.{◌≡◌, [], max, min};
-ghost use Rattle.std.specs.Fn.{FnOnceReturnsAt};
+ghost use Rattle.std.specs.Prelude.{◌≡◌, ◌⊎◌, ◌++◌, [], IfOk, codes, flat_map, max, min, string_bytes};
+ghost use Rattle.std.specs.Fn.{FnReturnsAt};
 ghost use Rattle.gq_row.specs.Limits.{GREATEST};
 ghost use Rattle.gq_engine.specs.Engines.{setting_of, state_of};
-ghost use Rattle.gq_shell.specs.Program.{NOTHING, RanAsked, RanNamed, RanScript, setting_by};
+ghost use Rattle.gq_shell.specs.Program.{HadNoTables, NOTHING, RanAsked, RanGiven, RanNamed, RanScript, output_of, setting_by};
 ghost use Rattle.gq_shell.specs.Streams.{stream};
 ghost use Rattle.gq_options.specs.Words.{asked_by};
 
 use crate::seeding::{RunSeed, draw};
 use crate::session::session;
 use crate::stopping::{answer_error, stop_for_memory};
+use crate::tables::make_asked;
 use gq_dir::DirStore;
-use gq_engine::{Budget, Engine, MemStore, RunStore};
+use gq_engine::{Budget, Engine, Format, MemStore, Output, RunStore};
 use gq_options::Options;
 use gq_row::Limits;
 use std::alloc::{AllocError, Global};
@@ -26,7 +27,7 @@ use sw_probe::WordHash;
 /// the exit status. The script is what `opener` gives for the path, and `input` where there is no path.
 pub fn run_script<D, N, R, S, F, W, E>(
     alloc: Global,
-    options: Options,
+    options: &Options,
     files: &D,
     source: &N,
     opener: F,
@@ -39,7 +40,7 @@ where
     N: RandomSource,
     R: Read + Drop,
     S: Read + Drop,
-    F: FnOnce(&str) -> io::Result<S>,
+    F: Fn(&str) -> io::Result<S>,
     W: Write,
     E: Write,
     requires { F.IsAlwaysCallable opener }
@@ -47,9 +48,9 @@ where
         (record {
           input = R.remaining input;
           remaining = S.remaining;
-          opens = λ name opened. FnOnceReturnsAt F.FnOnce opener name opened;
+          opens = λ name opened. FnReturnsAt F.Fn opener name opened;
         })
-        (asked_by options.entry) (stream W.contents replies.old replies.new)
+        (asked_by options.now) (stream W.contents replies.old replies.new)
         (stream E.contents errors.old errors.new) result }
 {
     let seed = match draw(options.seed, source) {
@@ -72,7 +73,7 @@ where
 // them all at once as the program ends: to give the cells back one by one takes a twentieth of a load's time.
 fn run_over<T, R, S, F, W, E>(
     alloc: Global,
-    options: Options,
+    options: &Options,
     seed: RunSeed,
     store: T,
     opener: F,
@@ -84,31 +85,81 @@ where
     T: RunStore + Drop,
     R: Read + Drop,
     S: Read + Drop,
-    F: FnOnce(&str) -> io::Result<S>,
+    F: Fn(&str) -> io::Result<S>,
     W: Write,
     E: Write,
     requires callable { F.IsAlwaysCallable opener }
-    requires honest { (T.runs store).honest ≡ (setting_by (asked_by options).spill).honest }
+    requires honest { (T.runs store).honest ≡ (setting_by (asked_by options.now).spill).honest }
     requires failures { (T.runs store).failures ≡ 0 }
-    ensures { RanNamed
+    ensures { RanGiven
         (record {
           input = R.remaining input;
           remaining = S.remaining;
-          opens = λ name opened. FnOnceReturnsAt F.FnOnce opener name opened;
+          opens = λ name opened. FnReturnsAt F.Fn opener name opened;
         })
-        (asked_by options.entry) seed (asked_by options.entry).script (stream W.contents replies.old replies.new)
+        (asked_by options.now) seed (asked_by options.now).commands (stream W.contents replies.old replies.new)
+        (stream E.contents errors.old errors.new) result
+        ⊎ HadNoTables (asked_by options.now) (stream W.contents replies.old replies.new)
         (stream E.contents errors.old errors.new) result }
 {
     let mut engine = engine_over(alloc, options, seed, store);
-    let status = run_in(&mut engine, options, seed, opener, input, replies, errors);
+    let status = make_and_run(
+        alloc,
+        &mut engine,
+        options,
+        seed,
+        opener,
+        input,
+        replies,
+        errors,
+    );
     mem::forget(engine);
     status
+}
+
+// Makes the tables that are asked for in an engine, and then runs the script.
+fn make_and_run<T, R, S, F, W, E>(
+    alloc: Global,
+    engine: &mut Engine<WordHash, T>,
+    options: &Options,
+    seed: RunSeed,
+    opener: F,
+    input: R,
+    replies: &mut W,
+    errors: &mut E,
+) -> u8
+where
+    T: RunStore,
+    R: Read + Drop,
+    S: Read + Drop,
+    F: Fn(&str) -> io::Result<S>,
+    W: Write,
+    E: Write,
+    requires callable { F.IsAlwaysCallable opener }
+    requires setting { setting_of T.runs engine.old ≡ setting_by (asked_by options.now).spill }
+    requires state { state_of T.runs engine.old ≡ NOTHING }
+    ensures { RanGiven
+        (record {
+          input = R.remaining input;
+          remaining = S.remaining;
+          opens = λ name opened. FnReturnsAt F.Fn opener name opened;
+        })
+        (asked_by options.now) seed (asked_by options.now).commands (stream W.contents replies.old replies.new)
+        (stream E.contents errors.old errors.new) result
+        ⊎ HadNoTables (asked_by options.now) (stream W.contents replies.old replies.new)
+        (stream E.contents errors.old errors.new) result }
+{
+    let mut input = input;
+    match make_asked(alloc, engine, options, &opener, &mut input, errors) {
+        Err(status) => status,
+        Ok(()) => run_in(alloc, engine, options, seed, opener, input, replies, errors),
+    }
 }
 
 // An engine without tables over a run store.
 fn engine_over<T: RunStore>(
     alloc: Global,
-    options: Options,
+    options: &Options,
     seed: RunSeed,
     store: T,
 ) -> Engine<WordHash, T>
@@ -126,10 +177,11 @@ fn engine_over<T: RunStore>(
     )
 }
 
-// Opens the script, and runs it in an engine.
+// Runs the commands of the command line in an engine, if there are any, or else the script that it names.
 fn run_in<T, R, S, F, W, E>(
+    alloc: Global,
     engine: &mut Engine<WordHash, T>,
-    options: Options,
+    options: &Options,
     seed: RunSeed,
     opener: F,
     input: R,
@@ -140,19 +192,57 @@ where
     T: RunStore,
     R: Read + Drop,
     S: Read + Drop,
-    F: FnOnce(&str) -> io::Result<S>,
+    F: Fn(&str) -> io::Result<S>,
     W: Write,
     E: Write,
     requires callable { F.IsAlwaysCallable opener }
-    requires setting { setting_of T.runs engine.old ≡ setting_by (asked_by options).spill }
-    requires state { state_of T.runs engine.old ≡ NOTHING }
+    requires setting { setting_of T.runs engine.old ≡ setting_by (asked_by options.now).spill }
+    requires state { (asked_by options.now).tables ≡ [] → state_of T.runs engine.old ≡ NOTHING }
+    ensures { RanGiven
+        (record {
+          input = R.remaining input;
+          remaining = S.remaining;
+          opens = λ name opened. FnReturnsAt F.Fn opener name opened;
+        })
+        (asked_by options.now) seed (asked_by options.now).commands (stream W.contents replies.old replies.new)
+        (stream E.contents errors.old errors.new) result }
+{
+    if options.commands.is_empty() {
+        return run_named(engine, options, seed, opener, input, replies, errors);
+    }
+    match script_of(alloc, options.commands.as_slice()) {
+        Ok(script) => run_open(engine, options, seed, script.as_bytes(), replies, errors),
+        Err(AllocError) => stop_for_memory(errors),
+    }
+}
+
+// Opens the script of a path, or takes the standard input, and runs it in an engine.
+fn run_named<T, R, S, F, W, E>(
+    engine: &mut Engine<WordHash, T>,
+    options: &Options,
+    seed: RunSeed,
+    opener: F,
+    input: R,
+    replies: &mut W,
+    errors: &mut E,
+) -> u8
+where
+    T: RunStore,
+    R: Read + Drop,
+    S: Read + Drop,
+    F: Fn(&str) -> io::Result<S>,
+    W: Write,
+    E: Write,
+    requires callable { F.IsAlwaysCallable opener }
+    requires setting { setting_of T.runs engine.old ≡ setting_by (asked_by options.now).spill }
+    requires state { (asked_by options.now).tables ≡ [] → state_of T.runs engine.old ≡ NOTHING }
     ensures { RanNamed
         (record {
           input = R.remaining input;
           remaining = S.remaining;
-          opens = λ name opened. FnOnceReturnsAt F.FnOnce opener name opened;
+          opens = λ name opened. FnReturnsAt F.Fn opener name opened;
         })
-        (asked_by options.entry) seed (asked_by options.entry).script (stream W.contents replies.old replies.new)
+        (asked_by options.now) seed (asked_by options.now).script (stream W.contents replies.old replies.new)
         (stream E.contents errors.old errors.new) result }
 {
     match options.script {
@@ -167,7 +257,7 @@ where
 // Runs a script that is open.
 fn run_open<T, R, W, E>(
     engine: &mut Engine<WordHash, T>,
-    options: Options,
+    options: &Options,
     seed: RunSeed,
     script: R,
     replies: &mut W,
@@ -178,12 +268,44 @@ where
     R: Read + Drop,
     W: Write,
     E: Write,
-    requires setting { setting_of T.runs engine.old ≡ setting_by (asked_by options).spill }
-    requires state { state_of T.runs engine.old ≡ NOTHING }
-    ensures { RanScript (asked_by options.entry) seed (R.remaining script)
+    requires setting { setting_of T.runs engine.old ≡ setting_by (asked_by options.now).spill }
+    requires state { (asked_by options.now).tables ≡ [] → state_of T.runs engine.old ≡ NOTHING }
+    ensures { RanScript (asked_by options.now) seed (R.remaining script)
         (stream W.contents replies.old replies.new) (stream E.contents errors.old errors.new) result }
 {
-    session(engine, script, replies, errors, options.stats, seed)
+    session(
+        engine,
+        output_of(options.output),
+        script,
+        replies,
+        errors,
+        options.stats,
+        seed,
+    )
+}
+
+/// The lines of commands as a script, each followed by a line feed.
+pub fn script_of(alloc: Global, commands: &[&str]) -> Result<String, AllocError>
+    ensures { IfOk result (λ script. string_bytes script ≡ flat_map (λ lines. lines.now ++ codes "\n") commands.now) }
+{
+    let mut script = String::new(alloc);
+    for i in 0..commands.len() {
+        script.push_str(commands[i])?;
+        script.push_str("\n")?;
+    }
+    Ok(script)
+}
+
+// What the engine writes, by the format that was asked for.
+fn output_of(asked: gq_options::Output) -> Output
+    ensures { result ≡ output_of asked }
+{
+    match asked {
+        gq_options::Output::Replies => Output::Replies,
+        gq_options::Output::Csv => Output::Results(Format::Csv),
+        gq_options::Output::Json => Output::Results(Format::Json),
+        gq_options::Output::Box => Output::Results(Format::Box),
+    }
 }
 
 // The budget of a number, or the nearest one.

@@ -7,16 +7,17 @@ ghost use Rattle.gq_shell.specs.Streams.{stream};
 use crate::report::report_of;
 use crate::seeding::RunSeed;
 use crate::telling::tell;
-use gq_engine::{Engine, Fault, RunStore, Summary};
+use gq_engine::{Engine, Fault, Output, RunStore, Summary};
 use gq_row::Key;
 use std::io::{Read, Write};
 use sw_probe::KeyHash;
 
-/// Runs a script: reads it from the reader, writes the reply to each command, and answers the exit
-/// status. A fault is told to `errors`, and where there is none and `stats` asks for it, what the
-/// groupings took, and the engine's seed where it was drawn; a fault in telling it is passed over.
+/// Runs a script: reads it from the reader, writes what the output has of the reply to each command,
+/// and returns the exit status. `errors` gets refusals that the output leaves out, and then a fault,
+/// or the report that `stats` asks for; a fault in writing there is ignored.
 pub fn session<H: KeyHash<Key> + Copy, S: RunStore, R: Read + Drop, W: Write, E: Write>(
     engine: &mut Engine<H, S>,
+    output: Output,
     reader: R,
     writer: &mut W,
     errors: &mut E,
@@ -24,12 +25,12 @@ pub fn session<H: KeyHash<Key> + Copy, S: RunStore, R: Read + Drop, W: Write, E:
     seed: RunSeed,
 ) -> u8
     // What was written is as the engine ran, and the status stands for how that ended.
-    ensures ended { EndedWith (setting_of S.runs engine.old) (state_of S.runs engine.old) (R.remaining reader)
+    ensures ended { EndedWith output (setting_of S.runs engine.old) (state_of S.runs engine.old) (R.remaining reader)
         (state_of S.runs engine.new) (report_of stats seed (spent_of engine.new))
         (stream W.contents writer.old writer.new) (stream E.contents errors.old errors.new) result }
     ensures setting { setting_of S.runs engine.new ≡ setting_of S.runs engine.old }
 {
-    let ended = engine.run(reader, writer);
+    let ended = engine.run_as(output, reader, writer, errors);
     let report = report_of(stats, seed, engine.spent());
     let _told = tell(errors_text(&ended, report.as_str()), errors);
     status_of(&ended)

@@ -5,7 +5,7 @@ use crate::report::report_of;
 use crate::seeding::RunSeed;
 use crate::session::session;
 use crate::telling::CutShort;
-use gq_engine::{Budget, Engine, MemStore, Spent};
+use gq_engine::{Budget, Engine, MemStore, Output, Spent};
 use gq_options::BadLine;
 use gq_row::{Bounds, Limits};
 use std::alloc::{AllocError, Global};
@@ -72,7 +72,15 @@ fn statuses(rt: HostRuntime) -> Result<(), Fail> {
         let mut engine = fresh(rt.alloc(), Limits::greatest())?;
         let mut replies = Vec::new(rt.alloc());
         let mut errors = Vec::new(rt.alloc());
-        let answered = session(&mut engine, script, &mut replies, &mut errors, false, GIVEN);
+        let answered = session(
+            &mut engine,
+            Output::Replies,
+            script,
+            &mut replies,
+            &mut errors,
+            false,
+            GIVEN,
+        );
         assert_eq!(rt; answered, status);
         assert_eq!(rt; replies.as_slice(), due);
         assert!(rt; errors.is_empty());
@@ -153,7 +161,15 @@ fn read_faults(rt: HostRuntime) -> Result<(), Fail> {
         let script = Broken {
             bytes: b"create s (a int)\nupsert s (1)",
         };
-        let status = session(&mut engine, script, &mut replies, &mut errors, false, GIVEN);
+        let status = session(
+            &mut engine,
+            Output::Replies,
+            script,
+            &mut replies,
+            &mut errors,
+            false,
+            GIVEN,
+        );
         assert_eq!(rt; status, 3);
         assert_eq!(rt; replies.as_slice(), b"ok 0\n".as_slice());
         assert_eq!(rt; errors.as_slice(), b"groupsh: read fault\n".as_slice());
@@ -168,7 +184,15 @@ fn write_faults(rt: HostRuntime) -> Result<(), Fail> {
         let mut replies = Narrow::new(rt.alloc(), 4, error);
         let mut errors = Narrow::new(rt.alloc(), 1000, None);
         let script: &[u8] = b"create s (a int)\nupsert s (1)\n";
-        let status = session(&mut engine, script, &mut replies, &mut errors, false, GIVEN);
+        let status = session(
+            &mut engine,
+            Output::Replies,
+            script,
+            &mut replies,
+            &mut errors,
+            false,
+            GIVEN,
+        );
         assert_eq!(rt; status, 3);
         assert_eq!(rt; replies.written.as_slice(), b"ok 0\nok".as_slice());
         assert_eq!(rt;
@@ -197,6 +221,7 @@ fn faults_at_each_call(rt: HostRuntime) -> Result<(), Fail> {
         let (bytes, _rest) = script.split_at(count);
         let status = session(
             &mut engine,
+            Output::Replies,
             Broken { bytes },
             &mut replies,
             &mut errors,
@@ -212,7 +237,15 @@ fn faults_at_each_call(rt: HostRuntime) -> Result<(), Fail> {
             let mut engine = fresh(rt.alloc(), Limits::greatest())?;
             let mut replies = Narrow::new(rt.alloc(), room, error);
             let mut errors = Vec::new(rt.alloc());
-            let status = session(&mut engine, script, &mut replies, &mut errors, false, GIVEN);
+            let status = session(
+                &mut engine,
+                Output::Replies,
+                script,
+                &mut replies,
+                &mut errors,
+                false,
+                GIVEN,
+            );
             let told = b"groupsh: write fault\n";
             assert_fault(
                 &rt,
@@ -235,7 +268,15 @@ fn a_standard_error_that_takes_little(rt: HostRuntime) -> Result<(), Fail> {
             let mut replies = Vec::new(rt.alloc());
             let mut errors = Narrow::new(rt.alloc(), room, error);
             let script = Broken { bytes: b"" };
-            let status = session(&mut engine, script, &mut replies, &mut errors, true, GIVEN);
+            let status = session(
+                &mut engine,
+                Output::Replies,
+                script,
+                &mut replies,
+                &mut errors,
+                true,
+                GIVEN,
+            );
             assert_eq!(rt; status, 3);
             let told: &[u8] = b"groupsh: read fault\n";
             let (front, _rest) = told.split_at((2 * room).min(told.len()));
@@ -250,7 +291,15 @@ fn run_session(alloc: Global, script: &[u8], stats: bool) -> Result<(u8, Vec<u8>
     let mut engine = fresh(alloc, Limits::greatest())?;
     let mut replies = Vec::new(alloc);
     let mut errors = Vec::new(alloc);
-    let status = session(&mut engine, script, &mut replies, &mut errors, stats, GIVEN);
+    let status = session(
+        &mut engine,
+        Output::Replies,
+        script,
+        &mut replies,
+        &mut errors,
+        stats,
+        GIVEN,
+    );
     Ok((status, replies, errors))
 }
 
@@ -302,6 +351,7 @@ fn long_reports(rt: HostRuntime) -> Result<(), Fail> {
     let mut errors = Narrow::new(rt.alloc(), 7, None);
     let status = session(
         &mut engine,
+        Output::Replies,
         grouped(),
         &mut replies,
         &mut errors,
@@ -464,7 +514,7 @@ fn random_seeds(rt: HostRuntime) -> Result<(), Fail> {
 #[test]
 fn command_lines_that_run_nothing(rt: HostRuntime) -> Result<(), Fail> {
     let cases: [(&[&str], u8, &str, &str); 5] = [
-        (&["groupsh", "--help"], 0, "Keeps rows", ""),
+        (&["groupsh", "--help"], 0, "Groups rows", ""),
         (&["groupsh", "--version"], 0, VERSION, ""),
         (&["groupsh", "a.gq", "-V"], 0, VERSION, ""),
         (&["groupsh", "--seed", "x", "a.gq"], 2, "", "error: "),

@@ -13,12 +13,19 @@ pub returns-in-Ok-read_words : goal.returns-in-Ok-read_words
 returns-in-Ok-read_words g c = rw c.in-Ok.is (record {
   read = c.read_words.result;
   reads = rw (← c.as_slice.ensures.value) c.read_words.ensures;
-  did = rw c.in-Ok-read_words.is (rw c.if-options.true c.check_script.ensures);
+  did = rw c.in-Ok-read_words.is (rw c.if-read_words.true c.check_script.ensures);
 })
 
 pub returns-in-Ok-2 : goal.returns-in-Ok-2
 returns-in-Ok-2 g c = rw c.in-Ok.is (record {
   read = c.read_words.result;
   reads = rw (← c.as_slice.ensures.value) c.read_words.ensures;
-  did = rw c.in-Ok-read_words.is (runs _ _ _ _ _ _ c.if-options.false c.run_script.ensures);
+  did = rw c.in-Ok-read_words.is (runs _ _ _ _ _ _ c.if-read_words.false c.run_script.ensures);
+})
+
+pub returns : goal.returns
+returns g c = rw c.in-Ok.is (record {
+  read = c.read_words.result;
+  reads = rw (← c.as_slice.ensures.value) c.read_words.ensures;
+  did = rw c.in-Err-read_words.is c.answer_bad_line.ensures;
 })

@@ -1,4 +1,4 @@
-use Rattle.std.proofs.Common.{ap, sym, subst, append-nil, ℕ, List, [], Result, Ok, Err, ◌∙◌}
+use Rattle.std.proofs.Common.{◌≡◌, ap, sym, subst, append-nil, ℕ, List, [], Result, Ok, Err, ◌∙◌}
 use Rattle.gq_shell.specs.Session.{errors_text, report_of}
 use Rattle.gq_shell.specs.Streams.{GotFront, Stream, Told, stream}
 use Rattle.gq_shell.specs.declared.telling.CutShort.{CutShort}
@@ -12,11 +12,13 @@ told-front s text (Err fault) front = front
 pub returns-clause-ended : goal.returns-clause-ended
 returns-clause-ended g c =
     let text_is = c.errors_text.ensures
-    ∙ ap (λ (r : List ℕ). errors_text r c.run-ended.result) (c.as_str.ensures.value ∙ c.report_of-report.ensures ∙ ap (report_of c.args.stats c.args.seed) c.spent.ensures) in
-    let errors = stream g.E.Write.contents c.args.errors.now c.tell-told.new.writer in
+    ∙ ap (λ (r : List ℕ). errors_text r c.run_as-ended.result) (c.as_str.ensures.value ∙ c.report_of-report.ensures ∙ ap (report_of c.args.stats c.args.seed) c.spent.ensures) in
+    let errors = stream g.E.Write.contents c.run_as-ended.new.errors c.tell-told.new.writer in
     record {
-      ended = c.run-ended.result;
-      ran = c.run-ended.ensures.ran;
+      ended = c.run_as-ended.result;
+      refusals = g.E.Write.contents c.run_as-ended.new.errors;
+      ran = c.run_as-ended.ensures.ran;
+      quiet = λ is. ap g.E.Write.contents (c.run_as-ended.ensures.quiet is);
       status_is = c.status_of.ensures;
       told = subst (λ (t : List ℕ). GotFront errors t) text_is (told-front errors c.errors_text.result.now c.tell-told.result c.tell-told.ensures);
     }
