@@ -11,12 +11,13 @@ _groupsh() {
   fi
   ((at >= 0)) && before=${COMP_WORDS[at]}
   case $before in
-    --budget) COMPREPLY=() ;;
+    --budget | -c | --command) COMPREPLY=() ;;
+    -o | --output) mapfile -t COMPREPLY < <(compgen -W "replies csv json box" -- "$word") ;;
     --seed) mapfile -t COMPREPLY < <(compgen -W "random" -- "$word") ;;
     --spill) mapfile -t COMPREPLY < <(compgen -d -- "$word") ;;
     *)
       case $word in
-        -*) mapfile -t COMPREPLY < <(compgen -W "--budget --seed --spill --stats --check --help -h --version -V" -- "$word") ;;
+        -*) mapfile -t COMPREPLY < <(compgen -W "--table -t --command -c --output -o --ragged --budget --seed --spill --stats --check --help -h --version -V" -- "$word") ;;
         *) mapfile -t COMPREPLY < <(compgen -f -- "$word") ;;
       esac
       ;;
