@@ -25,9 +25,9 @@ pub enum Output {
     Replies,
     /// CSV.
     Csv,
-    /// A JSON array of objects.
+    /// A JSON object for each row, on a line of its own.
     Json,
-    /// A table drawn with lines.
+    /// A box of columns, for people.
     Box,
 }
 

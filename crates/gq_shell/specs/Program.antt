@@ -68,7 +68,7 @@ DrawsFor asked (Err e) = asked ≡ Random
 abbrev pub IsStopped : Stream → ℕ → Type 0
 IsStopped errors status = ((text : Bytes) × GotFront errors text) × (status ≢ 0)
 
--- A session of an engine read this script, and reported its work if that was asked for, and this seed if it was drawn. The engine had no tables but those that were asked for.
+-- A session of an engine read this script, and reported its work if that was asked for, and this seed if it was drawn. The engine had no tables if none were asked for; otherwise nothing is said of them.
 pub record RanScript (asked : Asked) (seed : RunSeed) (script : Option Bytes) (replies errors : Stream) (status : ℕ) : Type 0 where
   pub old : State
   pub no_others : asked.tables ≡ [] → old ≡ NOTHING

@@ -8,9 +8,9 @@
 //!
 //! # The contract above this crate
 //!
-//! [`make_tables`] leaves the engine's setting as it was, and reads the standard input only for a
-//! word that asks for it. Each step is an engine's `create`, an inference or a load, whose contracts
-//! say what they do; that these steps come in the order of the words is tested, and not proved.
+//! [`make_tables`] leaves the engine's limits, and whether its run store is honest;
+//! [`TableFault::text`] is what `specs/Faults.antt` spells. Which tables are made from which files,
+//! and when the standard input is read, is tested and not proved.
 #![tactic(auto)]
 
 mod fault;
