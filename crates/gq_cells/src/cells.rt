@@ -416,7 +416,7 @@ fn number_of(value: &Value) -> Option<Option<i64>>
     match value {
         Value::Null => Some(None),
         Value::Int(n) => Some(Some(*n)),
-        _ => None,
+        Value::Text(_) | Value::NoCase(_) => None,
     }
 }
 

@@ -13,9 +13,14 @@ use Rattle.gq_row.specs.Rows.{cell}
 abbrev pub goes_in : Kind → Value → Bool
 goes_in k Null = true
 goes_in kind.Int (Int n) = true
+goes_in kind.Text (Int n) = false
+goes_in kind.NoCase (Int n) = false
+goes_in kind.Int (Text t) = false
 goes_in kind.Text (Text t) = true
+goes_in kind.NoCase (Text t) = false
+goes_in kind.Int (NoCase t) = false
+goes_in kind.Text (NoCase t) = false
 goes_in kind.NoCase (NoCase t) = true
-goes_in _ _ = false
 
 -- what a column stores of a value: one of texts without case takes a text as such, and else it is the value
 abbrev pub stored : Kind → Value → Value

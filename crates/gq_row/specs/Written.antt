@@ -12,6 +12,9 @@ IsInPlace (NoCase t) = length t ≤ 22
 
 -- what is left of a value over which another could not be written: of a text under a text of its kind an empty one, and else the value
 abbrev pub left_by : Value → Value → Value
+left_by Null new = Null
+left_by (Int n) new = Int n
 left_by (Text old) (Text new) = Text []
+left_by (Text old) new = Text old
 left_by (NoCase old) (NoCase new) = NoCase []
-left_by old new = old
+left_by (NoCase old) new = NoCase old

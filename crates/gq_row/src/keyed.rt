@@ -190,7 +190,7 @@ fn fold_cell<F: Step>(value: &Value, start: u64, f: &F) -> u64
 {
     match value {
         Value::NoCase(text) => fold_lowered(text, f.step(start, 3), f),
-        _ => fold_value(value, start, f),
+        Value::Null | Value::Int(_) | Value::Text(_) => fold_value(value, start, f),
     }
 }
 

@@ -60,7 +60,7 @@ fn fold_words_of_fold<F: WordStep>(value: &Value, start: u64, f: &F) -> u64
 {
     match value {
         Value::NoCase(text) => fold_lowered_words(text, start, f),
-        _ => fold_value_words(value, start, f),
+        Value::Null | Value::Int(_) | Value::Text(_) => fold_value_words(value, start, f),
     }
 }
 
