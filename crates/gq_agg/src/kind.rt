@@ -26,8 +26,9 @@ impl AggKind {
         ensures { result ≡ takes self value.now }
     {
         match (self, value) {
+            (AggKind::Sum, Value::Null | Value::Int(_)) => true,
             (AggKind::Sum, Value::Text(_) | Value::NoCase(_)) => false,
-            _ => true,
+            (AggKind::CountAll | AggKind::Count | AggKind::Min | AggKind::Max, _) => true,
         }
     }
 }

@@ -184,6 +184,6 @@ fn fits_cell(kind: AggKind, column: usize, row: &Row) -> bool
 {
     match kind {
         AggKind::Sum => kind.takes(row.cell(column)),
-        _ => true,
+        AggKind::CountAll | AggKind::Count | AggKind::Min | AggKind::Max => true,
     }
 }

@@ -19,9 +19,14 @@ use Rattle.gq_select.specs.declared.matching.Matching.{Matching}
 
 abbrev pub same_kind : Kind → Kind → Bool
 same_kind Int Int = true
+same_kind Int Text = false
+same_kind Int NoCase = false
+same_kind Text Int = false
 same_kind Text Text = true
+same_kind Text NoCase = false
+same_kind NoCase Int = false
+same_kind NoCase Text = false
 same_kind NoCase NoCase = true
-same_kind _ _ = false
 
 -- texts, with case or without
 abbrev pub is_text : Kind → Bool

@@ -31,15 +31,20 @@ shown_of columns (Max name) = option_map (shown.Aggregate kind.Max) (position_of
 abbrev pub all_shown : List TableColumn → List Aggregate → Option (List Shown)
 all_shown columns aggregates = all_of (map (shown_of columns) aggregates)
 
--- whether two aggregates are the same: of one kind, and of columns of one name
+-- whether two aggregates are the same: of one kind, and of columns of one name; each kind has its two cases, so that a new one can't be left out
 abbrev pub same_aggregate : Aggregate → Aggregate → Bool
 same_aggregate CountAll CountAll = true
+same_aggregate CountAll other = false
 same_aggregate (Count a) (Count b) = bytes_eq a b
+same_aggregate (Count a) other = false
 same_aggregate (CountDistinct a) (CountDistinct b) = bytes_eq a b
+same_aggregate (CountDistinct a) other = false
 same_aggregate (Sum a) (Sum b) = bytes_eq a b
+same_aggregate (Sum a) other = false
 same_aggregate (Min a) (Min b) = bytes_eq a b
+same_aggregate (Min a) other = false
 same_aggregate (Max a) (Max b) = bytes_eq a b
-same_aggregate _ _ = false
+same_aggregate (Max a) other = false
 
 -- the place of an operand in a row of the table: none for a name that is no column's, and for an aggregate
 abbrev pub in_row : List TableColumn → NamedOperand → Option Operand

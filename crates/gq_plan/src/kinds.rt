@@ -70,7 +70,8 @@ fn shown_kind(columns: &[Column], shown: &Shown) -> Kind
 {
     match shown {
         Shown::Aggregate(AggKind::Min | AggKind::Max, column) => kind_at(columns, *column),
-        _ => Kind::Int,
+        Shown::Aggregate(AggKind::CountAll | AggKind::Count | AggKind::Sum, _) => Kind::Int,
+        Shown::CountDistinct(_) => Kind::Int,
     }
 }
 
@@ -119,7 +120,7 @@ fn agree(one: Option<Kind>, other: Option<Kind>) -> bool
 {
     match (one, other) {
         (Some(one), Some(other)) => goes_with(one, other),
-        _ => true,
+        (None, _) | (_, None) => true,
     }
 }
 
@@ -133,7 +134,10 @@ fn goes_with(one: Kind, other: Kind) -> bool
 fn is_text(kind: Kind) -> bool
     ensures { result ≡ is_text kind }
 {
-    matches!(kind, Kind::Text | Kind::NoCase)
+    match kind {
+        Kind::Int => false,
+        Kind::Text | Kind::NoCase => true,
+    }
 }
 
 fn is_same(one: Kind, other: Kind) -> bool

@@ -71,7 +71,9 @@ fn is_same(one: &Aggregate, other: &Aggregate) -> bool
         (Aggregate::Sum(a), Aggregate::Sum(b)) => a == b,
         (Aggregate::Min(a), Aggregate::Min(b)) => a == b,
         (Aggregate::Max(a), Aggregate::Max(b)) => a == b,
-        _ => false,
+        // Each kind is named once more, so that a new one can't be left out above.
+        (Aggregate::CountAll | Aggregate::Count(_) | Aggregate::CountDistinct(_), _) => false,
+        (Aggregate::Sum(_) | Aggregate::Min(_) | Aggregate::Max(_), _) => false,
     }
 }
 

@@ -32,8 +32,9 @@ fn has_spellings(columns: &[Column], by: &[usize]) -> bool
     ensures { result ≡ may_differ columns.now by.now }
 {
     for column in by {
-        if matches!(columns[*column].kind, Kind::NoCase) {
-            return true;
+        match columns[*column].kind {
+            Kind::Int | Kind::Text => {}
+            Kind::NoCase => return true,
         }
     }
     false

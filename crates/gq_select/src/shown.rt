@@ -33,5 +33,9 @@ impl Shown {
 fn takes_kind(asked: AggKind, kind: Kind) -> bool
     ensures { result ≡ may_take asked kind }
 {
-    !matches!((asked, kind), (AggKind::Sum, Kind::Text | Kind::NoCase))
+    match (asked, kind) {
+        (AggKind::Sum, Kind::Int) => true,
+        (AggKind::Sum, Kind::Text | Kind::NoCase) => false,
+        (AggKind::CountAll | AggKind::Count | AggKind::Min | AggKind::Max, _) => true,
+    }
 }
