@@ -119,8 +119,14 @@ is_command c = grammatical c && keeps_rules c
 
 -- the command as its line says it, which is a load without its payload
 abbrev pub as_said : Command → Command
+as_said (Create t columns key) = Create t columns key
+as_said (Drop t) = Drop t
 as_said (Load t carried) = Load t payload.Open
-as_said c = c
+as_said (Upsert t values) = Upsert t values
+as_said (Delete t values) = Delete t values
+as_said (Show t) = Show t
+as_said (Group t by shown tests exists having) = Group t by shown tests exists having
+as_said (Distinct t on tests) = Distinct t on tests
 
 -- these tokens say the command
 pub record SaysTokens (tokens : Option (List Token)) (c : Command) : Type 0 where
@@ -158,12 +164,24 @@ texts (Distinct t on tests) = flat_map test_texts tests
 -- how many columns a command makes
 abbrev pub columns_made : Command → ℕ
 columns_made (Create t columns key) = length columns
-columns_made _ = 0
+columns_made (Drop t) = 0
+columns_made (Load t carried) = 0
+columns_made (Upsert t values) = 0
+columns_made (Delete t values) = 0
+columns_made (Show t) = 0
+columns_made (Group t by shown tests exists having) = 0
+columns_made (Distinct t on tests) = 0
 
 -- how many aggregates a command shows
 abbrev pub aggregates_shown : Command → ℕ
+aggregates_shown (Create t columns key) = 0
+aggregates_shown (Drop t) = 0
+aggregates_shown (Load t carried) = 0
+aggregates_shown (Upsert t values) = 0
+aggregates_shown (Delete t values) = 0
+aggregates_shown (Show t) = 0
 aggregates_shown (Group t by shown tests exists having) = length shown
-aggregates_shown _ = 0
+aggregates_shown (Distinct t on tests) = 0
 
 -- the names of exists are of at most so many bytes
 abbrev pub exists_fits : ℕ → Option Exists → Bool

@@ -2,7 +2,7 @@
 use Rattle.std.specs.Prelude.{◌≡◌, ◌⊎◌, ◌+◌, ◌≤◌, ℕ, Bool, true, false, List, [], ◌∷◌, count_by, IsPermutation}
 use Rattle.gq_row.specs.declared.limits.Bounds.{Bounds}
 use Rattle.gq_command.specs.declared.command.Command.{Command}
-use Rattle.gq_command.specs.declared.command.Command.TheVariants.{Drop, Delete, Group, Distinct}
+use Rattle.gq_command.specs.declared.command.Command.TheVariants.{Create, Drop, Load, Upsert, Delete, Show, Group, Distinct}
 use Rattle.gq_command.specs.declared.reader.Item.{Item}
 use Rattle.gq_command.specs.declared.reader.Item.TheVariants as item
 use Rattle.gq_command.specs.Script.{Entry}
@@ -21,9 +21,14 @@ pub record Setting : Type 0 where
 
 -- the commands that group rows
 abbrev pub is_grouping : Command → Bool
+is_grouping (Create table columns key) = false
+is_grouping (Drop table) = false
+is_grouping (Load table carried) = false
+is_grouping (Upsert table values) = false
+is_grouping (Delete table values) = false
+is_grouping (Show table) = false
 is_grouping (Group table by shown tests exists having) = true
 is_grouping (Distinct table on tests) = true
-is_grouping _ = false
 
 -- the replies that only grouping finds
 abbrev pub IsGrouped : Reply → Type 0
@@ -82,9 +87,14 @@ pub record AnsweredAlike (setting : Setting) (old : Database) (it : Item) (answe
 
 -- the commands that take no memory
 abbrev pub takes_no_memory : Command → Bool
+takes_no_memory (Create table columns key) = false
 takes_no_memory (Drop table) = true
+takes_no_memory (Load table carried) = false
+takes_no_memory (Upsert table values) = false
 takes_no_memory (Delete table values) = true
-takes_no_memory _ = false
+takes_no_memory (Show table) = false
+takes_no_memory (Group table by shown tests exists having) = false
+takes_no_memory (Distinct table on tests) = false
 
 -- an item was answered as plain lists answer it, up to the order of rows within tables
 pub record AnsweredAsLists (limits : Bounds) (old : Database) (it : Item) (answer : Reply) (new : Database) : Type 0 where

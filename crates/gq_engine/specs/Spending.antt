@@ -3,7 +3,7 @@ use Rattle.std.specs.Prelude.{◌≡◌, ℕ, Bool, List, Result, Ok}
 use Rattle.gq_row.specs.declared.value.Value.{Value}
 use Rattle.gq_group.specs.declared.grouping.Spent.{Spent}
 use Rattle.gq_command.specs.declared.command.Command.{Command}
-use Rattle.gq_command.specs.declared.command.Command.TheVariants.{Group}
+use Rattle.gq_command.specs.declared.command.Command.TheVariants.{Create, Drop, Load, Upsert, Delete, Show, Group, Distinct}
 use Rattle.gq_reply.specs.declared.refusal.Refused.{Refused}
 use Rattle.gq_reply.specs.declared.reply.Reply.{Reply}
 use Rattle.gq_reply.specs.declared.reply.Reply.TheVariants as reply
@@ -41,4 +41,10 @@ GroupSpends honest budget db name clauses (reply.Refused why number) old new = n
 abbrev pub Spends : Bool → ℕ → Database → Command → Reply → Spent → Spent → Type 0
 Spends honest budget db (Group table by shown tests exists having) answer old new =
     GroupSpends honest budget db table (record { by = by; shown = shown; tests = tests; exists = exists; having = having }) answer old new
-Spends honest budget db _ answer old new = new ≡ old
+Spends honest budget db (Create table columns key) answer old new = new ≡ old
+Spends honest budget db (Drop table) answer old new = new ≡ old
+Spends honest budget db (Load table carried) answer old new = new ≡ old
+Spends honest budget db (Upsert table values) answer old new = new ≡ old
+Spends honest budget db (Delete table values) answer old new = new ≡ old
+Spends honest budget db (Show table) answer old new = new ≡ old
+Spends honest budget db (Distinct table on tests) answer old new = new ≡ old
