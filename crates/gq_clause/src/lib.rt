@@ -1,23 +1,12 @@
 //! Clauses of commands: names, literals, aggregates and tests, as data and as they are read from
-//! tokens.
+//! tokens. They follow the rules `names`, `literal`, `agg` and `tests` of the grammar in
+//! `docs/LANGUAGE.md`.
 //!
-//! ```text
-//! names     = name { "," name }
-//! literal   = int | string | "null"
-//! aggregate = "count" "(" ( "*" | [ "distinct" ] name ) ")"
-//!           | ( "sum" | "min" | "max" ) "(" name ")"
-//! tests     = test { "and" test }
-//! test      = operand sign operand | operand "is" [ "not" ] "null"
-//! sign      = "=" | "<>" | "<" | "<=" | ">" | ">="
-//! operand   = name | literal | aggregate
-//! ```
-//!
-//! The one contract above this crate: each function that reads takes from the front of the tokens
-//! what its rule of the grammar reads there, and no more, or says [`ParseError::Syntax`] where the
-//! rule reads nothing; the items of a list are read in one pass. That what is read was written so,
-//! and that what is written is read again, holds of each rule: `specs/Words.antt` says how it is
-//! written, [`laws`] that both agree. [`names_fit`] and its like tell whether each name and each text
-//! is within its limit.
+//! The one contract above this crate: each function that reads takes the first tokens, which its
+//! rule of the grammar reads, and no more, or returns [`ParseError::Syntax`] if the rule reads
+//! nothing; the items of a list are read in one pass. That what is read was written so, and that what
+//! is written is read again, holds of each rule: `specs/Words.antt` says how it is written, [`laws`]
+//! that both agree. [`names_fit`] and its like say whether each name and each text is within its limit.
 //!
 //! [`ParseError::Syntax`]: gq_token::ParseError::Syntax
 #![tactic(auto)]

@@ -11,22 +11,22 @@
 //! - [`Engine::run`] reads the items of a script one after the other, answers each, writes the
 //!   reply's text and flushes. [`Engine::execute`] carries out one command, and [`reply_text`] is
 //!   the text of a reply.
-//! - A table has a schema and rows, which stand in a flat map under their keys, or in a list where
-//!   the table has no key (`gq_table`); a row that is put replaces the row of the same key, or is
-//!   added. A literal is stored as its column stores it: a text without case where the column is of
-//!   such. Tables are found by linear search.
+//! - A table has a schema and rows (`gq_table`). If it has a key, its rows are in one list, row by
+//!   row, with an index of their keys; otherwise they are stored by columns. A row that is put
+//!   replaces the row of the same key, or is added. A literal is stored as its column stores it: a
+//!   text without case if the column has such texts. Tables are found by linear search.
 //! - What a query asks by names is planned first (`gq_plan`), each name looked up once; then it is
 //!   answered by `gq_query`. The groups come of a run store that the engine holds, within its
 //!   budget.
 //! - A command is refused by the first reason that applies, and a refused command changes nothing.
-//!   Want of memory may stand in place of any reply.
+//!   Any reply may be `Memory` instead.
 //!
 //! # The contract above this crate
 //!
 //! What [`Engine::run`] writes is the text of a *legal run* over the items of the reader's bytes
 //! (`specs/Headline.antt`): item by item, the replies of plain lists of rows with keyed
 //! replacement, each group being the filter of the rows for one distinct key. A read fault leaves
-//! the texts of some first replies, a write fault a front of such texts. The definitions speak of
+//! the texts of some first replies, a write fault a prefix of such texts. The definitions speak of
 //! lists alone (`specs/Steps.antt`, `specs/Runs.antt`); the laws in [`laws`] say that a database is
 //! a finite map, that only memory refuses what the lists accept, and that tables without texts
 //! without case store what they are given. [`Engine::spent`] adds up what the groupings of `group`

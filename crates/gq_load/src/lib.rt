@@ -2,16 +2,16 @@
 //!
 //! A payload is the bytes of a CSV text: a header that names each column of the table once, in any
 //! order, and then one record for each row. Which records a text has is the `csv` crate's matter,
-//! read as it stands in RFC 4180; what they come to is this crate's: which column a field belongs
+//! read as RFC 4180 says; what they mean is this crate's: which column a field belongs
 //! to, when it is null, which numbers and texts there are, and which fault comes first. A row's
-//! values stand in the order of the table's columns.
+//! values are in the order of the table's columns.
 //!
-//! Two contracts above this crate matter. [`load_rows`] returns what `load` of
-//! `specs/Payloads.antt` gives, rows or fault, or that memory was refused; and the rows fit their
-//! table, have no null in its key and are no more than the limit. [`RowReader`] gives the same rows
-//! one by one, from any reader: what they are is said where the reader's bytes are known, and that
-//! they fit their table always. The laws in [`laws`] say in the
-//! subject's own words what that definition comes to.
+//! The contract above this crate is that of [`RowReader`], by which the engine loads. It gives the
+//! rows of a payload one by one, from any reader, or a fault. If the reader's bytes are known, these
+//! are the rows and the fault that `load` of `specs/Payloads.antt` gives, unless memory was refused.
+//! The rows always fit their table, have no null in its key and are no more than the limit.
+//! [`load_rows`] returns the same rows at once, of bytes in memory; only tests call it. The laws in
+//! [`laws`] say in the subject's own words what `load` amounts to.
 #![tactic(auto)]
 
 mod field;

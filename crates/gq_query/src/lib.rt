@@ -4,14 +4,15 @@
 //!   true and which have a match among the rows of another table, or have none, as it asks.
 //! - [`group_rows`] gives a row for each different key that these rows have in some columns: the
 //!   key, and then what is [`Shown`] of the rows that have it. Of the finished rows it keeps those
-//!   for which `having` is true. [`distinct_rows`] gives the different keys alone.
+//!   for which `having` is true. A rollup does so for each prefix of the columns, and puts the level
+//!   first. [`distinct_rows`] gives the distinct keys alone.
 //! - [`show_rows`] gives all rows of a table.
 //!
 //! ```text
 //! let selection = Selection { table: &table, condition: &condition, matching: None, others: None };
 //! let shown = [Shown::Aggregate(AggKind::Sum, 1), Shown::CountDistinct(2)];
-//! let grouping = Grouping { by: &[0], shown: &shown, having: &having };
-//! let (rows, spent) = group_rows(alloc, hasher, &selection, &grouping, &mut store, budget)?;
+//! let grouping = Grouping { by: &[0], rollup: false, shown: &shown, having: &having };
+//! let (rows, spent) = group_rows(alloc, hasher, &selection, &grouping, &mut store, budget, spent)?;
 //! ```
 //!
 //! A row that is not kept is passed over before a cell of it is copied. The keys of the other
@@ -19,13 +20,14 @@
 //!
 //! # The contract above this crate
 //!
-//! Over an honest store the rows of [`group_rows`] and [`distinct_rows`] are `answer_having` and
-//! `distinct_keys` of `specs/Answers.antt`, of the `rows_kept` there: these speak of lists, filters
-//! and aggregates alone. `SumRange` is answered only where some sum is out of range, whatever
-//! `having` says. What grouping them took, within the budget that is handed in, is `IsSpentOn` of
-//! `specs/Work.antt`; counts of different values are left out. Over every store no run is left behind
-//! and none is touched that was there, and both refuse for a cause. The law in [`laws`] says that the
-//! order of rows is not seen, neither that of the table nor that of the other.
+//! Over an honest store the rows of [`group_rows`] are `group_answer` of `specs/Rollups.antt`, and
+//! those of [`distinct_rows`] are `distinct_keys` of `specs/Answers.antt`, each of the `rows_kept`
+//! there: these speak of lists, filters and aggregates alone. `SumRange` is returned only if some sum
+//! is out of range, whatever `having` says. What each grouping took raises what was spent, by `RisesBy`
+//! of `specs/Work.antt`: how many rows were read and how many groups there are is exact, and how many
+//! rows were written and runs made is within bounds. Counts of distinct values are left out. Over every
+//! store no run remains and none is touched that was there, and both refuse for a cause. The law in
+//! [`laws`] says that the order of rows is not seen, neither that of the table nor that of the other.
 #![tactic(auto)]
 
 mod cells;

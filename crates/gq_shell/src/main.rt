@@ -1,16 +1,16 @@
 //! The program `groupsh`: it reads a script of commands, and writes the reply to each.
 //!
-//! It reads its command line first, then opens the script, and then runs it. The contract above it
-//! is that of [`program::run_program`], over what a process has: its words, its files, its random
-//! bytes, what opening a path gives, its standard input, and its two streams. It says which script
-//! is run, what each stream got, and what the exit status stands for; `main` hands in the process's
-//! own.
+//! It reads its command line first. Then it makes the tables that the command line names, opens the
+//! script, or takes the commands of the command line, and runs them. The contract above it is that of
+//! [`program::run_program`], over what a process has: its words, its files, its random bytes, what
+//! opening a path gives, its standard input, and its two streams. It says which script is run, what
+//! each stream got, and what the exit status means; `main` passes the process's own.
 //!
-//! Below it stand [`gq_options::read_words`], which answers what the command line asks for and tells
-//! help, the version, mistakes and want of memory apart; [`script::run_script`], which draws the seed
-//! where that is asked for, makes the run store and opens the script; [`session::session`], which runs
-//! an engine, with [`report`] for the line on its work; and [`stopping`], for all that ends before a
-//! run. The law in [`laws`] says what a status tells.
+//! Below it are [`gq_options::read_words`], which returns what the command line asks for, or help, the
+//! version, a mistake or a failed allocation; [`script::run_script`], which draws the seed if that is
+//! asked for, and makes the run store, the tables and the script; [`session::session`], which runs an
+//! engine, with [`report`] for the line on its work; and [`stopping`], for all that ends before a run.
+//! The law in [`laws`] says what a status means.
 #![tactic(auto)]
 
 mod checking;
