@@ -90,6 +90,54 @@ fn five_hundred_rows_in_fifty_groups(rt: HostRuntime) -> Result<(), Fail> {
     Ok(())
 }
 
+/// A table of forty rows, each with a key of its own.
+fn forty_keys(alloc: Global) -> Result<Vec<u8>, AllocError> {
+    let mut script = Vec::new(alloc);
+    script.extend_from_slice(b"create k (n int, v int)\n")?;
+    for n in 0..40u64 {
+        let row = format!(in alloc; "upsert k ({n}, {})\n", n % 3)?;
+        script.extend_from_slice(row.as_bytes())?;
+    }
+    Ok(script)
+}
+
+/// Groupings of that table, and how many rows each reads and how many groups it makes.
+const OF_FORTY: [(&[u8], (u64, u64)); 6] = [
+    (b"group k by n show count(*)", (40, 40)),
+    (b"group k by n show count(distinct v)", (40, 40)),
+    (b"group k by n show count(*), count(distinct v)", (40, 40)),
+    (b"group k by rollup (n) show count(*)", (80, 41)),
+    (b"group k by rollup (n) show count(distinct v)", (80, 41)),
+    (
+        b"group k by rollup (n) show count(*), count(distinct v)",
+        (80, 41),
+    ),
+];
+
+/// Expects what each of some groupings takes that keep one of forty groups at a time.
+fn expect_forty(
+    rt: &impl Abort,
+    alloc: Global,
+    groupings: &[(&[u8], (u64, u64))],
+) -> Result<(), Fail> {
+    let script = forty_keys(alloc)?;
+    for (line, (rows_read, groups)) in groupings {
+        let mut engine = engine_over(alloc, Constant(0), MemStore::new(alloc), 1)?;
+        answers(alloc, &mut engine, script.as_slice())?;
+        answers(alloc, &mut engine, line)?;
+        let due = spent(*rows_read, 780, *groups, 39);
+        expect_at(rt, *line, engine.spent(), due);
+    }
+    Ok(())
+}
+
+/// All keys have one hash, so each pass writes all rows but one to one run: 39 + 38 + .. + 1 rows and
+/// 39 runs. The total of a rollup is one group, and writes none; counts of distinct values are left out.
+#[test]
+fn forty_keys_one_at_a_time(rt: HostRuntime) -> Result<(), Fail> {
+    expect_forty(&rt, rt.alloc(), &OF_FORTY)
+}
+
 /// Lines, their replies, and how many rows were read and how many groups were made by then.
 const LINES: [(&[u8], &[u8], (u64, u64)); 20] = [
     (b"create t (a int, b int, c text)", b"ok 0\n", (0, 0)),

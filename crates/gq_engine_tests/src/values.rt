@@ -4,6 +4,7 @@ use crate::plain::{Plain, are, is, row_of, text, value_of, values_of};
 use gq_row::{Column, Key, Kind, Row, Schema, Value, compare, compare_keys};
 use std::alloc::{AllocError, Global};
 use std::cmp::Ordering;
+use std::fmt::Debug;
 use std::process::Abort;
 use std::test::Fail;
 
@@ -154,4 +155,37 @@ fn expect_schemas(
 #[test]
 fn schemas(rt: HostRuntime) -> Result<(), Fail> {
     expect_schemas(&rt, rt.alloc(), &SCHEMAS)
+}
+
+fn expect_shown<T: Debug>(
+    rt: &impl Abort,
+    alloc: Global,
+    shown: &T,
+    due: &str,
+) -> Result<(), Fail> {
+    let text = format!(in alloc; "{shown:?}")?;
+    expect(rt, text.as_str(), due);
+    Ok(())
+}
+
+/// A text shows as Rust shows a string, in place or in memory, alone and in a value.
+#[test]
+fn texts_show_as_strings(rt: HostRuntime) -> Result<(), Fail> {
+    let alloc = rt.alloc();
+    expect_shown(&rt, alloc, &text(alloc, "")?, "\"\"")?;
+    expect_shown(&rt, alloc, &text(alloc, "Oslo")?, "\"Oslo\"")?;
+    let long = text(alloc, "a \"quoted\" text of 29\tbytes\n\\")?;
+    expect_shown(
+        &rt,
+        alloc,
+        &long,
+        "\"a \\\"quoted\\\" text of 29\\tbytes\\n\\\\\"",
+    )?;
+    expect_shown(&rt, alloc, &Value::Text(text(alloc, "a")?), "Text(\"a\")")?;
+    expect_shown(
+        &rt,
+        alloc,
+        &Value::NoCase(text(alloc, "A")?),
+        "NoCase(\"A\")",
+    )
 }

@@ -22,7 +22,8 @@ use gq_spill::RunStore;
 use std::alloc::Global;
 use sw_probe::KeyHash;
 
-/// What a grouping took.
+/// What a grouping took. Over an honest store `rows_read` and `groups` are exact; `rows_written` and
+/// `runs` are only proved to be within the bounds of `Spills` (`specs/Work.antt`).
 #[derive(Clone, Copy, Debug, PartialEq, Eq)]
 pub struct Spent {
     /// How many rows came from the source.
