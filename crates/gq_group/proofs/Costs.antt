@@ -1,4 +1,4 @@
--- What one reading of rows costs: the rows that it writes, and what may be written for its runs.
+-- What one pass over rows costs: the rows that it writes, and what may be written for its runs.
 use Rattle.std.proofs.Common.{◌≡◌, ◌≤◌, ◌<◌, ◌+◌, ◌-◌, ◌*◌, ◌/◌, ◌++◌, ℕ, zero, suc, Bool, List, [], ◌∷◌, length, map, refl, sym, ap, subst, ◌∙◌, arith, length-append}
 use Rattle.std.specs.Prelude.{filter, IsPermutation, Option, not}
 use Rattle.std.specs.List.{flat_map, sum_by}
@@ -13,7 +13,7 @@ use Rattle.gq_row.specs.Rows.{key_of}
 use Rattle.gq_row.specs.Tables.{keys}
 use Rattle.gq_row.specs.Order.{same_key}
 use Rattle.gq_group.specs.Groups.{Spec, Group, group_of, answered}
-use Rattle.gq_group.specs.Levels.{row_groups, count_groups, cost, excess, one_if_some}
+use Rattle.gq_group.specs.Partitioning.{row_groups, count_groups, cost, excess, one_if_some}
 use Rattle.gq_group.proofs.Bounds.{part_cost, part_runs}
 
 pub length-flat_map : {X Y : Type 0} (f : X → List Y) (xs : List X) → length (flat_map f xs) ≡ sum_by (λ x. length (f x)) xs
@@ -83,24 +83,24 @@ pub parted_count : (spec : Spec) (all : List (List Value × List (Option Value))
 parted_count spec all out parts same =
     omega (arith, length_permutation all _ same, length-append (map answered out) (flat_map (row_groups spec) parts), length-map out answered, length-flat_map (row_groups spec) parts)
 
--- one reading's share: what it writes, and what may be written for its runs
-pub level_cost : (budget rows whole pushed : ℕ) (spec : Spec) (parts : List (List (List Value))) → 0 < budget
+-- one pass's share: what it writes, and what may be written for its runs
+pub pass_cost : (budget rows whole pushed : ℕ) (spec : Spec) (parts : List (List (List Value))) → 0 < budget
     → whole ≡ pushed + sum_by (count_groups spec) parts
     → (0 < sum_by length parts → pushed ≡ budget)
     → sum_by length parts ≤ rows
     → sum_by length parts + sum_by (cost budget spec) parts ≤ rows * ((whole - 1) / budget)
-level_cost budget rows whole pushed spec parts some counted full fewer =
+pass_cost budget rows whole pushed spec parts some counted full fewer =
     let bound : sum_by length parts + sum_by (cost budget spec) parts ≤ sum_by length parts * ((whole - 1) / budget)
     = parts_cost budget whole spec parts some (λ more. let f : pushed ≡ budget = full more in omega arith) in
     let wide : sum_by length parts * ((whole - 1) / budget) ≤ rows * ((whole - 1) / budget) = mul-le-mul_right ((whole - 1) / budget) fewer in
     omega (arith, bound, wide)
 
 -- and the runs
-pub level_runs : (budget whole pushed : ℕ) (spec : Spec) (parts : List (List (List Value))) → 0 < budget
+pub pass_runs : (budget whole pushed : ℕ) (spec : Spec) (parts : List (List (List Value))) → 0 < budget
     → whole ≡ pushed + sum_by (count_groups spec) parts
     → (0 < sum_by length parts → pushed ≡ budget)
     → sum_by one_if_some parts + sum_by (excess budget spec) parts ≤ whole - budget
-level_runs budget whole pushed spec parts some counted full = at (sum_by length parts) refl
+pass_runs budget whole pushed spec parts some counted full = at (sum_by length parts) refl
   where
     at : (n : ℕ) → sum_by length parts ≡ n → sum_by one_if_some parts + sum_by (excess budget spec) parts ≤ whole - budget
     at zero e = let none = parts_groups_le spec parts in let few = parts_runs budget spec parts some in omega (arith, none, few, e)

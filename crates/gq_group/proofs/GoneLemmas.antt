@@ -5,10 +5,10 @@ use Rattle.std.proofs.lemmas.List.{append-nil}
 use Rattle.gq_spill.specs.Runs.{Runs, SameRun, Discards}
 use Rattle.gq_group.specs.Access.{RunSet, either, Apart, LeavesOthers, KeepsOwn}
 use Rattle.gq_group.specs.RunSources.{only, same_number, equal_number}
-use Rattle.gq_group.specs.Slots.{is_run, among, Separate, Ours, Gone, DiscardedSome}
-use Rattle.gq_group.specs.declared.slot.Slot.{Slot}
+use Rattle.gq_group.specs.Partitions.{is_run, among, Separate, Ours, Gone, DiscardedSome}
+use Rattle.gq_group.specs.declared.partition.Partition.{Partition}
 use Rattle.gq_group.proofs.AccessLemmas.{same_run-refl, same_run-trans, decide, or_in, or_from, or_left, or_right, leaves-trans}
-use Rattle.gq_group.proofs.SlotLemmas.{none_there, not_both, both_none}
+use Rattle.gq_group.proofs.PartitionLemmas.{none_there, not_both, both_none}
 
 pub or_false : (b : Bool) → (b || false) ≡ b
 or_false true = refl
@@ -18,15 +18,15 @@ pub or_assoc : (a b c : Bool) → ((a || b) || c) ≡ (a || (b || c))
 or_assoc true b c = refl
 or_assoc false b c = refl
 
-pub among-append : (xs ys : List Slot) (run : ℕ) → among (xs ++ ys) run ≡ (among xs run || among ys run)
+pub among-append : (xs ys : List Partition) (run : ℕ) → among (xs ++ ys) run ≡ (among xs run || among ys run)
 among-append [] ys run = refl
 among-append (x ∷ xs) ys run = ap (λ b. is_run x.writer run || b) (among-append xs ys run) ∙ sym (or_assoc (is_run x.writer run) (among xs run) (among ys run))
 
-pub separate-front : (xs ys : List Slot) → Separate (xs ++ ys) → Separate xs
+pub separate-front : (xs ys : List Partition) → Separate (xs ++ ys) → Separate xs
 separate-front [] ys h = tt
 separate-front (x ∷ xs) ys h = (λ run i. or_left (among xs run) (among ys run) (sym (among-append xs ys run) ∙ h.0 run i), separate-front xs ys h.1)
 
-pub separate-last : (xs : List Slot) (x : Slot) → Separate (xs ++ x ∷ []) → (run : ℕ) → IsTrue (is_run x.writer run) → among xs run ≡ false
+pub separate-last : (xs : List Partition) (x : Partition) → Separate (xs ++ x ∷ []) → (run : ℕ) → IsTrue (is_run x.writer run) → among xs run ≡ false
 separate-last [] x h run i = refl
 separate-last (y ∷ xs) x h run i = both_none (is_run y.writer run) (among xs run)
     (none_there (is_run y.writer run) (λ m. not_both (among (xs ++ x ∷ []) run) (sym' (among-append xs (x ∷ []) run) (or_from (among xs run) (is_run x.writer run || false) (inr (or_from (is_run x.writer run) false (inl i))))) (h.0 run m)))
@@ -35,7 +35,7 @@ separate-last (y ∷ xs) x h run i = both_none (is_run y.writer run) (among xs r
     sym' : {a b : Bool} → a ≡ b → IsTrue b → IsTrue a
     sym' e t = e ∙ t
 
-pub ours-front : (xs : List Slot) (x : Slot) (r : Runs) → Ours (xs ++ x ∷ []) r → Ours xs r
+pub ours-front : (xs : List Partition) (x : Partition) (r : Runs) → Ours (xs ++ x ∷ []) r → Ours xs r
 ours-front xs x r ours = record {
   live = λ run h. ours.live run (among-append xs (x ∷ []) run ∙ or_from (among xs run) (among (x ∷ []) run) (inl h));
   separate = separate-front xs (x ∷ []) ours.separate;
@@ -67,7 +67,7 @@ gone-both a b r s t first then = record {
     rest true c e h = let bad : true ≡ false = e in cc
     rest false c e h = h
 
-pub ours-gone : (xs : List Slot) (mine : RunSet) (r s : Runs) → Gone mine r s → ((run : ℕ) → IsTrue (mine run) → among xs run ≡ false) → Ours xs r → Ours xs s
+pub ours-gone : (xs : List Partition) (mine : RunSet) (r s : Runs) → Gone mine r s → ((run : ℕ) → IsTrue (mine run) → among xs run ≡ false) → Ours xs r → Ours xs s
 ours-gone xs mine r s gone apart ours = record {
   live = λ run h. (gone.others run (none_there (mine run) (λ m. not_both (among xs run) h (apart run m)))).live ∙ ours.live run h;
   separate = ours.separate;
@@ -94,8 +94,8 @@ leaves-gone a b mine r s t step grows apart gone = record {
     dead : (run : ℕ) → (IsTrue (r.live run) → ⊥) → t.live run ≡ false → SameRun r t run
     dead run before after = record { live = after ∙ sym (none_there (r.live run) before); content = λ h live. absurd (before live) }
 
--- one slot more was discarded
-pub discarded-step : (all left next : List Slot) (x : Slot) (r s t : Runs) → DiscardedSome all left r s → left ≡ next ++ x ∷ [] → Gone (is_run x.writer) s t → DiscardedSome all next r t
+-- one partition more was discarded
+pub discarded-step : (all left next : List Partition) (x : Partition) (r s t : Runs) → DiscardedSome all left r s → left ≡ next ++ x ∷ [] → Gone (is_run x.writer) s t → DiscardedSome all next r t
 discarded-step all left next x r s t so popped gone =
     let ours : Ours (next ++ x ∷ []) s = subst (λ l. Ours l s) popped so.ours in
     record {
@@ -105,10 +105,10 @@ discarded-step all left next x r s t so popped gone =
       gone = gone-both (among so.done) (is_run x.writer) r s t so.gone gone;
     }
 
-pub discarded-none : (all : List Slot) (r : Runs) → Ours all r → DiscardedSome all all r r
+pub discarded-none : (all : List Partition) (r : Runs) → Ours all r → DiscardedSome all all r r
 discarded-none all r ours = record { done = []; whole = sym (append-nil all); ours = ours; gone = gone-none r }
 
-pub discarded-all : (all : List Slot) (r s : Runs) → DiscardedSome all [] r s → Gone (among all) r s
+pub discarded-all : (all : List Partition) (r s : Runs) → DiscardedSome all [] r s → Gone (among all) r s
 discarded-all all r s so = subst (λ l. Gone (among l) r s) (sym so.whole) so.gone
 
 -- who doesn't own the run that is discarded doesn't see it
@@ -119,31 +119,31 @@ gone-keeps k id s t gone out = record {
 }
 
 -- A run of the stack was read and discarded: what is left of the stack, and the runs that were begun, are ours.
-pub leaves-read : (a b b' mine front slots : RunSet) (r s m t : Runs)
+pub leaves-read : (a b b' mine front partitions : RunSet) (r s m t : Runs)
     → LeavesOthers a (either (either b front) mine) r s
-    → LeavesOthers (either mine b) (either (either mine slots) b') s m
+    → LeavesOthers (either mine b) (either (either mine partitions) b') s m
     → Gone mine m t
     → ((run : ℕ) → IsTrue (a run) → IsTrue (b run)) → ((run : ℕ) → IsTrue (b run) → IsTrue (b' run))
-    → Apart mine (either (either b' front) slots)
-    → LeavesOthers a (either (either b' front) slots) r t
-leaves-read a b b' mine front slots r s m t first then gone grows more apart =
-    leaves-gone a (either (either b' front) slots) mine r m t (leaves-trans a (either (either b front) mine) (either (either (either b' front) slots) mine) r s m first (record {
-      others = λ run e. then.others run (both_none (mine run || slots run) (b' run)
-          (both_none (mine run) (slots run) (or_right ((b' run || front run) || slots run) (mine run) e) (or_right (b' run || front run) (slots run) (or_left ((b' run || front run) || slots run) (mine run) e)))
-          (or_left (b' run) (front run) (or_left (b' run || front run) (slots run) (or_left ((b' run || front run) || slots run) (mine run) e))));
+    → Apart mine (either (either b' front) partitions)
+    → LeavesOthers a (either (either b' front) partitions) r t
+leaves-read a b b' mine front partitions r s m t first then gone grows more apart =
+    leaves-gone a (either (either b' front) partitions) mine r m t (leaves-trans a (either (either b front) mine) (either (either (either b' front) partitions) mine) r s m first (record {
+      others = λ run e. then.others run (both_none (mine run || partitions run) (b' run)
+          (both_none (mine run) (partitions run) (or_right ((b' run || front run) || partitions run) (mine run) e) (or_right (b' run || front run) (partitions run) (or_left ((b' run || front run) || partitions run) (mine run) e)))
+          (or_left (b' run) (front run) (or_left (b' run || front run) (partitions run) (or_left ((b' run || front run) || partitions run) (mine run) e))));
       grows = λ run h. elim (or_in (b run || front run) (mine run) h) [
-        | inl x ↦ in_left ((b' run || front run) || slots run) (mine run) (in_left (b' run || front run) (slots run) (elim (or_in (b run) (front run) x) [ inl y ↦ in_left (b' run) (front run) (more run y) | inr y ↦ in_right (b' run) (front run) y ]))
-        | inr x ↦ in_right ((b' run || front run) || slots run) (mine run) x
+        | inl x ↦ in_left ((b' run || front run) || partitions run) (mine run) (in_left (b' run || front run) (partitions run) (elim (or_in (b run) (front run) x) [ inl y ↦ in_left (b' run) (front run) (more run y) | inr y ↦ in_right (b' run) (front run) y ]))
+        | inr x ↦ in_right ((b' run || front run) || partitions run) (mine run) x
       ];
       fresh = λ run e h live.
           let out_b : b run ≡ false = or_left (b run) (front run) (or_left (b run || front run) (mine run) e) in
           let out_front : front run ≡ false = or_right (b run) (front run) (or_left (b run || front run) (mine run) e) in
           let out_mine : mine run ≡ false = or_right (b run || front run) (mine run) e in
           then.fresh run (both_none (mine run) (b run) out_mine out_b)
-          (elim (or_in ((b' run || front run) || slots run) (mine run) h) [
-            | inl x ↦ elim (or_in (b' run || front run) (slots run) x) [
-              | inl y ↦ elim (or_in (b' run) (front run) y) [ inl z ↦ in_right (mine run || slots run) (b' run) z | inr z ↦ absurd (not_both (front run) z out_front) ]
-              | inr y ↦ in_left (mine run || slots run) (b' run) (in_right (mine run) (slots run) y)
+          (elim (or_in ((b' run || front run) || partitions run) (mine run) h) [
+            | inl x ↦ elim (or_in (b' run || front run) (partitions run) x) [
+              | inl y ↦ elim (or_in (b' run) (front run) y) [ inl z ↦ in_right (mine run || partitions run) (b' run) z | inr z ↦ absurd (not_both (front run) z out_front) ]
+              | inr y ↦ in_left (mine run || partitions run) (b' run) (in_right (mine run) (partitions run) y)
             ]
             | inr x ↦ absurd (not_both (mine run) x out_mine)
           ]) live;
@@ -152,7 +152,7 @@ leaves-read a b b' mine front slots r s m t first then gone grows more apart =
       no_fewer_failures = then.no_fewer_failures;
       no_fewer_made = then.no_fewer_made;
     }))
-    (λ run h. in_left (b' run || front run) (slots run) (in_left (b' run) (front run) (more run (grows run h)))) apart gone
+    (λ run h. in_left (b' run || front run) (partitions run) (in_left (b' run) (front run) (more run (grows run h)))) apart gone
   where
     in_left : (x y : Bool) → IsTrue x → IsTrue (x || y)
     in_left x y h = or_from x y (inl h)

@@ -8,8 +8,8 @@ pub mod FittingLemmas
 pub mod GoneLemmas
 pub mod KeptAggLemmas
 pub mod KeptLemmas
-pub mod LevelLemmas
-pub mod LevelingLemmas
+pub mod PassLemmas
+pub mod PassResultLemmas
 pub mod Lots
 pub mod MapGroups
 pub mod OpenLemmas
@@ -22,7 +22,7 @@ pub mod ResidentLemmas
 pub mod Results
 pub mod RowLemmas
 pub mod Sending
-pub mod SlotLemmas
+pub mod PartitionLemmas
 pub mod Spilling
 pub mod StackLemmas
 pub mod StackingLemmas

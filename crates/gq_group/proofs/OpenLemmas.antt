@@ -9,11 +9,11 @@ use Rattle.gq_spill.specs.Reading.{Left, opened}
 use Rattle.gq_spill.specs.Writing.{Writing}
 use Rattle.gq_spill.proofs.ReadingLemmas.{reads_back}
 use Rattle.gq_group.specs.Groups.{Spec, Group, OneWidth}
-use Rattle.gq_group.specs.Readings.{AreRows, Fit, Parted}
+use Rattle.gq_group.specs.Passes.{AreRows, Fit, Parted}
 use Rattle.gq_group.specs.RunSources.{IsReady}
-use Rattle.gq_group.specs.Slots.{HasRun, AllHeld}
-use Rattle.gq_group.specs.declared.level.Level.{Level}
-use Rattle.gq_group.specs.declared.slot.Slot.{Slot}
+use Rattle.gq_group.specs.Partitions.{HasRun, AllHeld}
+use Rattle.gq_group.specs.declared.pass.PassStats.{PassStats}
+use Rattle.gq_group.specs.declared.partition.Partition.{Partition}
 
 pub left-open : (spec : Spec) (w : Writing) (columns : ℕ) (runs : Runs) (rows : List (List Value)) → IsTrue runs.honest → HasRun w runs rows → Fit spec columns rows → Left (opened w.mark columns) runs rows
 left-open spec w columns runs rows honest has fit = (reads_back).opens w runs rows columns (has.wrote honest) fit.widths
@@ -36,11 +36,11 @@ ready-open spec w columns runs live known = record {
   rows = λ h. let k = known h in (k.0, left-open spec w columns runs k.0 h k.1 k.2);
 }
 
--- what a reading did stays once its run is discarded
-pub parted-later : (spec : Spec) (budget : ℕ) (rows : List (List Value)) (slots : List Slot) (s t : Runs) (level : Level) (now after : List Group → Type 0)
-    → ((out : List Group) → now out → after out) → ((parts : List (List (List Value))) → AllHeld s slots parts → AllHeld t slots parts)
-    → Parted spec budget rows slots s level now → Parted spec budget rows slots t level after
-parted-later spec budget rows slots s t level now after holds stays p = record {
+-- what a pass did stays once its run is discarded
+pub parted-later : (spec : Spec) (budget : ℕ) (rows : List (List Value)) (partitions : List Partition) (s t : Runs) (stats : PassStats) (now after : List Group → Type 0)
+    → ((out : List Group) → now out → after out) → ((parts : List (List (List Value))) → AllHeld s partitions parts → AllHeld t partitions parts)
+    → Parted spec budget rows partitions s stats now → Parted spec budget rows partitions t stats after
+parted-later spec budget rows partitions s t stats now after holds stays p = record {
   out = p.out;
   parts = p.parts;
   pushed = holds p.out p.pushed;

@@ -12,7 +12,7 @@ use Rattle.gq_row.specs.Repeats.{without_repeats}
 use Rattle.gq_row.specs.Rows.{key_of}
 use Rattle.gq_row.specs.Tables.{keys}
 use Rattle.gq_group.specs.Groups.{Spec, group_of, answers}
-use Rattle.gq_group.specs.Levels.{row_groups, lots}
+use Rattle.gq_group.specs.Partitioning.{row_groups, lots}
 use Rattle.gq_group.proofs.Spilling.{without_repeats-filter, filter_absorb}
 
 pub filter-map : {X Y : Type 0} (f : X → Y) (p : Y → Bool) (xs : List X) → map f (filter (λ x. p (f x)) xs) ≡ filter p (map f xs)
@@ -60,38 +60,38 @@ groups_parted spec p rows =
     ∙ ap (λ l. row_groups spec (filter (λ row. p (key_of spec.by row)) rows) ++ l) (sym (groups-filter spec (λ k. not (p k)) rows)))
     (IsPermutation-map (group_of spec rows) _ _ parted)
 
--- no row has a class below q
+-- no row has a partition below q
 abbrev pub AllFrom : (List Value → ℕ) → List ℕ → ℕ → List (List Value) → Type 0
-AllFrom class by q rows = AllByRecursion (λ row. q ≤ class (key_of by row)) rows
+AllFrom part_of by q rows = AllByRecursion (λ row. q ≤ part_of (key_of by row)) rows
 
-pub all_from-next : (class : List Value → ℕ) (by : List ℕ) (q : ℕ) (rows : List (List Value)) → AllFrom class by q rows → AllFrom class by (suc q) (filter (λ row. not (class (key_of by row) == q)) rows)
-all_from-next class by q [] h = tt
-all_from-next class by q (row ∷ rows) h = at (class (key_of by row) == q) refl (all_from-next class by q rows h.1)
+pub all_from-next : (part_of : List Value → ℕ) (by : List ℕ) (q : ℕ) (rows : List (List Value)) → AllFrom part_of by q rows → AllFrom part_of by (suc q) (filter (λ row. not (part_of (key_of by row) == q)) rows)
+all_from-next part_of by q [] h = tt
+all_from-next part_of by q (row ∷ rows) h = at (part_of (key_of by row) == q) refl (all_from-next part_of by q rows h.1)
   where
-    at : (b : Bool) → (class (key_of by row) == q) ≡ b → AllFrom class by (suc q) (filter (λ other. not (class (key_of by other) == q)) rows) → AllFrom class by (suc q) (cond (not b) (row ∷ filter (λ other. not (class (key_of by other) == q)) rows) (filter (λ other. not (class (key_of by other) == q)) rows))
+    at : (b : Bool) → (part_of (key_of by row) == q) ≡ b → AllFrom part_of by (suc q) (filter (λ other. not (part_of (key_of by other) == q)) rows) → AllFrom part_of by (suc q) (cond (not b) (row ∷ filter (λ other. not (part_of (key_of by other) == q)) rows) (filter (λ other. not (part_of (key_of by other) == q)) rows))
     at true e rest = rest
-    at false e rest = (let low : q ≤ class (key_of by row) = h.0 in grind (arith, nat_tests), rest)
+    at false e rest = (let low : q ≤ part_of (key_of by row) = h.0 in grind (arith, nat_tests), rest)
 
-other_class : (c q r : ℕ) → q < r → (c == r) ≡ true → not (c == q) ≡ true
-other_class c q r less e = grind (arith, nat_tests)
+other_part : (c q r : ℕ) → q < r → (c == r) ≡ true → not (c == q) ≡ true
+other_part c q r less e = grind (arith, nat_tests)
 
--- later classes don't see that the rows of an earlier one are gone
-pub lots-later : (class : List Value → ℕ) (by : List ℕ) (q r n : ℕ) (rows : List (List Value)) → q < r → lots class by r n (filter (λ row. not (class (key_of by row) == q)) rows) ≡ lots class by r n rows
-lots-later class by q r zero rows less = refl
-lots-later class by q r (suc n) rows less =
-    ap (λ l. l ∷ lots class by (suc r) n (filter (λ row. not (class (key_of by row) == q)) rows)) (filter_absorb (λ row. class (key_of by row) == r) (λ row. not (class (key_of by row) == q)) (λ row e. other_class (class (key_of by row)) q r less e) rows)
-    ∙ ap (λ l. filter (λ row. class (key_of by row) == r) rows ∷ l) (lots-later class by q (suc r) n rows (omega arith))
+-- later partitions don't see that the rows of an earlier one are gone
+pub lots-later : (part_of : List Value → ℕ) (by : List ℕ) (q r n : ℕ) (rows : List (List Value)) → q < r → lots part_of by r n (filter (λ row. not (part_of (key_of by row) == q)) rows) ≡ lots part_of by r n rows
+lots-later part_of by q r zero rows less = refl
+lots-later part_of by q r (suc n) rows less =
+    ap (λ l. l ∷ lots part_of by (suc r) n (filter (λ row. not (part_of (key_of by row) == q)) rows)) (filter_absorb (λ row. part_of (key_of by row) == r) (λ row. not (part_of (key_of by row) == q)) (λ row e. other_part (part_of (key_of by row)) q r less e) rows)
+    ∙ ap (λ l. filter (λ row. part_of (key_of by row) == r) rows ∷ l) (lots-later part_of by q (suc r) n rows (omega arith))
 
--- the groups of the classes are those of the rows
-pub lots-groups : (spec : Spec) (class : List Value → ℕ) (q n : ℕ) (rows : List (List Value)) → ((k : List Value) → class k < q + n) → AllFrom class spec.by q rows
-    → IsPermutation (row_groups spec rows) (flat_map (row_groups spec) (lots class spec.by q n rows))
-lots-groups spec class q zero [] few from = IsPermutation-refl []
-lots-groups spec class q zero (row ∷ rows) few from = let low : q ≤ class (key_of spec.by row) = from.0 in let high : class (key_of spec.by row) < q + zero = few (key_of spec.by row) in absurd (omega arith)
-lots-groups spec class q (suc n) rows few from =
-    let rest : List (List Value) = filter (λ row. not (class (key_of spec.by row) == q)) rows in
-    let here : List (List Value) = filter (λ row. class (key_of spec.by row) == q) rows in
-    let later : IsPermutation (row_groups spec rest) (flat_map (row_groups spec) (lots class spec.by (suc q) n rest))
-    = lots-groups spec class (suc q) n rest (λ k. let f : class k < q + suc n = few k in omega arith) (all_from-next class spec.by q rows from) in
+-- the groups of the partitions are those of the rows
+pub lots-groups : (spec : Spec) (part_of : List Value → ℕ) (q n : ℕ) (rows : List (List Value)) → ((k : List Value) → part_of k < q + n) → AllFrom part_of spec.by q rows
+    → IsPermutation (row_groups spec rows) (flat_map (row_groups spec) (lots part_of spec.by q n rows))
+lots-groups spec part_of q zero [] few from = IsPermutation-refl []
+lots-groups spec part_of q zero (row ∷ rows) few from = let low : q ≤ part_of (key_of spec.by row) = from.0 in let high : part_of (key_of spec.by row) < q + zero = few (key_of spec.by row) in absurd (omega arith)
+lots-groups spec part_of q (suc n) rows few from =
+    let rest : List (List Value) = filter (λ row. not (part_of (key_of spec.by row) == q)) rows in
+    let here : List (List Value) = filter (λ row. part_of (key_of spec.by row) == q) rows in
+    let later : IsPermutation (row_groups spec rest) (flat_map (row_groups spec) (lots part_of spec.by (suc q) n rest))
+    = lots-groups spec part_of (suc q) n rest (λ k. let f : part_of k < q + suc n = few k in omega arith) (all_from-next part_of spec.by q rows from) in
     let P : List (List (List Value)) → Type 0 = λ l. IsPermutation (row_groups spec rest) (flat_map (row_groups spec) l) in
-    IsPermutation-trans _ _ _ (groups_parted spec (λ k. class k == q) rows)
-    (IsPermutation-append_right (row_groups spec here) _ _ (subst P (lots-later class spec.by q (suc q) n rows (omega arith)) later))
+    IsPermutation-trans _ _ _ (groups_parted spec (λ k. part_of k == q) rows)
+    (IsPermutation-append_right (row_groups spec here) _ _ (subst P (lots-later part_of spec.by q (suc q) n rows (omega arith)) later))

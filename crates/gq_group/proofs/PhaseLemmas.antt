@@ -7,7 +7,7 @@ use Rattle.gq_group.specs.Access.{RunSet, either, Apart, LeavesOthers, KeepsOwn,
 use Rattle.gq_group.specs.Counting.{CountedInRun}
 use Rattle.gq_group.specs.Groups.{Group}
 use Rattle.gq_group.specs.Phases.{blamed_as}
-use Rattle.gq_group.specs.Slots.{Gone}
+use Rattle.gq_group.specs.Partitions.{Gone}
 use Rattle.gq_group.specs.RunSources.{only, same_number, equal_number}
 use Rattle.gq_group.specs.Work.{Spills, SpillsTwice}
 use Rattle.gq_group.specs.declared.grouping.Spent.{Spent}

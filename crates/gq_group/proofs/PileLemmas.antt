@@ -10,12 +10,12 @@ use Rattle.gq_row.specs.declared.value.Value.{Value}
 use Rattle.gq_row.specs.Tables.{keys}
 use Rattle.gq_row.specs.Order.{same_key}
 use Rattle.gq_group.specs.Groups.{Spec, Group, groups, group_of, keys_of, answered, AreGroups}
-use Rattle.gq_group.specs.Levels.{row_groups, count_groups, cost, excess, one_if_some}
+use Rattle.gq_group.specs.Partitioning.{row_groups, count_groups, cost, excess, one_if_some}
 use Rattle.gq_group.specs.Piles.{Piled}
 use Rattle.gq_group.specs.Work.{Spills}
 use Rattle.gq_group.specs.declared.grouping.Spent.{Spent}
 use Rattle.std.proofs.Math.Nat.{div-eq_of_lt}
-use Rattle.gq_group.proofs.Costs.{parted_count, level_cost, level_runs, parts_groups_le, some_groups}
+use Rattle.gq_group.proofs.Costs.{parted_count, pass_cost, pass_runs, parts_groups_le, some_groups}
 
 -- without columns all rows have the empty key
 keys-none : (rows : List (List Value)) → 0 < length rows → keys [] rows ≡ [] ∷ []
@@ -53,8 +53,8 @@ piled-first spec budget rows out parts written runs some whole few full fewer is
     let counted = parted_count spec (groups spec rows) out parts whole in
     record {
       whole = whole;
-      few_rows = omega (arith, level_cost budget (length rows) (length (groups spec rows)) (length out) spec parts some counted full fewer, is_written);
-      few_runs = omega (arith, level_runs budget (length (groups spec rows)) (length out) spec parts some counted full, is_runs);
+      few_rows = omega (arith, pass_cost budget (length rows) (length (groups spec rows)) (length out) spec parts some counted full fewer, is_written);
+      few_runs = omega (arith, pass_runs budget (length (groups spec rows)) (length out) spec parts some counted full, is_runs);
       by_rows = omega (arith, counted, few, is_written, parts_groups_le spec parts);
       by_runs = first_runs budget (length out) (sum_by one_if_some parts) runs few is_runs;
     }
@@ -70,8 +70,8 @@ pub piled-step : (spec : Spec) (budget : ℕ) (rows : List (List Value)) (out mo
 piled-step spec budget rows out more pile parts part written runs w b some piled filled whole few full fewer is_w is_b =
     let counted = parted_count spec (groups spec part) more parts whole in
     let same : length (groups spec part) ≡ count_groups spec part = ap length (groups-some spec part filled) in
-    let costs = level_cost budget (length part) (length (groups spec part)) (length more) spec parts some counted full fewer in
-    let made = level_runs budget (length (groups spec part)) (length more) spec parts some counted full in
+    let costs = pass_cost budget (length part) (length (groups spec part)) (length more) spec parts some counted full fewer in
+    let made = pass_runs budget (length (groups spec part)) (length more) spec parts some counted full in
     let here : length part * ((length (groups spec part) - 1) / budget) ≡ cost budget spec part = ap (λ n. length part * ((n - 1) / budget)) same in
     record {
       whole = moved;
@@ -107,7 +107,7 @@ piled-step spec budget rows out more pile parts part written runs w b some piled
         subst P (sym (append_assoc (map answered out) (map answered more) (flat_map f (pile ++ parts))) ∙ ap (λ l. l ++ flat_map f (pile ++ parts)) (sym (map-append answered out more)))
         (IsPermutation-trans _ _ _ start (IsPermutation-append_right (map answered out) _ _ (IsPermutation-trans _ _ _ opened turned)))
 
--- an empty slot was taken away
+-- an empty partition was taken away
 pub piled-skip : (spec : Spec) (budget : ℕ) (rows : List (List Value)) (out : List Group) (pile : List (List (List Value))) (written runs : ℕ)
     → Piled spec budget rows out (pile ++ [] ∷ []) written runs → Piled spec budget rows out pile written runs
 piled-skip spec budget rows out pile written runs piled = record {

@@ -6,30 +6,30 @@ use Rattle.gq_spill.specs.Runs.{Runs}
 use Rattle.gq_group.specs.Access.{RunSet, Apart, either, LeavesOthers, KeepsOwn, HasCause}
 use Rattle.gq_group.specs.Entries.{Pair}
 use Rattle.gq_group.specs.Groups.{Spec, fits_spec}
-use Rattle.gq_group.specs.Leveling.{RowsRead}
-use Rattle.gq_group.specs.Readings.{AreRows, Places, Reads}
+use Rattle.gq_group.specs.PassResults.{RowsRead}
+use Rattle.gq_group.specs.Passes.{AreRows, Places, Reads}
 use Rattle.gq_group.specs.Residents.{Resident}
-use Rattle.gq_group.specs.Slots.{among, Ours, AllHeld, AreEmpty}
-use Rattle.gq_group.specs.declared.level.Taken.{Taken}
+use Rattle.gq_group.specs.Partitions.{among, Ours, AllHeld, AreEmpty}
+use Rattle.gq_group.specs.declared.pass.Taken.{Taken}
 use Rattle.gq_group.specs.declared.refusal.Refusal.{Refusal}
 use Rattle.gq_group.specs.declared.refusal.Refusal.TheVariants.{Damaged}
-use Rattle.gq_group.specs.declared.slot.Slot.{Slot}
+use Rattle.gq_group.specs.declared.partition.Partition.{Partition}
 use Rattle.gq_group.proofs.AccessLemmas.{keeps-apart, leaves-trans}
 use Rattle.gq_group.proofs.ReadLemmas.{apart-empty, apart-flip, apart-step, cause-later, leaves-left, not-damaged, others-empty, ours-empty, ours-stays, placing, placing-cause, reads-end, reads-none, reads-step}
-use Rattle.gq_group.proofs.SlotLemmas.{held-stays}
+use Rattle.gq_group.proofs.PartitionLemmas.{held-stays}
 
 -- what was done so far, where so many rows are left at most
-pub record RowsSoFar (spec : Spec) (budget : ℕ) (class : List Value → ℕ) (classes most left : ℕ) (gives now : List (List Value) → Type 0) (a b : RunSet) (source_ready : Type 0) (source_makes : Bool) (old new : Runs)
-    (count written began columns : ℕ) (pairs : List Pair) (slots : List Slot) : Type 0 where
+pub record RowsSoFar (spec : Spec) (budget : ℕ) (part_of : List Value → ℕ) (fan_out most left : ℕ) (gives now : List (List Value) → Type 0) (a b : RunSet) (source_ready : Type 0) (source_makes : Bool) (old new : Runs)
+    (count written began columns : ℕ) (pairs : List Pair) (partitions : List Partition) : Type 0 where
   pub ready : source_ready
-  pub read : Reads spec budget class classes old.honest gives now new count written began columns pairs slots
+  pub read : Reads spec budget part_of fan_out old.honest gives now new count written began columns pairs partitions
   pub bound : count + left ≤ most
   pub less : written ≤ count
   pub less_runs : began ≤ written
-  pub same_length : length slots ≡ classes
-  pub ours : Ours slots new
-  pub apart : Apart (among slots) b
-  pub others : LeavesOthers a (either b (among slots)) old new
+  pub same_length : length partitions ≡ fan_out
+  pub ours : Ours partitions new
+  pub apart : Apart (among partitions) b
+  pub others : LeavesOthers a (either b (among partitions)) old new
   pub grows : (run : ℕ) → IsTrue (a run) → IsTrue (b run)
   pub owned : source_makes ≡ false → (run : ℕ) → IsTrue (b run) → IsTrue (a run)
   pub made : source_makes ≡ false → new.made ≡ old.made + began
@@ -38,36 +38,36 @@ at_err : (P : Result Taken Refusal → Type 0) (q : Result Taken Refusal) (e : R
 at_err P (Ok x) e is h = absurd is
 at_err P (Err y) e is h = subst (λ x. P (Err x)) (sym is) h
 
-module _ (spec : Spec) (budget : ℕ) (class : List Value → ℕ) (classes most : ℕ) (gives : List (List Value) → Type 0) (a : RunSet) (source_makes : Bool) (r0 : Runs) where
-  pub rows-none : (source_ready : Type 0) (pairs : List Pair) (slots : List Slot) → source_ready → Resident spec budget [] pairs → length slots ≡ classes → AreEmpty slots
-      → RowsSoFar spec budget class classes most most gives gives a a source_ready source_makes r0 r0 0 0 0 0 pairs slots
-  rows-none source_ready pairs slots ready start places empty = record {
+module _ (spec : Spec) (budget : ℕ) (part_of : List Value → ℕ) (fan_out most : ℕ) (gives : List (List Value) → Type 0) (a : RunSet) (source_makes : Bool) (r0 : Runs) where
+  pub rows-none : (source_ready : Type 0) (pairs : List Pair) (partitions : List Partition) → source_ready → Resident spec budget [] pairs → length partitions ≡ fan_out → AreEmpty partitions
+      → RowsSoFar spec budget part_of fan_out most most gives gives a a source_ready source_makes r0 r0 0 0 0 0 pairs partitions
+  rows-none source_ready pairs partitions ready start places empty = record {
     ready = ready;
-    read = reads-none spec budget class classes r0.honest gives r0 pairs slots start places empty;
+    read = reads-none spec budget part_of fan_out r0.honest gives r0 pairs partitions start places empty;
     bound = omega arith;
     less = omega arith;
     less_runs = omega arith;
     same_length = places;
-    ours = ours-empty slots r0 empty;
-    apart = apart-empty slots a empty;
-    others = others-empty slots a r0 empty;
+    ours = ours-empty partitions r0 empty;
+    apart = apart-empty partitions a empty;
+    others = others-empty partitions a r0 empty;
     grows = λ run h. h;
     owned = λ none run h. h;
     made = λ none. omega arith;
   }
 
   -- the source took a step
-  module _ (b b' : RunSet) (left : ℕ) (now : List (List Value) → Type 0) (source_ready : Type 0) (r s : Runs) (count written began columns : ℕ) (pairs : List Pair) (slots : List Slot)
-      (inv : RowsSoFar spec budget class classes most left gives now a b source_ready source_makes r0 r count written began columns pairs slots)
+  module _ (b b' : RunSet) (left : ℕ) (now : List (List Value) → Type 0) (source_ready : Type 0) (r s : Runs) (count written began columns : ℕ) (pairs : List Pair) (partitions : List Partition)
+      (inv : RowsSoFar spec budget part_of fan_out most left gives now a b source_ready source_makes r0 r count written began columns pairs partitions)
       (step : LeavesOthers b b' r s) (owned : source_makes ≡ false → (run : ℕ) → IsTrue (b' run) → IsTrue (b run)) where
-    slots_kept : KeepsOwn (among slots) r s
-    slots_kept = keeps-apart b b' (among slots) r s step (apart-flip (among slots) b inv.apart) inv.ours.live
+    partitions_kept : KeepsOwn (among partitions) r s
+    partitions_kept = keeps-apart b b' (among partitions) r s step (apart-flip (among partitions) b inv.apart) inv.ours.live
 
-    stepped : LeavesOthers a (either b' (among slots)) r0 s
-    stepped = leaves-trans _ _ _ _ _ _ inv.others (leaves-left b b' (among slots) r s step)
+    stepped : LeavesOthers a (either b' (among partitions)) r0 s
+    stepped = leaves-trans _ _ _ _ _ _ inv.others (leaves-left b b' (among partitions) r s step)
 
-    away : Apart (among slots) b'
-    away = apart-step r s b b' (among slots) step inv.apart inv.ours.live
+    away : Apart (among partitions) b'
+    away = apart-step r s b b' (among partitions) step inv.apart inv.ours.live
 
     grows : (run : ℕ) → IsTrue (a run) → IsTrue (b' run)
     grows run h = step.grows run (inv.grows run h)
@@ -76,32 +76,32 @@ module _ (spec : Spec) (budget : ℕ) (class : List Value → ℕ) (classes most
     all_owned none run h = inv.owned none run (owned none run h)
 
     -- and refused a row
-    pub rows-stopped : (ready : Type 0) (q : Result Taken Refusal) (e : Refusal) → IsErrAnd q (λ y. y ≡ e) → HasCause e r s → RowsRead spec budget class classes most gives a b' ready source_makes r0 s pairs slots q
-    rows-stopped ready q e is cause = at_err (λ x. RowsRead spec budget class classes most gives a b' ready source_makes r0 s pairs slots x) q e is (record {
+    pub rows-stopped : (ready : Type 0) (q : Result Taken Refusal) (e : Refusal) → IsErrAnd q (λ y. y ≡ e) → HasCause e r s → RowsRead spec budget part_of fan_out most gives a b' ready source_makes r0 s pairs partitions q
+    rows-stopped ready q e is cause = at_err (λ x. RowsRead spec budget part_of fan_out most gives a b' ready source_makes r0 s pairs partitions x) q e is (record {
       read = tt;
       bound = tt;
       less_runs = tt;
       places = inv.same_length;
       source = tt;
-      ours = ours-stays r s b b' slots step inv.ours;
+      ours = ours-stays r s b b' partitions step inv.ours;
       apart = away;
       others = stepped;
       grows = grows;
       owned = all_owned;
       made = λ none. tt;
-      cause = cause-later e a (either b (among slots)) r0 r s inv.others cause;
+      cause = cause-later e a (either b (among partitions)) r0 r s inv.others cause;
     })
 
     -- and there was no row
     pub rows-done : (ready : Type 0) → ready → (IsTrue r.honest → (rows : List (List Value)) → now rows → rows ≡ []) → (source_makes ≡ false → s.made ≡ r.made)
-        → RowsRead spec budget class classes most gives a b' ready source_makes r0 s pairs slots (Ok (record { rows_read = count; rows_written = written; runs = began; columns = columns }))
+        → RowsRead spec budget part_of fan_out most gives a b' ready source_makes r0 s pairs partitions (Ok (record { rows_read = count; rows_written = written; runs = began; columns = columns }))
     rows-done ready is over made = record {
-      read = reads-end spec budget class classes r0.honest gives now r s count written began columns pairs slots inv.read (λ h. over (inv.others.same_honest ∙ h)) (λ parts held. held-stays r s slots parts slots_kept inv.ours held);
+      read = reads-end spec budget part_of fan_out r0.honest gives now r s count written began columns pairs partitions inv.read (λ h. over (inv.others.same_honest ∙ h)) (λ parts held. held-stays r s partitions parts partitions_kept inv.ours held);
       bound = omega (arith, inv.bound);
       less_runs = inv.less_runs;
       places = inv.same_length;
       source = is;
-      ours = ours-stays r s b b' slots step inv.ours;
+      ours = ours-stays r s b b' partitions step inv.ours;
       apart = away;
       others = stepped;
       grows = grows;
@@ -114,29 +114,29 @@ module _ (spec : Spec) (budget : ℕ) (class : List Value → ℕ) (classes most
     module _ (row : List Value) (mid : List (List Value) → Type 0) (next : IsTrue r.honest → (rows : List (List Value)) → now rows → (rest : List (List Value)) × (rows ≡ row ∷ rest) × mid rest) where
       -- that can't be grouped
       pub rows-damaged : (ready : Type 0) → (IsTrue r0.honest → (rows : List (List Value)) × gives rows × AreRows spec rows) → fits_spec spec row ≡ false
-          → RowsRead spec budget class classes most gives a b' ready source_makes r0 s pairs slots (Err Damaged)
+          → RowsRead spec budget part_of fan_out most gives a b' ready source_makes r0 s pairs partitions (Err Damaged)
       rows-damaged ready known unfit = record {
         read = tt;
         bound = tt;
         less_runs = tt;
         places = inv.same_length;
         source = tt;
-        ours = ours-stays r s b b' slots step inv.ours;
+        ours = ours-stays r s b b' partitions step inv.ours;
         apart = away;
         others = stepped;
         grows = grows;
         owned = all_owned;
         made = λ none. tt;
-        cause = not-damaged spec budget class classes r0.honest gives now mid r count written began columns pairs slots row inv.read known (λ h. next (inv.others.same_honest ∙ h)) unfit;
+        cause = not-damaged spec budget part_of fan_out r0.honest gives now mid r count written began columns pairs partitions row inv.read known (λ h. next (inv.others.same_honest ∙ h)) unfit;
       }
 
-      module _ (m' : List Pair) (slots' : List Slot) (t : Runs) (places : length slots' ≡ classes) (ours : Ours slots' t) (put : LeavesOthers (among slots) (among slots') s t) (live : (run : ℕ) → IsTrue (b' run) → IsTrue (s.live run)) where
+      module _ (m' : List Pair) (partitions' : List Partition) (t : Runs) (places : length partitions' ≡ fan_out) (ours : Ours partitions' t) (put : LeavesOthers (among partitions) (among partitions') s t) (live : (run : ℕ) → IsTrue (b' run) → IsTrue (s.live run)) where
         -- for which there was no place
-        pub rows-unplaced : (ready : Type 0) (q : Result Taken Refusal) (e : Refusal) → IsErrAnd q (λ y. y ≡ e) → ((parts : List (List (List Value))) → AllHeld s slots parts → HasCause e s t)
-            → RowsRead spec budget class classes most gives a b' ready source_makes r0 t m' slots' q
+        pub rows-unplaced : (ready : Type 0) (q : Result Taken Refusal) (e : Refusal) → IsErrAnd q (λ y. y ≡ e) → ((parts : List (List (List Value))) → AllHeld s partitions parts → HasCause e s t)
+            → RowsRead spec budget part_of fan_out most gives a b' ready source_makes r0 t m' partitions' q
         rows-unplaced ready q e is cause =
-            let done = placing a b b' slots slots' r0 r s t step put inv.ours inv.apart inv.others live in
-            at_err (λ x. RowsRead spec budget class classes most gives a b' ready source_makes r0 t m' slots' x) q e is (record {
+            let done = placing a b b' partitions partitions' r0 r s t step put inv.ours inv.apart inv.others live in
+            at_err (λ x. RowsRead spec budget part_of fan_out most gives a b' ready source_makes r0 t m' partitions' x) q e is (record {
               read = tt;
               bound = tt;
               less_runs = tt;
@@ -148,19 +148,19 @@ module _ (spec : Spec) (budget : ℕ) (class : List Value → ℕ) (classes most
               grows = grows;
               owned = all_owned;
               made = λ none. tt;
-              cause = placing-cause e a b b' spec budget class classes r0.honest gives now r0 r s t count written began columns pairs slots inv.read step inv.ours inv.apart inv.others cause;
+              cause = placing-cause e a b b' spec budget part_of fan_out r0.honest gives now r0 r s t count written began columns pairs partitions inv.read step inv.ours inv.apart inv.others cause;
             })
 
         -- and it was placed
-        pub rows-more : (ready : Type 0) (after : List (List Value) → Type 0) (as_many : ℕ) (by_class : List Value → ℕ) (w n later wide : ℕ) → as_many ≡ budget → by_class ≡ class → Places spec as_many by_class classes row s t pairs m' slots slots' w n
+        pub rows-more : (ready : Type 0) (after : List (List Value) → Type 0) (as_many : ℕ) (by_part : List Value → ℕ) (w n later wide : ℕ) → as_many ≡ budget → by_part ≡ part_of → Places spec as_many by_part fan_out row s t pairs m' partitions partitions' w n
             → wide ≡ cond (count == 0) (length row) columns → 1 + later ≤ left → (KeepsOwn b' s t → ready) → (KeepsOwn b' s t → IsTrue s.honest → (rest : List (List Value)) → mid rest → after rest)
             → (source_makes ≡ false → s.made ≡ r.made) → t.made ≡ s.made + n
-            → RowsSoFar spec budget class classes most later gives after a b' ready source_makes r0 t (count + 1) (written + w) (began + n) wide m' slots'
-        rows-more ready after as_many by_class w n later wide same alike placed is_wide fewer stays keeps made made_placing =
-            let done = placing a b b' slots slots' r0 r s t step put inv.ours inv.apart inv.others live in
+            → RowsSoFar spec budget part_of fan_out most later gives after a b' ready source_makes r0 t (count + 1) (written + w) (began + n) wide m' partitions'
+        rows-more ready after as_many by_part w n later wide same alike placed is_wide fewer stays keeps made made_placing =
+            let done = placing a b b' partitions partitions' r0 r s t step put inv.ours inv.apart inv.others live in
             record {
               ready = stays done.kept;
-              read = reads-step spec budget as_many class by_class classes r0.honest gives now after r s t count written began columns w n pairs m' slots slots' row inv.read
+              read = reads-step spec budget as_many part_of by_part fan_out r0.honest gives now after r s t count written began columns w n pairs m' partitions partitions' row inv.read
                   (λ h rows is. let before = inv.others.same_honest ∙ h in let got = next before rows is in (got.0, got.1, keeps done.kept (step.same_honest ∙ before) got.0 got.2))
                   done.held same alike placed wide is_wide;
               bound = omega (arith, fewer, inv.bound);

@@ -76,8 +76,8 @@ impl<'a> Drain<'a> {
         }
         let start = self.start;
         let end = start + self.each;
-        let slots = values.as_mut_slice();
-        let Ok(()) = take_values(&mut self.running[start..end], self.asked, slots) else {
+        let partitions = values.as_mut_slice();
+        let Ok(()) = take_values(&mut self.running[start..end], self.asked, partitions) else {
             return Err(Refusal::SumRange);
         };
         // Its key comes last: kept while the values are taken, it would be moved once more.

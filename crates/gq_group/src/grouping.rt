@@ -13,10 +13,10 @@ use crate::budget::Budget;
 use crate::group_map::GroupMap;
 use crate::group_sink::GroupSink;
 use crate::group_spec::GroupSpec;
+use crate::partition::discard_all;
 use crate::refusal::Refusal;
 use crate::row_source::RowSource;
-use crate::slot::discard_all;
-use crate::stack::group_levels;
+use crate::stack::run_passes;
 use gq_row::Key;
 use gq_spill::RunStore;
 use std::alloc::Global;
@@ -131,7 +131,7 @@ pub fn group<H: KeyHash<Key> + Copy, S: RunStore, R: RowSource<S>, K: GroupSink<
     ensures cause { IfErr result (λ e. GroupCause e (S.runs store.old) (S.runs store.new)) }
 {
     let mut stack = Vec::new(alloc);
-    let outcome = group_levels(alloc, hasher, spec, source, sink, store, budget, &mut stack);
+    let outcome = run_passes(alloc, hasher, spec, source, sink, store, budget, &mut stack);
     discard_all(stack, store);
     outcome
 }

@@ -28,12 +28,12 @@
 //! # Rows of other keys
 //!
 //! At most the budget's number of groups is kept in memory at once. A row whose key has no group there
-//! and no place for one goes to a run of the store: to one of sixteen, by four bits of its key's hash,
-//! where a run is begun when its first row comes. When the rows are read the groups go to the sink, and
-//! then each run is read in the same way, by the next four bits; from the fifth reading of a row on,
-//! one run takes all rows of other keys. The runs that wait stand on a stack, whose places are there
-//! before a reading begins, and no function calls itself. A run is discarded when it was read, and all
-//! that are left whatever the outcome.
+//! and no place for one is spilled: it goes to one of sixteen partitions, by four bits of its key's
+//! hash, and the partition's run is begun when its first row comes. When the rows are read the groups go
+//! to the sink, and then each run is read in the same way, by the next four bits; from the fifth pass
+//! over a row on, one run takes all rows of other keys. The runs that wait are on a stack, which has room
+//! for them before a pass begins, and no function calls itself. A run is discarded when it was read, and
+//! all that remain whatever the outcome.
 //!
 //! # The contract above this crate
 //!
@@ -62,12 +62,12 @@ mod group_sink;
 mod group_spec;
 mod grouping;
 mod key_run;
-mod level;
+mod partition;
+mod pass;
 mod refusal;
 mod resident_table;
 mod row_source;
 mod run_source;
-mod slot;
 mod stack;
 
 pub use budget::Budget;

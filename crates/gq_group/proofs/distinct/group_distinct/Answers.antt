@@ -3,7 +3,7 @@ use Rattle.std.proofs.lemmas.Grind.{common_steps}
 use Rattle.gq_spill.specs.declared.store.RunId.{RunId}
 use Rattle.gq_group.specs.Access.{KeepsOwn}
 use Rattle.gq_group.specs.RunSources.{only, same_number}
-use Rattle.gq_group.specs.Slots.{Gone}
+use Rattle.gq_group.specs.Partitions.{Gone}
 use Rattle.gq_group.proofs.AccessLemmas.{keeps-apart}
 use Rattle.gq_group.proofs.GoneLemmas.{gone-one, gone-keeps}
 use Rattle.gq_group.proofs.MapGroups.{on_ok, if_ok}

@@ -1,0 +1,247 @@
+//! One pass over a source: groups of some keys to the sink, rows of other keys to runs.
+ghost use Rattle.std.specs.Prelude.{◌≡◌, ◌+◌, ◌<◌, ◌≤◌, ◌^◌, [], List, length, IsTrue, IfOk, OnOk, IfErr, cond, ◌==◌};
+ghost use Rattle.gq_row.specs.declared.value.Value.{Value as Cell};
+ghost use Rattle.gq_group.specs.Access.{Apart, LeavesOthers, HasCause};
+ghost use Rattle.gq_group.specs.Groups.{fits_spec};
+ghost use Rattle.gq_group.specs.PassResults.{RowsRead, PassRan};
+ghost use Rattle.gq_group.specs.Partitioning.{partition_of, partition_by, fan_out};
+ghost use Rattle.gq_group.specs.Passes.{AreRows, Places};
+ghost use Rattle.gq_group.specs.Residents.{Resident};
+ghost use Rattle.gq_group.specs.Partitions.{among, Ours, AllHeld, AreEmpty};
+
+use crate::budget::Budget;
+use crate::group_sink::GroupSink;
+use crate::group_spec::GroupSpec;
+use crate::grouping::push_all;
+use crate::partition::{Partition, add_partitions, spill};
+use crate::refusal::Refusal;
+use crate::resident_table::{Offered, ResidentTable};
+use crate::row_source::RowSource;
+use gq_row::{Key, Row};
+use gq_spill::{RunStore, is_storable};
+use std::alloc::{AllocError, Global};
+use sw_probe::KeyHash;
+
+// What a pass did.
+#[derive(Clone, Copy)]
+pub(crate) struct PassStats {
+    pub(crate) rows_read: u64,
+    pub(crate) rows_written: u64,
+    pub(crate) groups: u64,
+    pub(crate) runs: u64,
+    // The length of the first row.
+    pub(crate) columns: usize,
+}
+
+// What became of a row: whether it was written, and whether a run was begun for it, as numbers.
+#[derive(Clone, Copy)]
+struct Placed {
+    written: u64,
+    began: u64,
+}
+
+// What was read, and what became of it.
+#[derive(Clone, Copy)]
+struct Taken {
+    rows_read: u64,
+    rows_written: u64,
+    runs: u64,
+    columns: usize,
+}
+
+// Partition fan-out at this depth: sixteen, and from depth 4 on one.
+fn fan_out(depth: u32) -> usize
+    ensures { result ≡ fan_out depth }
+{
+    if depth < 4 { 16 } else { 1 }
+}
+
+// The partition of a key, by its hash.
+fn partition_of(depth: u32, hash: u64) -> usize
+    ensures { result ≡ partition_of depth hash }
+{
+    if depth < 4 {
+        ((hash >> (60 - 4 * depth)) % 16) as usize
+    } else {
+        0
+    }
+}
+
+// Puts a row into its group, or into the run of its partition.
+#[inline(always)]
+fn place_row<H: KeyHash<Key> + Copy, S: RunStore>(
+    alloc: Global,
+    spec: &GroupSpec,
+    depth: u32,
+    row: &Row,
+    store: &mut S,
+    table: &mut ResidentTable<H>,
+    partitions: &mut Vec<Partition>,
+) -> Result<Placed, Refusal>
+    requires fits { IsTrue (fits_spec spec.now row.now) }
+    requires each { table.old.groups.each ≡ length spec.now.aggs }
+    requires resident { (rows : List (List Cell)) × (length rows < 2 ^ 32) ×
+        Resident spec.now table.old.budget.entries rows table.old.groups.pairs }
+    requires places { length partitions.old.items ≡ fan_out depth }
+    requires ours { Ours partitions.old.items (S.runs store.old) }
+    ensures places { IfOk result (λ placed. Places spec.now table.old.budget.entries (partition_by
+        (H.hash_of table.old.groups.hasher) depth) (fan_out depth) row.now (S.runs
+        store.old) (S.runs store.new) table.old.groups.pairs table.new.groups.pairs partitions.old.items partitions.new.items
+        placed.written placed.began) }
+    ensures budget { table.new.budget ≡ table.old.budget }
+    ensures each { table.new.groups.each ≡ table.old.groups.each }
+    ensures hasher { OnOk result (table.new.groups.hasher ≡ table.old.groups.hasher) }
+    ensures same_length { length partitions.new.items ≡ fan_out depth }
+    ensures ours { Ours partitions.new.items (S.runs store.new) }
+    ensures others { LeavesOthers (among partitions.old.items) (among partitions.new.items) (S.runs
+        store.old) (S.runs store.new) }
+    ensures made { IfOk result (λ placed.
+        (S.runs store.new).made ≡ (S.runs store.old).made + placed.began) }
+    ensures cause { (parts : List (List (List Cell))) →
+        AllHeld (S.runs store.old) partitions.old.items parts →
+        IfErr result (λ e. HasCause e (S.runs store.old) (S.runs store.new)) }
+{
+    let Ok(offered) = table.offer(alloc, spec, row) else {
+        return Err(Refusal::Memory);
+    };
+    let Offered::Left(hash) = offered else {
+        return Ok(Placed {
+            written: 0,
+            began: 0,
+        });
+    };
+    if !is_storable(row) {
+        return Err(Refusal::Memory);
+    }
+    let began = spill(alloc, partitions, partition_of(depth, hash), row, store)?;
+    Ok(Placed { written: 1, began })
+}
+
+// The length of the first row.
+fn width(count: u64, columns: usize, row: &Row) -> usize
+    ensures { result ≡ cond (count == 0) (length row.now) columns }
+{
+    if count == 0 { row.len() } else { columns }
+}
+
+// Reads all rows of the source: each into its group, or if the table is full into the run of its
+// partition.
+fn read_rows<H: KeyHash<Key> + Copy, S: RunStore, R: RowSource<S>>(
+    alloc: Global,
+    spec: &GroupSpec,
+    depth: u32,
+    source: &mut R,
+    store: &mut S,
+    table: &mut ResidentTable<H>,
+    partitions: &mut Vec<Partition>,
+) -> Result<Taken, Refusal>
+    requires source { R.is_ready source.old (S.runs store.old) }
+    requires few { R.bound source.old ≤ 2 ^ 31 }
+    requires rows { IsTrue (S.runs store.old).honest → (rows : List (List Cell)) ×
+        R.gives source.old (S.runs store.old) rows × AreRows spec.now rows }
+    requires each { table.old.groups.each ≡ length spec.now.aggs }
+    requires start { Resident spec.now table.old.budget.entries [] table.old.groups.pairs }
+    requires places { length partitions.old.items ≡ fan_out depth }
+    requires empty { AreEmpty partitions.old.items }
+    ensures read { RowsRead spec.now table.old.budget.entries (partition_by (H.hash_of
+        table.old.groups.hasher) depth) (fan_out depth) (R.bound source.old) (R.gives source.old
+        (S.runs store.old)) (R.owns source.old) (R.owns source.new) (R.is_ready source.new (S.runs
+        store.new)) R.makes_runs (S.runs store.old) (S.runs store.new) table.new.groups.pairs
+        partitions.new.items result }
+    ensures each { table.new.groups.each ≡ table.old.groups.each }
+{
+    let mut rows_read: u64 = 0;
+    let mut rows_written: u64 = 0;
+    let mut runs: u64 = 0;
+    let mut columns: usize = 0;
+    let mut row = Row::new(Vec::new(alloc));
+    'rows: loop {
+        let more = source.next(store, &mut row)?;
+        if !more {
+            break;
+        }
+        if !spec.fits(&row) {
+            return Err(Refusal::Damaged);
+        }
+        let placed = place_row(alloc, spec, depth, &row, store, table, partitions)?;
+        columns = width(rows_read, columns, &row);
+        rows_read += 1;
+        rows_written += placed.written;
+        runs += placed.began;
+    }
+    Ok(Taken {
+        rows_read,
+        rows_written,
+        runs,
+        columns,
+    })
+}
+
+// Empty partitions for the runs of a pass, and the groups of no row.
+fn start_pass<H: KeyHash<Key> + Copy>(
+    alloc: Global,
+    hasher: H,
+    spec: &GroupSpec,
+    depth: u32,
+    budget: Budget,
+    expected: usize,
+    partitions: &mut Vec<Partition>,
+) -> Result<ResidentTable<H>, AllocError>
+    requires none { partitions.old.items ≡ [] }
+    ensures empty { AreEmpty partitions.new.items }
+    ensures few { length partitions.new.items ≤ 16 }
+    ensures places { OnOk result (length partitions.new.items ≡ fan_out depth) }
+    ensures resident { IfOk result (λ table.
+        Resident spec.now budget.entries [] table.groups.pairs) }
+    ensures each { IfOk result (λ table. table.groups.each ≡ length spec.now.aggs) }
+    ensures budget { IfOk result (λ table. table.budget ≡ budget) }
+    ensures hasher { IfOk result (λ table. table.groups.hasher ≡ hasher) }
+{
+    add_partitions(depth.saturating_add(1), fan_out(depth), partitions)?;
+    ResidentTable::start(alloc, hasher, spec, budget, expected)
+}
+
+// Sends the groups of some of a source's keys to the sink, at most the budget's number, and writes the
+// rows of its other keys to runs in new partitions. At every exit the runs that were begun are there.
+pub(crate) fn run_pass<H: KeyHash<Key> + Copy, S: RunStore, R: RowSource<S>, K: GroupSink<S>>(
+    alloc: Global,
+    hasher: H,
+    spec: &GroupSpec,
+    depth: u32,
+    source: &mut R,
+    sink: &mut K,
+    store: &mut S,
+    budget: Budget,
+    partitions: &mut Vec<Partition>,
+) -> Result<PassStats, Refusal>
+    requires source { R.is_ready source.old (S.runs store.old) }
+    requires sink { K.is_ready sink.old (S.runs store.old) }
+    requires apart { Apart (R.owns source.old) (K.owns sink.old) }
+    requires few { R.bound source.old ≤ 2 ^ 31 }
+    requires rows { IsTrue (S.runs store.old).honest → (rows : List (List Cell)) ×
+        R.gives source.old (S.runs store.old) rows × AreRows spec.now rows }
+    requires none { partitions.old.items ≡ [] }
+    ensures { PassRan spec.now budget.entries (R.bound source.old) (R.gives source.old
+        (S.runs store.old)) (K.holds sink.old (S.runs store.old)) (K.holds sink.new (S.runs store.new))
+        (R.owns source.old) (R.owns source.new) (K.owns sink.old) (K.owns sink.new) (R.is_ready
+        source.new (S.runs store.new)) (K.is_ready sink.new (S.runs store.new)) R.makes_runs
+        K.makes_runs (S.runs store.old) (S.runs store.new) partitions.new.items result }
+{
+    let Ok(kept) = spec.kept(alloc) else {
+        return Err(Refusal::Memory);
+    };
+    let hint = source.rows_hint();
+    let Ok(mut table) = start_pass(alloc, hasher, &kept, depth, budget, hint, partitions) else {
+        return Err(Refusal::Memory);
+    };
+    let taken = read_rows(alloc, &kept, depth, source, store, &mut table, partitions)?;
+    let waiting = taken.rows_written;
+    let groups = push_all(alloc, spec, table.into_groups(), waiting, sink, store)?;
+    Ok(PassStats {
+        rows_read: taken.rows_read,
+        rows_written: taken.rows_written,
+        groups,
+        runs: taken.runs,
+        columns: taken.columns,
+    })
+}
