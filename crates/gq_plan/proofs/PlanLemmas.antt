@@ -5,8 +5,8 @@ use Rattle.std.specs.List.{list_all}
 use Rattle.std.specs.Cmp.{first_so}
 use Rattle.gq_row.specs.declared.schema.Column.{Column}
 use Rattle.gq_row.specs.Headings.{positions_of}
-use Rattle.gq_select.specs.declared.shown.Shown.{Shown}
-use Rattle.gq_select.specs.Asking.{can_show}
+use Rattle.gq_select.specs.declared.output_column.OutputColumn.{OutputColumn}
+use Rattle.gq_select.specs.Asking.{is_valid_for}
 use Rattle.gq_select.specs.declared.condition.Test.{Test}
 use Rattle.gq_select.specs.declared.matching.Matching.{Matching}
 use Rattle.gq_command.specs.Commands.{Bytes}
@@ -43,7 +43,7 @@ module _ (columns others : List Column) (clauses : GroupClauses) where
     pub no_shown : all_shown columns clauses.shown ≡ None → group_named columns others clauses ≡ Err (unnumbered NoColumn)
     no_shown h = finds NoColumn (positions_of columns clauses.by.columns) by _ b ∙ misses NoColumn (all_shown columns clauses.shown) _ h
 
-    module _ (shown : List Shown) (s : all_shown columns clauses.shown ≡ Some shown) where
+    module _ (shown : List OutputColumn) (s : all_shown columns clauses.shown ≡ Some shown) where
       pub no_tests : all_placed (in_row columns) clauses.tests ≡ None → group_named columns others clauses ≡ Err (unnumbered NoColumn)
       no_tests h =
           finds NoColumn (positions_of columns clauses.by.columns) by _ b ∙ finds NoColumn (all_shown columns clauses.shown) shown _ s ∙ misses NoColumn (all_placed (in_row columns) clauses.tests) _ h
@@ -85,7 +85,7 @@ module _ (columns others : List Column) (clauses : GroupClauses) where
     fit h = gives (group_named columns others clauses) plan _ n ∙ passes TypeMismatch (group_fits columns others plan) _ h
 
 -- in a plan that fits no texts are summed
-pub sums_fit : (columns others : List Column) (plan : GroupPlan) → group_fits columns others plan ≡ true → IsTrue (list_all (can_show columns) plan.shown)
+pub sums_fit : (columns others : List Column) (plan : GroupPlan) → group_fits columns others plan ≡ true → IsTrue (list_all (is_valid_for columns) plan.shown)
 sums_fit columns others plan h = first_so _ _ h
 
 module _ (columns : List Column) (names : List Bytes) (tests : List NamedTest) where

@@ -8,8 +8,8 @@ use Rattle.gq_row.specs.declared.schema.Column.{Column as TableColumn}
 use Rattle.gq_row.specs.declared.schema.Kind.{Kind}
 use Rattle.gq_row.specs.declared.schema.Kind.TheVariants.{Int, Text, NoCase}
 use Rattle.gq_agg.specs.declared.kind.AggKind.TheVariants.{CountAll, Count, Sum, Min, Max}
-use Rattle.gq_select.specs.declared.shown.Shown.{Shown}
-use Rattle.gq_select.specs.declared.shown.Shown.TheVariants.{Aggregate, CountDistinct}
+use Rattle.gq_select.specs.declared.output_column.OutputColumn.{OutputColumn}
+use Rattle.gq_select.specs.declared.output_column.OutputColumn.TheVariants.{Aggregate, CountDistinct}
 use Rattle.gq_select.specs.Asking.{kind_at}
 use Rattle.gq_select.specs.declared.condition.Operand.{Operand}
 use Rattle.gq_select.specs.declared.condition.Operand.TheVariants.{Column, Literal}
@@ -72,7 +72,7 @@ abbrev pub kinds_of : List TableColumn → List Kind
 kinds_of columns = map (λ (c : TableColumn). c.kind) columns
 
 -- the kind of what is shown: a least and a greatest value are of their column's kind, counts and sums are numbers
-abbrev pub shown_kind : List TableColumn → Shown → Kind
+abbrev pub shown_kind : List TableColumn → OutputColumn → Kind
 shown_kind columns (Aggregate CountAll column) = Int
 shown_kind columns (Aggregate Count column) = Int
 shown_kind columns (Aggregate Sum column) = Int
@@ -81,7 +81,7 @@ shown_kind columns (Aggregate Max column) = kind_at columns column
 shown_kind columns (CountDistinct column) = Int
 
 -- the kinds of a result row: those of the `by` columns, and then of what is shown
-abbrev pub result_kinds : List TableColumn → List ℕ → List Shown → List Kind
+abbrev pub result_kinds : List TableColumn → List ℕ → List OutputColumn → List Kind
 result_kinds columns by shown = map (kind_at columns) by ++ map (shown_kind columns) shown
 
 -- the columns of an `exists` are of the same kinds, one by one

@@ -3,8 +3,8 @@ use Rattle.std.specs.Prelude.{◌+◌, Bool, true, false, List, length, map, pos
 use Rattle.gq_row.specs.declared.schema.Column.{Column as TableColumn}
 use Rattle.gq_row.specs.Headings.{position_of}
 use Rattle.gq_agg.specs.declared.kind.AggKind.TheVariants as kind
-use Rattle.gq_select.specs.declared.shown.Shown.{Shown}
-use Rattle.gq_select.specs.declared.shown.Shown.TheVariants as shown
+use Rattle.gq_select.specs.declared.output_column.OutputColumn.{OutputColumn}
+use Rattle.gq_select.specs.declared.output_column.OutputColumn.TheVariants as shown
 use Rattle.gq_select.specs.Asking.{all_of}
 use Rattle.gq_select.specs.declared.condition.Operand.{Operand}
 use Rattle.gq_select.specs.declared.condition.Operand.TheVariants.{Column, Literal}
@@ -19,7 +19,7 @@ use Rattle.gq_clause.specs.declared.condition.Test.{Test as NamedTest}
 use Rattle.gq_clause.specs.declared.condition.Test.TheVariants as test
 
 -- an aggregate, by the position of its column; none where its name is no column's
-abbrev pub shown_of : List TableColumn → Aggregate → Option Shown
+abbrev pub shown_of : List TableColumn → Aggregate → Option OutputColumn
 shown_of columns CountAll = Some (shown.Aggregate kind.CountAll 0)
 shown_of columns (Count name) = option_map (shown.Aggregate kind.Count) (position_of columns name)
 shown_of columns (CountDistinct name) = option_map shown.CountDistinct (position_of columns name)
@@ -28,7 +28,7 @@ shown_of columns (Min name) = option_map (shown.Aggregate kind.Min) (position_of
 shown_of columns (Max name) = option_map (shown.Aggregate kind.Max) (position_of columns name)
 
 -- several, or none where one of them has a name that is no column's
-abbrev pub all_shown : List TableColumn → List Aggregate → Option (List Shown)
+abbrev pub all_shown : List TableColumn → List Aggregate → Option (List OutputColumn)
 all_shown columns aggregates = all_of (map (shown_of columns) aggregates)
 
 -- whether two aggregates are the same: of one kind, and of columns of one name; each kind has its two cases, so that a new one can't be left out

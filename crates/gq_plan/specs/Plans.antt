@@ -4,7 +4,7 @@ use Rattle.std.specs.List.{list_all}
 use Rattle.std.specs.declared.alloc.AllocError.{AllocError}
 use Rattle.gq_row.specs.declared.schema.Column.{Column}
 use Rattle.gq_row.specs.Headings.{positions_of}
-use Rattle.gq_select.specs.Asking.{CanMatch, can_show}
+use Rattle.gq_select.specs.Asking.{CanMatch, is_valid_for}
 use Rattle.gq_select.specs.declared.matching.Matching.{Matching}
 use Rattle.gq_command.specs.Commands.{Bytes}
 use Rattle.gq_clause.specs.declared.condition.Test.{Test as NamedTest}
@@ -44,7 +44,7 @@ group_named columns others clauses = do
 
 -- the kinds go together: no texts are summed, and no number is compared with a text
 abbrev pub group_fits : List Column → List Column → GroupPlan → Bool
-group_fits columns others plan = list_all (can_show columns) plan.shown && (tests_fit (kinds_of columns) plan.condition.tests && (matching_fits columns others plan.matching && tests_fit (result_kinds columns plan.by plan.shown) plan.having.tests))
+group_fits columns others plan = list_all (is_valid_for columns) plan.shown && (tests_fit (kinds_of columns) plan.condition.tests && (matching_fits columns others plan.matching && tests_fit (result_kinds columns plan.by plan.shown) plan.having.tests))
 
 -- the plan of a `group` on a table with these columns, where the table of its `exists` has the others
 abbrev pub group_plan : List Column → List Column → GroupClauses → Result GroupPlan Refused
@@ -70,5 +70,5 @@ distinct_plan columns names tests = do
 -- the positions of a plan are those of columns, and of these no texts are summed
 pub record IsWithin (columns others : List Column) (plan : GroupPlan) : Type 0 where
   pub by : All (λ column. column < length columns) plan.by
-  pub shown : IsTrue (list_all (can_show columns) plan.shown)
+  pub shown : IsTrue (list_all (is_valid_for columns) plan.shown)
   pub matching : CanMatch columns others plan.matching

@@ -7,7 +7,7 @@ ghost use Rattle.gq_plan.specs.Plans.{IsWithin, group_fits, group_named, group_p
 
 use crate::clauses::GroupClauses;
 use crate::found::or_no_column;
-use crate::kinds::{can_show_all, kinds_of, matching_fits, result_kinds, tests_fit};
+use crate::kinds::{are_valid_for, kinds_of, matching_fits, result_kinds, tests_fit};
 use crate::matching::find_matching;
 use crate::places::{Scope, place_tests};
 use crate::plan::GroupPlan;
@@ -88,7 +88,7 @@ fn fits_group(
     let (by, shown) = (plan.by.as_slice(), plan.shown.as_slice());
     let of_rows = kinds_of(alloc, columns)?;
     let of_groups = result_kinds(alloc, columns, by, shown)?;
-    let fits = can_show_all(columns, shown)
+    let fits = are_valid_for(columns, shown)
         && tests_fit(of_rows.as_slice(), plan.condition.tests.as_slice())
         && matching_fits(columns, others, &plan.matching)
         && tests_fit(of_groups.as_slice(), plan.having.tests.as_slice());

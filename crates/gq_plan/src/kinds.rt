@@ -2,19 +2,19 @@
 ghost use Rattle.std.specs.Prelude.{◌≡◌, IfOk, map};
 ghost use Rattle.std.specs.Cmp.Lexicographic.{pointwise};
 ghost use Rattle.std.specs.List.{list_all};
-ghost use Rattle.gq_select.specs.Asking.{can_show, kind_at};
+ghost use Rattle.gq_select.specs.Asking.{is_valid_for, kind_at};
 ghost use Rattle.gq_plan.specs.Kinds.{agrees, goes_with, is_text, kind_of, kinds_of, matching_fits, operand_kind, result_kinds, same_kind, shown_kind, test_fits, tests_fit};
 
 use gq_agg::AggKind;
 use gq_row::{Column, Kind, Value};
-use gq_select::{Matching, Operand, Shown, Test};
+use gq_select::{Matching, Operand, OutputColumn, Test};
 use std::alloc::{AllocError, Global};
 
 /// Whether each of them can be had of rows that fit these columns.
-pub fn can_show_all(columns: &[Column], shown: &[Shown]) -> bool
-    ensures { result ≡ list_all (can_show columns.now) shown.now }
+pub fn are_valid_for(columns: &[Column], shown: &[OutputColumn]) -> bool
+    ensures { result ≡ list_all (is_valid_for columns.now) shown.now }
 {
-    shown.iter().all(|asked| asked.can_show(columns))
+    shown.iter().all(|asked| asked.is_valid_for(columns))
 }
 
 /// The kinds of a table's rows.
@@ -33,7 +33,7 @@ pub fn result_kinds(
     alloc: Global,
     columns: &[Column],
     by: &[usize],
-    shown: &[Shown],
+    shown: &[OutputColumn],
 ) -> Result<Vec<Kind>, AllocError>
     ensures { IfOk result (λ kinds. kinds.items ≡ result_kinds columns.now by.now shown.now) }
 {
@@ -65,13 +65,13 @@ fn kind_at(columns: &[Column], position: usize) -> Kind
 }
 
 // A least and a greatest value are of their column's kind, counts and sums are numbers.
-fn shown_kind(columns: &[Column], shown: &Shown) -> Kind
+fn shown_kind(columns: &[Column], shown: &OutputColumn) -> Kind
     ensures { result ≡ shown_kind columns.now shown.now }
 {
     match shown {
-        Shown::Aggregate(AggKind::Min | AggKind::Max, column) => kind_at(columns, *column),
-        Shown::Aggregate(AggKind::CountAll | AggKind::Count | AggKind::Sum, _) => Kind::Int,
-        Shown::CountDistinct(_) => Kind::Int,
+        OutputColumn::Aggregate(AggKind::Min | AggKind::Max, column) => kind_at(columns, *column),
+        OutputColumn::Aggregate(AggKind::CountAll | AggKind::Count | AggKind::Sum, _) => Kind::Int,
+        OutputColumn::CountDistinct(_) => Kind::Int,
     }
 }
 

@@ -1,6 +1,6 @@
 //! Plans, as data.
 use gq_row::Sequence;
-use gq_select::{Condition, Matching, Shown};
+use gq_select::{Condition, Matching, OutputColumn};
 
 /// What a `group` asks, by positions in rows.
 #[derive(Drop)]
@@ -8,7 +8,7 @@ pub struct GroupPlan {
     pub by: Sequence<usize>,
     /// Whether rows are grouped by each front of these columns, and not by all of them alone.
     pub rollup: bool,
-    pub shown: Sequence<Shown>,
+    pub shown: Sequence<OutputColumn>,
     /// Of the rows of the table.
     pub condition: Condition,
     /// Of the rows of the table with those of another.

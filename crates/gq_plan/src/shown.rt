@@ -5,7 +5,7 @@ ghost use Rattle.gq_plan.specs.Places.{all_shown, shown_of};
 use gq_agg::AggKind;
 use gq_clause::Aggregate;
 use gq_row::{Schema, Sequence};
-use gq_select::Shown;
+use gq_select::OutputColumn;
 use std::alloc::{AllocError, Global};
 
 /// What the aggregates are of the columns: None where a name is no column's.
@@ -13,7 +13,7 @@ pub fn find_shown(
     alloc: Global,
     schema: &Schema,
     aggregates: &[Aggregate],
-) -> Result<Option<Sequence<Shown>>, AllocError>
+) -> Result<Option<Sequence<OutputColumn>>, AllocError>
     ensures { IfOk result (λ shown. shown ≡ all_shown schema.now.columns aggregates.now) }
 {
     let mut all = Vec::with_capacity(alloc, aggregates.len())?;
@@ -26,13 +26,15 @@ pub fn find_shown(
     Ok(Some(Sequence::new(all)))
 }
 
-fn shown_of(schema: &Schema, aggregate: &Aggregate) -> Option<Shown>
+fn shown_of(schema: &Schema, aggregate: &Aggregate) -> Option<OutputColumn>
     ensures { result ≡ shown_of schema.now.columns aggregate.now }
 {
     let (kind, column) = match aggregate {
-        Aggregate::CountAll => return Some(Shown::Aggregate(AggKind::CountAll, 0)),
+        Aggregate::CountAll => return Some(OutputColumn::Aggregate(AggKind::CountAll, 0)),
         Aggregate::CountDistinct(column) => {
-            return schema.find(column.as_str()).map(Shown::CountDistinct);
+            return schema
+                .find(column.as_str())
+                .map(OutputColumn::CountDistinct);
         }
         Aggregate::Count(column) => (AggKind::Count, column),
         Aggregate::Sum(column) => (AggKind::Sum, column),
@@ -40,5 +42,5 @@ fn shown_of(schema: &Schema, aggregate: &Aggregate) -> Option<Shown>
         Aggregate::Max(column) => (AggKind::Max, column),
     };
     let position = schema.find(column.as_str())?;
-    Some(Shown::Aggregate(kind, position))
+    Some(OutputColumn::Aggregate(kind, position))
 }

@@ -18,11 +18,11 @@ use Rattle.gq_row.specs.declared.schema.Column.{Column}
 use Rattle.gq_agg.specs.declared.kind.AggKind.{AggKind}
 use Rattle.gq_agg.specs.Aggregates.{aggregate}
 use Rattle.gq_group.specs.Groups.{Group, Spec, keys_of, column_of, group_of, answers, answered, groups, is_none, out_of_range}
-use Rattle.gq_select.specs.declared.shown.Shown.{Shown}
-use Rattle.gq_select.specs.declared.shown.Shown.TheVariants.{Aggregate, CountDistinct}
+use Rattle.gq_select.specs.declared.output_column.OutputColumn.{OutputColumn}
+use Rattle.gq_select.specs.declared.output_column.OutputColumn.TheVariants.{Aggregate, CountDistinct}
 use Rattle.gq_query.specs.Answers.{shown_value}
 use Rattle.gq_select.specs.Asking.{all_of}
-use Rattle.gq_select.specs.Asking.{can_take, can_show}
+use Rattle.gq_select.specs.Asking.{can_take, is_valid_for}
 use Rattle.gq_query.specs.Cells.{aggs_of}
 use Rattle.gq_group.specs.Distinct.{distinct_group, distinct_groups}
 use Rattle.gq_query.specs.Joining.{shown_of, AreShown, aggregates_of, so_far, first_of, joined, row_of, folded_row, folded_answer, folded_keys}
@@ -73,13 +73,13 @@ sorted_told f ks out sorted differ found moved up =
     rebuilt f (map answered sorted) (All-permutation (λ (p : Told). p.1 ≡ f p.0) (map (λ k. (k, f k)) ks) (map answered sorted) all (all_paired f ks))
     ∙ ap (map (λ k. (k, f k))) (answered_keys sorted ∙ ordered)
 
-aggs_shown : (shown : List Shown) (rows : List (List Value)) → answers (aggs_of shown) rows ≡ map (λ s. shown_value s rows) (aggregates_of shown)
+aggs_shown : (shown : List OutputColumn) (rows : List (List Value)) → answers (aggs_of shown) rows ≡ map (λ s. shown_value s rows) (aggregates_of shown)
 aggs_shown [] rows = refl
 aggs_shown (Aggregate k c ∷ shown) rows = ap (λ l. aggregate k (column_of c rows) ∷ l) (aggs_shown shown rows)
 aggs_shown (CountDistinct c ∷ shown) rows = aggs_shown shown rows
 
 -- the aggregates of sorted groups
-pub groups_shown : (by : List ℕ) (shown : List Shown) (rows : List (List Value)) (out sorted : List Group) → IsPermutation (groups (record { by = by; aggs = aggs_of shown }) rows) (map answered out)
+pub groups_shown : (by : List ℕ) (shown : List OutputColumn) (rows : List (List Value)) (out sorted : List Group) → IsPermutation (groups (record { by = by; aggs = aggs_of shown }) rows) (map answered out)
     → IsPermutation out sorted → IsSortedByKey (λ (g : Group). g.0) compare_keys sorted → AreShown by (aggregates_of shown) rows sorted
 groups_shown by shown rows out sorted found moved up =
     sorted_told (λ k. answers (aggs_of shown) (of_key by rows k)) (keys_of by rows) out sorted (keys_told by rows) found moved up
@@ -102,8 +102,8 @@ counts_shown by column rows out sorted found moved up =
 
 -- ---- counts put among the values of their groups
 
-module _ (s : Shown) (B : List Shown) (rows : List (List Value)) (y : Value) (is : Some y ≡ shown_value s rows) where
-  inserted : (A : List Shown) (xs : List Value) → map Some xs ≡ map (λ t. shown_value t rows) (A ++ B)
+module _ (s : OutputColumn) (B : List OutputColumn) (rows : List (List Value)) (y : Value) (is : Some y ≡ shown_value s rows) where
+  inserted : (A : List OutputColumn) (xs : List Value) → map Some xs ≡ map (λ t. shown_value t rows) (A ++ B)
       → map Some (take (length A) xs ++ y ∷ drop (length A) xs) ≡ map (λ t. shown_value t rows) (A ++ s ∷ B)
   inserted [] xs h = λ i. is i ∷ h i
   inserted (a ∷ A) [] h = let none : ⊥ = cc in absurd none
@@ -115,7 +115,7 @@ only_one : (values : List Value) (o : Option Value) → map Some values ≡ o �
 only_one [] o h = let none : ⊥ = cc in absurd none
 only_one (v ∷ values) o h = cons_head (Some v) o (map Some values) [] h
 
-module _ (by : List ℕ) (rows : List (List Value)) (A B : List Shown) (s : Shown) where
+module _ (by : List ℕ) (rows : List (List Value)) (A B : List OutputColumn) (s : OutputColumn) where
   joined_each : (ks : List (List Value)) (gs cs : List Group) → map answered gs ≡ map (shown_of by (A ++ B) rows) ks → map answered cs ≡ map (shown_of by (s ∷ []) rows) ks
       → map answered (joined (length A) gs cs) ≡ map (shown_of by (A ++ s ∷ B) rows) ks
   joined_each [] [] cs h e = refl
@@ -131,7 +131,7 @@ module _ (by : List ℕ) (rows : List (List Value)) (A B : List Shown) (s : Show
       let rest = joined_each ks gs cs (cons_tail (answered g) (shown_of by (A ++ B) rows k) (map answered gs) (map (shown_of by (A ++ B) rows) ks) h) (cons_tail (answered c) (shown_of by (s ∷ []) rows k) (map answered cs) (map (shown_of by (s ∷ []) rows) ks) e) in
       λ i. (key i, inserted s B (of_key by rows k) (first_of c) one A g.1 values i) ∷ rest i
 
-pub as_many : (by : List ℕ) (rows : List (List Value)) (A B : List Shown) (ks : List (List Value)) (gs cs : List Group) → map answered gs ≡ map (shown_of by A rows) ks → map answered cs ≡ map (shown_of by B rows) ks → length gs ≡ length cs
+pub as_many : (by : List ℕ) (rows : List (List Value)) (A B : List OutputColumn) (ks : List (List Value)) (gs cs : List Group) → map answered gs ≡ map (shown_of by A rows) ks → map answered cs ≡ map (shown_of by B rows) ks → length gs ≡ length cs
 as_many by rows A B ks gs cs h e =
     sym (length-map gs answered) ∙ ap length h ∙ length-map ks (shown_of by A rows) ∙ sym (length-map ks (shown_of by B rows)) ∙ sym (ap length e) ∙ length-map cs answered
 
@@ -142,13 +142,13 @@ front_length (suc i) [] h = absurd (omega arith)
 front_length (suc i) (x ∷ xs) h = ap (λ n. suc n) (front_length i xs (omega arith))
 
 -- an aggregate is there
-pub next_aggregate : (i : ℕ) (shown : List Shown) (d : Shown) (k : AggKind) (c : ℕ) → i < length shown → get_or shown i d ≡ Aggregate k c → so_far (suc i) shown ≡ so_far i shown
+pub next_aggregate : (i : ℕ) (shown : List OutputColumn) (d : OutputColumn) (k : AggKind) (c : ℕ) → i < length shown → get_or shown i d ≡ Aggregate k c → so_far (suc i) shown ≡ so_far i shown
 next_aggregate i [] d k c less e = absurd (omega arith)
 next_aggregate zero (s ∷ shown) d k c less e = ap (λ t. t ∷ aggregates_of shown) e ∙ sym (ap (λ t. aggregates_of (t ∷ shown)) e)
 next_aggregate (suc i) (s ∷ shown) d k c less e = ap (λ l. s ∷ l) (next_aggregate i shown d k c (omega arith) e)
 
 -- a count comes in
-next_count : (i : ℕ) (shown : List Shown) (d : Shown) (c : ℕ) → i < length shown → get_or shown i d ≡ CountDistinct c
+next_count : (i : ℕ) (shown : List OutputColumn) (d : OutputColumn) (c : ℕ) → i < length shown → get_or shown i d ≡ CountDistinct c
     → (so_far i shown ≡ take i shown ++ aggregates_of (drop (suc i) shown)) × (so_far (suc i) shown ≡ take i shown ++ CountDistinct c ∷ aggregates_of (drop (suc i) shown))
 next_count i [] d c less e = absurd (omega arith)
 next_count zero (s ∷ shown) d c less e = (ap (λ t. aggregates_of (t ∷ shown)) e, ap (λ t. t ∷ aggregates_of shown) e)
@@ -156,19 +156,19 @@ next_count (suc i) (s ∷ shown) d c less e =
     let rest = next_count i shown d c (omega arith) e in
     (ap (λ l. s ∷ l) rest.0, ap (λ l. s ∷ l) rest.1)
 
-pub joined_shown : (by : List ℕ) (rows : List (List Value)) (shown : List Shown) (i : ℕ) (d : Shown) (c : ℕ) (gs cs : List Group) → i < length shown → get_or shown i d ≡ CountDistinct c
+pub joined_shown : (by : List ℕ) (rows : List (List Value)) (shown : List OutputColumn) (i : ℕ) (d : OutputColumn) (c : ℕ) (gs cs : List Group) → i < length shown → get_or shown i d ≡ CountDistinct c
     → AreShown by (so_far i shown) rows gs → AreShown by (CountDistinct c ∷ []) rows cs → AreShown by (so_far (suc i) shown) rows (joined i gs cs)
 joined_shown by rows shown i d c gs cs less e h k =
     let next = next_count i shown d c less e in
-    let rest : List Shown = aggregates_of (drop (suc i) shown) in
+    let rest : List OutputColumn = aggregates_of (drop (suc i) shown) in
     let put : AreShown by (take i shown ++ CountDistinct c ∷ rest) rows (joined (length (take i shown)) gs cs)
     = joined_each by rows (take i shown) rest (CountDistinct c) (in_order (λ key. key) (keys_of by rows)) gs cs (subst (λ l. AreShown by l rows gs) next.0 h) k in
     subst (λ l. AreShown by l rows (joined i gs cs)) (sym next.1) (subst (λ n. AreShown by (take i shown ++ CountDistinct c ∷ rest) rows (joined n gs cs)) (front_length i shown less) put)
 
-pub so_far_none : (shown : List Shown) → so_far 0 shown ≡ aggregates_of shown
+pub so_far_none : (shown : List OutputColumn) → so_far 0 shown ≡ aggregates_of shown
 so_far_none shown = refl
 
-pub so_far_all : (shown : List Shown) → so_far (length shown) shown ≡ shown
+pub so_far_all : (shown : List OutputColumn) → so_far (length shown) shown ≡ shown
 so_far_all [] = refl
 so_far_all (s ∷ shown) = ap (λ l. s ∷ l) (so_far_all shown)
 
@@ -198,7 +198,7 @@ pub all_some : (values : List Value) → all_of (map Some values) ≡ Some value
 all_some [] = refl
 all_some (v ∷ values) = ap (option_map (λ vs. v ∷ vs)) (all_some values)
 
-pub answered_rows : (by : List ℕ) (shown : List Shown) (rows ks : List (List Value)) (gs : List Group) → map answered gs ≡ map (shown_of by shown rows) ks → all_of (map (folded_row by shown rows) ks) ≡ Some (map row_of gs)
+pub answered_rows : (by : List ℕ) (shown : List OutputColumn) (rows ks : List (List Value)) (gs : List Group) → map answered gs ≡ map (shown_of by shown rows) ks → all_of (map (folded_row by shown rows) ks) ≡ Some (map row_of gs)
 answered_rows by shown rows [] [] h = refl
 answered_rows by shown rows [] (g ∷ gs) h = let none : ⊥ = cc in absurd none
 answered_rows by shown rows (k ∷ ks) [] h = let none : ⊥ = cc in absurd none
@@ -209,7 +209,7 @@ answered_rows by shown rows (k ∷ ks) (g ∷ gs) h =
     let row : folded_row by shown rows k ≡ Some (row_of g) = ap (option_map (λ vs. k ++ vs)) values ∙ ap (λ key. Some (key ++ g.1)) (sym (ap (λ (p : Told). p.0) group)) in
     λ i. option_and_then (λ x. option_map (λ xs. x ∷ xs) (rest i)) (row i)
 
-pub shown_answer : (by : List ℕ) (shown : List Shown) (rows : List (List Value)) (gs : List Group) → AreShown by shown rows gs → folded_answer by shown rows ≡ Some (map row_of gs)
+pub shown_answer : (by : List ℕ) (shown : List OutputColumn) (rows : List (List Value)) (gs : List Group) → AreShown by shown rows gs → folded_answer by shown rows ≡ Some (map row_of gs)
 shown_answer by shown rows gs h = answered_rows by shown rows (in_order (λ key. key) (keys_of by rows)) gs h
 
 -- ---- sums that are out of range
@@ -221,7 +221,7 @@ after_none f (Some x) h = h x
 pub rest_none : {X : Type 0} (o : Option X) (os : List (Option X)) → all_of os ≡ None → all_of (o ∷ os) ≡ None
 rest_none o os h = after_none (λ x. option_map (λ xs. x ∷ xs) (all_of os)) o (λ x. ap (option_map (λ xs. x ∷ xs)) h)
 
-values_none : (shown : List Shown) (rows : List (List Value)) → list_any is_none (answers (aggs_of shown) rows) ≡ true → all_of (map (λ s. shown_value s rows) shown) ≡ None
+values_none : (shown : List OutputColumn) (rows : List (List Value)) → list_any is_none (answers (aggs_of shown) rows) ≡ true → all_of (map (λ s. shown_value s rows) shown) ≡ None
 values_none [] rows h = absurd (false≢true h)
 values_none (Aggregate k c ∷ shown) rows h = told (aggregate k (column_of c rows)) h (values_none shown rows)
   where
@@ -231,7 +231,7 @@ values_none (Aggregate k c ∷ shown) rows h = told (aggregate k (column_of c ro
     told (Some v) e later = rest_none (Some v) (map (λ s. shown_value s rows) shown) (later e)
 values_none (CountDistinct c ∷ shown) rows h = rest_none (shown_value (CountDistinct c) rows) (map (λ s. shown_value s rows) shown) (values_none shown rows h)
 
-rows_none : (by : List ℕ) (shown : List Shown) (rows ks : List (List Value)) → list_any (λ (g : Told). list_any is_none g.1) (map (group_of (record { by = by; aggs = aggs_of shown }) rows) ks) ≡ true
+rows_none : (by : List ℕ) (shown : List OutputColumn) (rows ks : List (List Value)) → list_any (λ (g : Told). list_any is_none g.1) (map (group_of (record { by = by; aggs = aggs_of shown }) rows) ks) ≡ true
     → all_of (map (folded_row by shown rows) ks) ≡ None
 rows_none by shown rows [] h = absurd (false≢true h)
 rows_none by shown rows (k ∷ ks) h = told (list_any is_none (answers (aggs_of shown) (of_key by rows k))) refl h (rows_none by shown rows ks)
@@ -243,7 +243,7 @@ rows_none by shown rows (k ∷ ks) h = told (list_any is_none (answers (aggs_of 
     told true e t later = ap (option_and_then (λ x. option_map (λ xs. x ∷ xs) (all_of (map (folded_row by shown rows) ks)))) (ap (option_map (λ vs. k ++ vs)) (values_none shown (of_key by rows k) e))
     told false e t later = rest_none (folded_row by shown rows k) (map (folded_row by shown rows) ks) (later t)
 
-pub no_answer : (by : List ℕ) (shown : List Shown) (rows : List (List Value)) → out_of_range (record { by = by; aggs = aggs_of shown }) rows ≡ true → folded_answer by shown rows ≡ None
+pub no_answer : (by : List ℕ) (shown : List OutputColumn) (rows : List (List Value)) → out_of_range (record { by = by; aggs = aggs_of shown }) rows ≡ true → folded_answer by shown rows ≡ None
 no_answer by shown rows h =
     let spec : Spec = record { by = by; aggs = aggs_of shown } in
     rows_none by shown rows (in_order (λ key. key) (keys_of by rows))
@@ -252,17 +252,17 @@ no_answer by shown rows h =
 
 -- ---- what may be shown
 
-pub can_take_aggs : (columns : List Column) (shown : List Shown) → list_all (can_show columns) shown ≡ true → list_all (can_take columns) (aggs_of shown) ≡ true
+pub can_take_aggs : (columns : List Column) (shown : List OutputColumn) → list_all (is_valid_for columns) shown ≡ true → list_all (can_take columns) (aggs_of shown) ≡ true
 can_take_aggs columns [] h = refl
 can_take_aggs columns (Aggregate k c ∷ shown) h =
-    let parts = and_parts (can_take columns (k, c)) (list_all (can_show columns) shown) h in
+    let parts = and_parts (can_take columns (k, c)) (list_all (is_valid_for columns) shown) h in
     and_from (can_take columns (k, c)) (list_all (can_take columns) (aggs_of shown)) parts.0 (can_take_aggs columns shown parts.1)
-can_take_aggs columns (CountDistinct c ∷ shown) h = can_take_aggs columns shown (and_parts (nat_lt c (length columns)) (list_all (can_show columns) shown) h).1
+can_take_aggs columns (CountDistinct c ∷ shown) h = can_take_aggs columns shown (and_parts (nat_lt c (length columns)) (list_all (is_valid_for columns) shown) h).1
 
-pub counted_within : (columns : List Column) (shown : List Shown) (i : ℕ) (d : Shown) (c : ℕ) → list_all (can_show columns) shown ≡ true → i < length shown → get_or shown i d ≡ CountDistinct c → c < length columns
+pub counted_within : (columns : List Column) (shown : List OutputColumn) (i : ℕ) (d : OutputColumn) (c : ℕ) → list_all (is_valid_for columns) shown ≡ true → i < length shown → get_or shown i d ≡ CountDistinct c → c < length columns
 counted_within columns [] i d c h less e = absurd (omega arith)
-counted_within columns (s ∷ shown) zero d c h less e = ltb-true c (length columns) (ap (can_show columns) (sym e) ∙ (and_parts (can_show columns s) (list_all (can_show columns) shown) h).0)
-counted_within columns (s ∷ shown) (suc i) d c h less e = counted_within columns shown i d c (and_parts (can_show columns s) (list_all (can_show columns) shown) h).1 (omega arith) e
+counted_within columns (s ∷ shown) zero d c h less e = ltb-true c (length columns) (ap (is_valid_for columns) (sym e) ∙ (and_parts (is_valid_for columns s) (list_all (is_valid_for columns) shown) h).0)
+counted_within columns (s ∷ shown) (suc i) d c h less e = counted_within columns shown i d c (and_parts (is_valid_for columns s) (list_all (is_valid_for columns) shown) h).1 (omega arith) e
 
 -- ---- different keys
 

@@ -12,7 +12,7 @@ use Rattle.gq_group.specs.declared.grouping.Spent.{Spent}
 use Rattle.gq_group.specs.Groups.{keys_of}
 use Rattle.gq_select.specs.Asking.{all_of}
 use Rattle.gq_select.specs.declared.condition.Test.{Test}
-use Rattle.gq_select.specs.declared.shown.Shown.{Shown}
+use Rattle.gq_select.specs.declared.output_column.OutputColumn.{OutputColumn}
 use Rattle.gq_select.specs.Truths.{keeps}
 use Rattle.gq_query.proofs.HavingLemmas.{all_kept}
 use Rattle.gq_query.specs.Answers.{answer, result_row, shown_key, shown_value}
@@ -28,7 +28,7 @@ Rows = List (List Value)
 all_left : (n : ℕ) → n - 0 ≡ n
 all_left n = omega arith
 
-module _ (by : List ℕ) (shown : List Shown) (having : List Test) (rows : Rows) where
+module _ (by : List ℕ) (shown : List OutputColumn) (having : List Test) (rows : Rows) where
   -- the rows of a level, and those of the levels behind it
   pub level_first : (level : ℕ) (others : List ℕ) (found : Rows) → level_rows by shown having rows level ≡ Some found
       → option_map (λ more. found ++ more) (rows_of_levels by shown having rows others) ≡ rows_of_levels by shown having rows (level ∷ others)
@@ -121,7 +121,7 @@ row_again key values level columns long within =
     let last : drop columns (key ++ (nulls ++ values)) ≡ values = ap (drop columns) (sym (append_assoc key nulls values)) ∙ subst (λ n. drop n ((key ++ nulls) ++ values) ≡ values) both (drop-append_seam (key ++ nulls) values) in
     (λ i. take level (all i) ++ drop columns (all i)) ∙ (λ i. first i ++ last i)
 
-level_alone : (by : List ℕ) (shown : List Shown) (rows : Rows) (level : ℕ) → level ≤ length by
+level_alone : (by : List ℕ) (shown : List OutputColumn) (rows : Rows) (level : ℕ) → level ≤ length by
     → option_map (map (without_level level (length by))) (level_rows by shown [] rows level) ≡ answer (take level by) shown rows
 level_alone by shown rows level within = unnumbered (answer (take level by) shown rows) ∙ each (in_order (λ key. key) (keys_of (take level by) rows))
   where

@@ -29,9 +29,9 @@ use Rattle.gq_group.specs.declared.refusal.Refusal.{Refusal}
 use Rattle.gq_group.specs.declared.refusal.Refusal.TheVariants.{SumRange, Memory, StoreFault, Damaged}
 use Rattle.gq_group.specs.Phases.{blamed_as}
 use Rattle.gq_group.specs.Groups.{Group, keys_of, column_of, answered}
-use Rattle.gq_select.specs.Asking.{all_of, kind_at, can_show}
-use Rattle.gq_select.specs.declared.shown.Shown.{Shown}
-use Rattle.gq_select.specs.declared.shown.Shown.TheVariants.{Aggregate}
+use Rattle.gq_select.specs.Asking.{all_of, kind_at, is_valid_for}
+use Rattle.gq_select.specs.declared.output_column.OutputColumn.{OutputColumn}
+use Rattle.gq_select.specs.declared.output_column.OutputColumn.TheVariants.{Aggregate}
 use Rattle.gq_query.specs.Answers.{shown_value, shown_key, result_row, answer, distinct_keys}
 use Rattle.gq_query.specs.Joining.{row_of, shown_of, AreShown, folded_row, folded_answer, folded_keys}
 use Rattle.gq_query.specs.Spelling.{is_nocase, has_spellings, least_shown}
@@ -43,7 +43,7 @@ Told = List Value × List (Option Value)
 -- ---- the least values before what is shown
 
 -- what is shown of some rows
-abbrev values_of : List (List Value) → List Shown → List (Option Value)
+abbrev values_of : List (List Value) → List OutputColumn → List (Option Value)
 values_of rows shown = map (λ s. shown_value s rows) shown
 
 least_told : (by : List ℕ) (rows : List (List Value)) → values_of rows (least_shown by) ≡ map Some (shown_key by rows)
@@ -63,12 +63,12 @@ before_some (y ∷ ys) xs = ap (option_map (λ vs. y ∷ vs)) (before_some ys xs
     told None = refl
     told (Some vs) = refl
 
-values_append : (mine : List (List Value)) (firsts others : List Shown) → values_of mine (firsts ++ others) ≡ values_of mine firsts ++ values_of mine others
+values_append : (mine : List (List Value)) (firsts others : List OutputColumn) → values_of mine (firsts ++ others) ≡ values_of mine firsts ++ values_of mine others
 values_append mine [] others = refl
 values_append mine (a ∷ firsts) others = ap (λ l. shown_value a mine ∷ l) (values_append mine firsts others)
 
-module _ (by : List ℕ) (shown : List Shown) (rows : List (List Value)) where
-  abbrev with_least : List Shown
+module _ (by : List ℕ) (shown : List OutputColumn) (rows : List (List Value)) where
+  abbrev with_least : List OutputColumn
   with_least = least_shown by ++ shown
 
   -- the least values and what is shown are the result row of a key
@@ -207,13 +207,13 @@ keys_alone by rows plain =
     (All-permutation (λ key. list_any (same_key key) (keys_of by rows) ≡ true) (keys_of by rows) (in_order (λ key. key) (keys_of by rows)) (in_order-permutation (λ key. key) (keys_of by rows)) (all_among (keys_of by rows)))
 
 module _ (by : List ℕ) (rows : List (List Value)) where
-  rows_as_they_are : (shown : List Shown) (ks : List (List Value)) → All (λ key. shown_key by (of_key by rows key) ≡ key) ks → map (folded_row by shown rows) ks ≡ map (result_row by shown rows) ks
+  rows_as_they_are : (shown : List OutputColumn) (ks : List (List Value)) → All (λ key. shown_key by (of_key by rows key) ≡ key) ks → map (folded_row by shown rows) ks ≡ map (result_row by shown rows) ks
   rows_as_they_are shown [] h = refl
   rows_as_they_are shown (k ∷ ks) h =
       let key = sym (All-head (λ key. shown_key by (of_key by rows key) ≡ key) k ks h) in
       λ i. option_map (λ vs. key i ++ vs) (all_of (values_of (of_key by rows k) shown)) ∷ rows_as_they_are shown ks (All-tail (λ key. shown_key by (of_key by rows key) ≡ key) k ks h) i
 
-  pub answer_alone : (shown : List Shown) → Plain by rows → folded_answer by shown rows ≡ answer by shown rows
+  pub answer_alone : (shown : List OutputColumn) → Plain by rows → folded_answer by shown rows ≡ answer by shown rows
   answer_alone shown plain = ap all_of (rows_as_they_are shown (in_order (λ key. key) (keys_of by rows)) (keys_alone by rows plain))
 
   keys_as_they_are : (ks : List (List Value)) → All (λ key. shown_key by (of_key by rows key) ≡ key) ks → ks ≡ map (λ key. shown_key by (of_key by rows key)) ks
@@ -269,10 +269,10 @@ plain_rows columns by (row ∷ rows) fits alone =
 
 -- ---- what may be shown
 
-pub all_may : (columns : List Column) (shown : List Shown) (by : List ℕ) → list_all (can_show columns) shown ≡ true → All (λ column. column < length columns) by → list_all (can_show columns) (least_shown by ++ shown) ≡ true
+pub all_may : (columns : List Column) (shown : List OutputColumn) (by : List ℕ) → list_all (is_valid_for columns) shown ≡ true → All (λ column. column < length columns) by → list_all (is_valid_for columns) (least_shown by ++ shown) ≡ true
 all_may columns shown [] may h = may
 all_may columns shown (c ∷ by) may h =
-    and_from (can_show columns (Aggregate Min c)) (list_all (can_show columns) (least_shown by ++ shown))
+    and_from (is_valid_for columns (Aggregate Min c)) (list_all (is_valid_for columns) (least_shown by ++ shown))
     (and_from (nat_lt c (length columns)) true (lt-ltb c (length columns) (All-head (λ column. column < length columns) c by h)) refl)
     (all_may columns shown by may (All-tail (λ column. column < length columns) c by h))
 

@@ -21,8 +21,8 @@ use Rattle.gq_agg.specs.Values.{least}
 use Rattle.gq_agg.proofs.Different.{different_moved}
 use Rattle.gq_agg.proofs.Unseen.{order_unseen}
 use Rattle.gq_group.specs.Groups.{keys_of, column_of}
-use Rattle.gq_select.specs.declared.shown.Shown.{Shown}
-use Rattle.gq_select.specs.declared.shown.Shown.TheVariants.{Aggregate, CountDistinct}
+use Rattle.gq_select.specs.declared.output_column.OutputColumn.{OutputColumn}
+use Rattle.gq_select.specs.declared.output_column.OutputColumn.TheVariants.{Aggregate, CountDistinct}
 use Rattle.gq_select.specs.declared.condition.Test.{Test}
 use Rattle.gq_select.specs.declared.matching.Matching.{Matching}
 use Rattle.gq_select.specs.Truths.{keeps}
@@ -51,11 +51,11 @@ keys_ordered : (by : List ℕ) (xs ys : List (List Value)) → IsPermutation xs 
 keys_ordered by xs ys moved = sym (in_order-same_rows (λ key. key) (keys_of by xs) (keys_of by ys) (keys_told by xs) (keys_moved by xs ys moved))
 
 -- what is shown of the same rows in another order
-shown_moved : (s : Shown) (xs ys : List (List Value)) → IsPermutation xs ys → shown_value s xs ≡ shown_value s ys
+shown_moved : (s : OutputColumn) (xs ys : List (List Value)) → IsPermutation xs ys → shown_value s xs ≡ shown_value s ys
 shown_moved (Aggregate kind column) xs ys moved = order_unseen kind (column_of column xs) (column_of column ys) (IsPermutation-map (λ row. cell row column) xs ys moved)
 shown_moved (CountDistinct column) xs ys moved = ap (λ n. Some (Int (pos n))) (different_moved (column_of column xs) (column_of column ys) (IsPermutation-map (λ row. cell row column) xs ys moved))
 
-values_moved : (shown : List Shown) (xs ys : List (List Value)) → IsPermutation xs ys → map (λ s. shown_value s xs) shown ≡ map (λ s. shown_value s ys) shown
+values_moved : (shown : List OutputColumn) (xs ys : List (List Value)) → IsPermutation xs ys → map (λ s. shown_value s xs) shown ≡ map (λ s. shown_value s ys) shown
 values_moved [] xs ys moved = refl
 values_moved (s ∷ shown) xs ys moved = λ i. shown_moved s xs ys moved i ∷ values_moved shown xs ys moved i
 
@@ -68,13 +68,13 @@ shown_key_moved [] xs ys moved = refl
 shown_key_moved (c ∷ by) xs ys moved = λ i.
     some_same (least (column_of c xs)) (least (column_of c ys)) (shown_moved (Aggregate Min c) xs ys moved) i ∷ shown_key_moved by xs ys moved i
 
-rows_moved : (by : List ℕ) (shown : List Shown) (xs ys ks : List (List Value)) → IsPermutation xs ys → map (result_row by shown xs) ks ≡ map (result_row by shown ys) ks
+rows_moved : (by : List ℕ) (shown : List OutputColumn) (xs ys ks : List (List Value)) → IsPermutation xs ys → map (result_row by shown xs) ks ≡ map (result_row by shown ys) ks
 rows_moved by shown xs ys [] moved = refl
 rows_moved by shown xs ys (k ∷ ks) moved =
     let mine = of_key-permutation by xs ys k moved in
     λ i. option_map (λ values. shown_key_moved by (of_key by xs k) (of_key by ys k) mine i ++ values) (all_of (values_moved shown (of_key by xs k) (of_key by ys k) mine i)) ∷ rows_moved by shown xs ys ks moved i
 
-pub answer_moved : (by : List ℕ) (shown : List Shown) (xs ys : List (List Value)) → IsPermutation xs ys → answer by shown xs ≡ answer by shown ys
+pub answer_moved : (by : List ℕ) (shown : List OutputColumn) (xs ys : List (List Value)) → IsPermutation xs ys → answer by shown xs ≡ answer by shown ys
 answer_moved by shown xs ys moved =
     ap all_of (rows_moved by shown xs ys (in_order (λ key. key) (keys_of by xs)) moved)
     ∙ ap (λ ks. all_of (map (result_row by shown ys) ks)) (keys_ordered by xs ys moved)
@@ -93,16 +93,16 @@ kept_moved tests m us vs xs ys others moved =
     subst (IsPermutation (rows_kept tests m us xs)) (λ i. filter (λ row. keeps tests row && match_moved m us vs row others i) ys)
     (IsPermutation-filter same_key_equiv same_key_exact (λ row. keeps tests row && has_match m us row) xs ys moved)
 
-having_moved : (by : List ℕ) (shown : List Shown) (having : List Test) (xs ys : List (List Value)) → IsPermutation xs ys → answer_having by shown having xs ≡ answer_having by shown having ys
+having_moved : (by : List ℕ) (shown : List OutputColumn) (having : List Test) (xs ys : List (List Value)) → IsPermutation xs ys → answer_having by shown having xs ≡ answer_having by shown having ys
 having_moved by shown having xs ys moved = ap (option_map (filter (keeps having))) (answer_moved by shown xs ys moved)
 
-levels_moved : (by : List ℕ) (shown : List Shown) (having : List Test) (xs ys : List (List Value)) (levels : List ℕ) → IsPermutation xs ys → map (level_rows by shown having xs) levels ≡ map (level_rows by shown having ys) levels
+levels_moved : (by : List ℕ) (shown : List OutputColumn) (having : List Test) (xs ys : List (List Value)) (levels : List ℕ) → IsPermutation xs ys → map (level_rows by shown having xs) levels ≡ map (level_rows by shown having ys) levels
 levels_moved by shown having xs ys [] moved = refl
 levels_moved by shown having xs ys (n ∷ levels) moved = λ i.
     option_map (λ found. map (λ row. Int (pos n) ∷ row) (filter (keeps having) (map (filled n (length by)) found))) (answer_moved (take n by) shown xs ys moved i)
     ∷ levels_moved by shown having xs ys levels moved i
 
-group_moved : (rollup : Bool) (by : List ℕ) (shown : List Shown) (having : List Test) (xs ys : List (List Value)) → IsPermutation xs ys → group_answer rollup by shown having xs ≡ group_answer rollup by shown having ys
+group_moved : (rollup : Bool) (by : List ℕ) (shown : List OutputColumn) (having : List Test) (xs ys : List (List Value)) → IsPermutation xs ys → group_answer rollup by shown having xs ≡ group_answer rollup by shown having ys
 group_moved false by shown having xs ys moved = having_moved by shown having xs ys moved
 group_moved true by shown having xs ys moved = ap (λ told. option_map (flat_map (λ rows. rows)) (all_of told)) (levels_moved by shown having xs ys (levels by) moved)
 

@@ -11,8 +11,8 @@ use Rattle.gq_group.specs.Groups.{keys_of, column_of}
 use Rattle.gq_select.specs.Asking.{all_of}
 use Rattle.gq_select.specs.declared.condition.Test.{Test}
 use Rattle.gq_select.specs.declared.matching.Matching.{Matching}
-use Rattle.gq_select.specs.declared.shown.Shown.{Shown}
-use Rattle.gq_select.specs.declared.shown.Shown.TheVariants.{Aggregate, CountDistinct}
+use Rattle.gq_select.specs.declared.output_column.OutputColumn.{OutputColumn}
+use Rattle.gq_select.specs.declared.output_column.OutputColumn.TheVariants.{Aggregate, CountDistinct}
 use Rattle.gq_select.specs.Matches.{is_matched}
 use Rattle.gq_select.specs.Truths.{keeps}
 
@@ -26,7 +26,7 @@ abbrev pub rows_kept : List Test → Option Matching → List (List Value) → L
 rows_kept tests matching others rows = filter (λ row. keeps tests row && has_match matching others row) rows
 
 -- what is shown of a group's rows; there is nothing of a sum that is out of range
-abbrev pub shown_value : Shown → List (List Value) → Option Value
+abbrev pub shown_value : OutputColumn → List (List Value) → Option Value
 shown_value (Aggregate kind column) rows = aggregate kind (column_of column rows)
 shown_value (CountDistinct column) rows = Some (Int (pos (different (column_of column rows))))
 
@@ -35,15 +35,15 @@ abbrev pub shown_key : List ℕ → List (List Value) → List Value
 shown_key by rows = map (λ column. least (column_of column rows)) by
 
 -- a result row: the key as it is shown, and then what is shown of the rows that have it
-abbrev pub result_row : List ℕ → List Shown → List (List Value) → List Value → Option (List Value)
+abbrev pub result_row : List ℕ → List OutputColumn → List (List Value) → List Value → Option (List Value)
 result_row by shown rows key = option_map (λ values. shown_key by (of_key by rows key) ++ values) (all_of (map (λ s. shown_value s (of_key by rows key)) shown))
 
 -- the result rows of a `group`: one for each different key, in the order of the keys; none where some sum is out of range
-abbrev pub answer : List ℕ → List Shown → List (List Value) → Option (List (List Value))
+abbrev pub answer : List ℕ → List OutputColumn → List (List Value) → Option (List (List Value))
 answer by shown rows = all_of (map (result_row by shown rows) (in_order (λ key. key) (keys_of by rows)))
 
 -- of these the rows that `having` keeps: it is asked of finished rows, and where some sum is out of range there are none, whatever it says
-abbrev pub answer_having : List ℕ → List Shown → List Test → List (List Value) → Option (List (List Value))
+abbrev pub answer_having : List ℕ → List OutputColumn → List Test → List (List Value) → Option (List (List Value))
 answer_having by shown having rows = option_map (filter (keeps having)) (answer by shown rows)
 
 -- the result rows of a `distinct`: the different keys in some columns, in order, each as it is shown; null is one key value

@@ -3,8 +3,8 @@ use Rattle.std.specs.Prelude.{ℕ, Bool, List, [], ◌∷◌, ◌++◌, map, fol
 use Rattle.std.specs.List.{list_any}
 use Rattle.gq_agg.specs.declared.kind.AggKind.{AggKind}
 use Rattle.gq_group.specs.Groups.{Spec, counts_all}
-use Rattle.gq_select.specs.declared.shown.Shown.{Shown}
-use Rattle.gq_select.specs.declared.shown.Shown.TheVariants.{Aggregate, CountDistinct}
+use Rattle.gq_select.specs.declared.output_column.OutputColumn.{OutputColumn}
+use Rattle.gq_select.specs.declared.output_column.OutputColumn.TheVariants.{Aggregate, CountDistinct}
 
 -- a column is one of these
 abbrev pub is_used : List ℕ → ℕ → Bool
@@ -37,7 +37,7 @@ abbrev pub placed : List ℕ → Spec → Spec
 placed columns spec = record { by = placed_columns columns spec.by; aggs = placed_aggs columns spec.aggs }
 
 -- the aggregates among what is shown, but for counts of different values
-abbrev pub aggs_of : List Shown → List (AggKind × ℕ)
+abbrev pub aggs_of : List OutputColumn → List (AggKind × ℕ)
 aggs_of [] = []
 aggs_of (Aggregate kind column ∷ shown) = (kind, column) ∷ aggs_of shown
 aggs_of (CountDistinct column ∷ shown) = aggs_of shown

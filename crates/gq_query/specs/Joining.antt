@@ -6,26 +6,26 @@ use Rattle.gq_row.specs.Ordered.{in_order}
 use Rattle.gq_row.specs.Tables.{keys, of_key}
 use Rattle.gq_group.specs.Groups.{Group, keys_of, answered}
 use Rattle.gq_select.specs.Asking.{all_of}
-use Rattle.gq_select.specs.declared.shown.Shown.{Shown}
-use Rattle.gq_select.specs.declared.shown.Shown.TheVariants.{Aggregate, CountDistinct}
+use Rattle.gq_select.specs.declared.output_column.OutputColumn.{OutputColumn}
+use Rattle.gq_select.specs.declared.output_column.OutputColumn.TheVariants.{Aggregate, CountDistinct}
 use Rattle.gq_query.specs.Answers.{shown_value}
 
 -- a key, with what is shown of the rows that have it
-abbrev pub shown_of : List ℕ → List Shown → List (List Value) → List Value → List Value × List (Option Value)
+abbrev pub shown_of : List ℕ → List OutputColumn → List (List Value) → List Value → List Value × List (Option Value)
 shown_of by shown rows key = (key, map (λ s. shown_value s (of_key by rows key)) shown)
 
 -- these are the groups of the rows in the order of their keys, with what is shown of each
-abbrev pub AreShown : List ℕ → List Shown → List (List Value) → List Group → Type 0
+abbrev pub AreShown : List ℕ → List OutputColumn → List (List Value) → List Group → Type 0
 AreShown by shown rows out = map answered out ≡ map (shown_of by shown rows) (in_order (λ key. key) (keys_of by rows))
 
 -- what is shown but for counts of different values
-abbrev pub aggregates_of : List Shown → List Shown
+abbrev pub aggregates_of : List OutputColumn → List OutputColumn
 aggregates_of [] = []
 aggregates_of (Aggregate kind column ∷ shown) = Aggregate kind column ∷ aggregates_of shown
 aggregates_of (CountDistinct column ∷ shown) = aggregates_of shown
 
 -- what is shown of the first ones, and the aggregates among the others
-abbrev pub so_far : ℕ → List Shown → List Shown
+abbrev pub so_far : ℕ → List OutputColumn → List OutputColumn
 so_far i shown = take i shown ++ aggregates_of (drop i shown)
 
 -- the one value of a count's group
@@ -44,10 +44,10 @@ row_of g = g.0 ++ g.1
 
 -- ---- answers whose keys stand by their folds
 
-abbrev pub folded_row : List ℕ → List Shown → List (List Value) → List Value → Option (List Value)
+abbrev pub folded_row : List ℕ → List OutputColumn → List (List Value) → List Value → Option (List Value)
 folded_row by shown rows key = option_map (λ values. key ++ values) (all_of (map (λ s. shown_value s (of_key by rows key)) shown))
 
-abbrev pub folded_answer : List ℕ → List Shown → List (List Value) → Option (List (List Value))
+abbrev pub folded_answer : List ℕ → List OutputColumn → List (List Value) → Option (List (List Value))
 folded_answer by shown rows = all_of (map (folded_row by shown rows) (in_order (λ key. key) (keys_of by rows)))
 
 abbrev pub folded_keys : List ℕ → List (List Value) → List (List Value)

@@ -5,7 +5,7 @@ use Rattle.gq_row.specs.declared.value.Value.{Value}
 use Rattle.gq_row.specs.declared.value.Value.TheVariants.{Null, Int}
 use Rattle.gq_select.specs.Asking.{all_of}
 use Rattle.gq_select.specs.declared.condition.Test.{Test}
-use Rattle.gq_select.specs.declared.shown.Shown.{Shown}
+use Rattle.gq_select.specs.declared.output_column.OutputColumn.{OutputColumn}
 use Rattle.gq_select.specs.Truths.{keeps}
 use Rattle.gq_query.specs.Answers.{answer, answer_having}
 
@@ -23,15 +23,15 @@ abbrev pub filled : ℕ → ℕ → List Value → List Value
 filled level columns row = take level row ++ (replicate (columns - level) Null ++ drop level row)
 
 -- the result rows of a level of a rollup: the groups by so many of the first columns, with nulls for the others, of which `having` keeps some; each behind its level
-abbrev pub level_rows : List ℕ → List Shown → List Test → List (List Value) → ℕ → Option (List (List Value))
+abbrev pub level_rows : List ℕ → List OutputColumn → List Test → List (List Value) → ℕ → Option (List (List Value))
 level_rows by shown having rows level =
     option_map (λ found. map (λ row. Int (pos level) ∷ row) (filter (keeps having) (map (filled level (length by)) found))) (answer (take level by) shown rows)
 
 -- the result rows of some levels, one level behind the other; none where some sum of some level is out of range
-abbrev pub rows_of_levels : List ℕ → List Shown → List Test → List (List Value) → List ℕ → Option (List (List Value))
+abbrev pub rows_of_levels : List ℕ → List OutputColumn → List Test → List (List Value) → List ℕ → Option (List (List Value))
 rows_of_levels by shown having rows levels = option_map (flat_map (λ rows. rows)) (all_of (map (level_rows by shown having rows) levels))
 
 -- the result rows of a `group`
-abbrev pub group_answer : Bool → List ℕ → List Shown → List Test → List (List Value) → Option (List (List Value))
+abbrev pub group_answer : Bool → List ℕ → List OutputColumn → List Test → List (List Value) → Option (List (List Value))
 group_answer false by shown having rows = answer_having by shown having rows
 group_answer true by shown having rows = rows_of_levels by shown having rows (levels by)

@@ -6,8 +6,8 @@ use Rattle.gq_row.specs.declared.schema.Kind.{Kind}
 use Rattle.gq_row.specs.declared.schema.Kind.TheVariants as kind
 use Rattle.gq_agg.specs.declared.kind.AggKind.TheVariants.{Min}
 use Rattle.gq_select.specs.Asking.{kind_at}
-use Rattle.gq_select.specs.declared.shown.Shown.{Shown}
-use Rattle.gq_select.specs.declared.shown.Shown.TheVariants.{Aggregate}
+use Rattle.gq_select.specs.declared.output_column.OutputColumn.{OutputColumn}
+use Rattle.gq_select.specs.declared.output_column.OutputColumn.TheVariants.{Aggregate}
 
 abbrev pub is_nocase : Kind → Bool
 is_nocase kind.Int = false
@@ -19,5 +19,5 @@ abbrev pub has_spellings : List Column → List ℕ → Bool
 has_spellings columns by = list_any (λ column. is_nocase (kind_at columns column)) by
 
 -- the least value in each column of a key
-abbrev pub least_shown : List ℕ → List Shown
+abbrev pub least_shown : List ℕ → List OutputColumn
 least_shown by = map (λ column. Aggregate Min column) by

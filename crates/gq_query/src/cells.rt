@@ -3,7 +3,7 @@ ghost use Rattle.std.specs.Prelude.{◌≡◌, fold, IfOk, OnOk, position, nat_e
 ghost use Rattle.gq_query.specs.Cells.{with_column, with_agg, columns_used, place_of, placed_columns, placed_aggs, aggs_of};
 
 use gq_agg::AggKind;
-use gq_select::Shown;
+use gq_select::OutputColumn;
 use std::alloc::{AllocError, Global};
 
 /// The columns that a grouping by columns and of aggregates needs, each once.
@@ -87,12 +87,12 @@ pub fn place_aggs(
 }
 
 /// The aggregates among what is shown, but for counts of different values.
-pub fn aggs_of(alloc: Global, shown: &[Shown]) -> Result<Vec<(AggKind, usize)>, AllocError>
+pub fn aggs_of(alloc: Global, shown: &[OutputColumn]) -> Result<Vec<(AggKind, usize)>, AllocError>
     ensures { IfOk result (λ aggs. aggs.items ≡ aggs_of shown.now) }
 {
     let mut aggs = Vec::with_capacity(alloc, shown.len())?;
     for asked in shown {
-        if let Shown::Aggregate(kind, column) = asked {
+        if let OutputColumn::Aggregate(kind, column) = asked {
             aggs.push((*kind, *column))?;
         }
     }

@@ -4,9 +4,9 @@ ghost use Rattle.std.specs.List.{list_all};
 ghost use Rattle.gq_row.specs.declared.value.Value.TheVariants.{Null};
 ghost use Rattle.gq_group.specs.Access.{LeavesOthers, HasCause, GroupCause};
 ghost use Rattle.gq_select.specs.Truths.{keeps};
-ghost use Rattle.gq_select.specs.declared.shown.Shown.TheVariants.{CountDistinct as Different};
+ghost use Rattle.gq_select.specs.declared.output_column.OutputColumn.TheVariants.{CountDistinct as Different};
 ghost use Rattle.gq_query.specs.Sources.{no_runs};
-ghost use Rattle.gq_select.specs.Asking.{CanMatch, can_show};
+ghost use Rattle.gq_select.specs.Asking.{CanMatch, is_valid_for};
 ghost use Rattle.gq_query.specs.Keeping.{HasColumns, kept_rows};
 ghost use Rattle.gq_query.specs.Joining.{AreShown, aggregates_of, so_far, joined, folded_answer};
 ghost use Rattle.gq_query.specs.Rollups.{group_answer, grouping_sets};
@@ -22,7 +22,7 @@ use crate::spending::both_spent;
 use gq_cells::Rows;
 use gq_group::{Budget, Refusal, Spent};
 use gq_row::{Key, Value};
-use gq_select::{Condition, Shown, having};
+use gq_select::{Condition, OutputColumn, having};
 use gq_spill::RunStore;
 use std::alloc::{AllocError, Global};
 use std::mem::replace;
@@ -36,7 +36,7 @@ pub struct Grouping<'a> {
     /// Whether rows are grouped by each front of these columns, the empty one first, and not by all
     /// of them alone.
     pub rollup: bool,
-    pub shown: &'a [Shown],
+    pub shown: &'a [OutputColumn],
     pub having: &'a Condition,
 }
 
@@ -45,12 +45,12 @@ impl<'a, H: KeyHash<Key> + Copy> Query<'a, H> {
     // grouping them took.
     fn aggregates<S: RunStore>(
         &self,
-        shown: &[Shown],
+        shown: &[OutputColumn],
         store: &mut S,
     ) -> Result<(GroupList, Spent), Refusal>
         requires columns { HasColumns self.now }
         requires shown { IsTrue
-            (list_all (can_show self.now.table.now.heading.columns) shown.now) }
+            (list_all (is_valid_for self.now.table.now.heading.columns) shown.now) }
         ensures groups { IsTrue (S.runs store.old).honest →
             IfOk result (λ found. AreShown self.now.by.now (aggregates_of shown.now)
             (kept_rows self.now) found.0) }
@@ -90,14 +90,14 @@ impl<'a, H: KeyHash<Key> + Copy> Query<'a, H> {
     // have their values by then, up to that place, and then the aggregates.
     fn show_next<S: RunStore>(
         &self,
-        shown: &[Shown],
+        shown: &[OutputColumn],
         place: usize,
         groups: &mut GroupList,
         store: &mut S,
     ) -> Result<(), Refusal>
         requires columns { HasColumns self.now }
         requires shown { IsTrue
-            (list_all (can_show self.now.table.now.heading.columns) shown.now) }
+            (list_all (is_valid_for self.now.table.now.heading.columns) shown.now) }
         requires within { place < length shown.now }
         requires groups { IsTrue (S.runs store.old).honest → AreShown self.now.by.now
             (so_far place shown.now) (kept_rows self.now) groups.old }
@@ -107,7 +107,7 @@ impl<'a, H: KeyHash<Key> + Copy> Query<'a, H> {
         ensures others { LeavesOthers no_runs no_runs (S.runs store.old) (S.runs store.new) }
         ensures cause { IfErr result (λ e. HasCause e (S.runs store.old) (S.runs store.new)) }
     {
-        let Shown::CountDistinct(column) = shown[place] else {
+        let OutputColumn::CountDistinct(column) = shown[place] else {
             return Ok(());
         };
         let counts = self.counts(column, store)?;
@@ -127,12 +127,12 @@ impl<'a, H: KeyHash<Key> + Copy> Query<'a, H> {
     // their aggregates took. Counts of different values are left out of that.
     pub(crate) fn show<S: RunStore>(
         &self,
-        shown: &[Shown],
+        shown: &[OutputColumn],
         store: &mut S,
     ) -> Result<(GroupList, Spent), Refusal>
         requires columns { HasColumns self.now }
         requires shown { IsTrue
-            (list_all (can_show self.now.table.now.heading.columns) shown.now) }
+            (list_all (is_valid_for self.now.table.now.heading.columns) shown.now) }
         ensures groups { IsTrue (S.runs store.old).honest →
             IfOk result (λ found. AreShown self.now.by.now shown.now
             (kept_rows self.now) found.0) }
@@ -161,7 +161,7 @@ impl<'a, H: KeyHash<Key> + Copy> Query<'a, H> {
         spent: Spent,
     ) -> Result<(Rows, Spent), Refusal>
         requires columns { HasColumns self.now }
-        requires shown { IsTrue (list_all (can_show self.now.table.now.heading.columns)
+        requires shown { IsTrue (list_all (is_valid_for self.now.table.now.heading.columns)
             grouping.now.shown.now) }
         ensures rows { IsTrue (S.runs store.old).honest → IfOk result
             (λ found. group_answer grouping.now.rollup self.now.by.now grouping.now.shown.now
@@ -269,7 +269,7 @@ pub fn group_rows<H: KeyHash<Key> + Copy, S: RunStore>(
 ) -> Result<(Rows, Spent), Refusal>
     requires by { All (λ column. column < length selection.now.table.now.heading.columns)
         grouping.now.by.now }
-    requires shown { IsTrue (list_all (can_show selection.now.table.now.heading.columns)
+    requires shown { IsTrue (list_all (is_valid_for selection.now.table.now.heading.columns)
         grouping.now.shown.now) }
     requires matching { CanMatch selection.now.table.now.heading.columns
         (other_columns (option_copied selection.now.others))

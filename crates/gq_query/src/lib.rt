@@ -3,14 +3,14 @@
 //! - A [`Selection`] says which rows of a table a query is about: those for which a condition is
 //!   true and which have a match among the rows of another table, or have none, as it asks.
 //! - [`group_rows`] gives a row for each different key that these rows have in some columns: the
-//!   key, and then what is [`Shown`] of the rows that have it. Of the finished rows it keeps those
+//!   key, and then each [`OutputColumn`] of the rows that have it. Of the finished rows it keeps those
 //!   for which `having` is true. A rollup does so for each prefix of the columns, and puts the level
 //!   first. [`distinct_rows`] gives the distinct keys alone.
 //! - [`show_rows`] gives all rows of a table.
 //!
 //! ```text
 //! let selection = Selection { table: &table, condition: &condition, matching: None, others: None };
-//! let shown = [Shown::Aggregate(AggKind::Sum, 1), Shown::CountDistinct(2)];
+//! let shown = [OutputColumn::Aggregate(AggKind::Sum, 1), OutputColumn::CountDistinct(2)];
 //! let grouping = Grouping { by: &[0], rollup: false, shown: &shown, having: &having };
 //! let (rows, spent) = group_rows(alloc, hasher, &selection, &grouping, &mut store, budget, spent)?;
 //! ```
@@ -47,7 +47,7 @@ mod spending;
 mod table_rows;
 
 pub use distinct::distinct_rows;
-pub use gq_select::Shown;
+pub use gq_select::OutputColumn;
 pub use grouping::{Grouping, group_rows};
 pub use selection::Selection;
 pub use showing::show_rows;

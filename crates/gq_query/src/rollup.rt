@@ -7,7 +7,7 @@ ghost use Rattle.std.specs.Prelude.{◌≡◌, ◌≤◌, ◌++◌, ◌∷◌, t
 ghost use Rattle.std.specs.List.{list_all};
 ghost use Rattle.gq_row.specs.declared.value.Value.TheVariants.{Int};
 ghost use Rattle.gq_group.specs.Access.{LeavesOthers, GroupCause};
-ghost use Rattle.gq_select.specs.Asking.{can_show};
+ghost use Rattle.gq_select.specs.Asking.{is_valid_for};
 ghost use Rattle.gq_select.specs.Truths.{keeps};
 ghost use Rattle.gq_query.specs.Keeping.{HasColumns, kept_rows};
 ghost use Rattle.gq_query.specs.Rollups.{filled, level_rows, rows_of_levels, levels, grouping_sets};
@@ -20,7 +20,7 @@ use crate::spending::both_spent;
 use gq_cells::Rows;
 use gq_group::{Refusal, Spent};
 use gq_row::{Key, Value};
-use gq_select::{Condition, Shown, having};
+use gq_select::{Condition, OutputColumn, having};
 use gq_spill::RunStore;
 use std::alloc::{AllocError, Global};
 use sw_probe::KeyHash;
@@ -82,14 +82,14 @@ impl<'a, H: KeyHash<Key> + Copy> Query<'a, H> {
     fn level<S: RunStore>(
         &self,
         level: usize,
-        shown: &[Shown],
+        shown: &[OutputColumn],
         condition: &Condition,
         store: &mut S,
     ) -> Result<(Rows, Spent), Refusal>
         requires columns { HasColumns self.now }
         requires within { level ≤ length self.now.by.now }
         requires shown { IsTrue
-            (list_all (can_show self.now.table.now.heading.columns) shown.now) }
+            (list_all (is_valid_for self.now.table.now.heading.columns) shown.now) }
         ensures rows { IsTrue (S.runs store.old).honest → IfOk result
             (λ found. level_rows self.now.by.now shown.now condition.now.tests
             (kept_rows self.now) level ≡ Some found.0) }
@@ -121,14 +121,14 @@ impl<'a, H: KeyHash<Key> + Copy> Query<'a, H> {
     /// the grouping of each level took.
     pub fn rollup<S: RunStore>(
         &self,
-        shown: &[Shown],
+        shown: &[OutputColumn],
         condition: &Condition,
         store: &mut S,
         spent: Spent,
     ) -> Result<(Rows, Spent), Refusal>
         requires columns { HasColumns self.now }
         requires shown { IsTrue
-            (list_all (can_show self.now.table.now.heading.columns) shown.now) }
+            (list_all (is_valid_for self.now.table.now.heading.columns) shown.now) }
         ensures rows { IsTrue (S.runs store.old).honest → IfOk result
             (λ found. rows_of_levels self.now.by.now shown.now condition.now.tests
             (kept_rows self.now) (levels self.now.by.now) ≡ Some found.0) }

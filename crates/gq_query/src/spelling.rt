@@ -9,7 +9,7 @@ ghost use Rattle.std.specs.List.{list_all};
 ghost use Rattle.gq_row.specs.Fitting.{fits_columns};
 ghost use Rattle.gq_group.specs.Access.{LeavesOthers, HasCause, GroupCause};
 ghost use Rattle.gq_group.specs.Phases.{blamed_as};
-ghost use Rattle.gq_select.specs.Asking.{can_show};
+ghost use Rattle.gq_select.specs.Asking.{is_valid_for};
 ghost use Rattle.gq_query.specs.Answers.{answer, distinct_keys};
 ghost use Rattle.gq_query.specs.Keeping.{HasColumns, kept_rows};
 ghost use Rattle.gq_query.specs.Sources.{no_runs};
@@ -21,7 +21,7 @@ use gq_agg::AggKind;
 use gq_cells::Rows;
 use gq_group::{Refusal, Spent};
 use gq_row::{Column, Key, Kind};
-use gq_select::Shown;
+use gq_select::OutputColumn;
 use gq_spill::RunStore;
 use std::alloc::{AllocError, Global};
 use sw_probe::KeyHash;
@@ -41,12 +41,16 @@ fn has_spellings(columns: &[Column], by: &[usize]) -> bool
 }
 
 // The least value in each column of the key, and behind them what is shown.
-fn with_least(alloc: Global, shown: &[Shown], by: &[usize]) -> Result<Vec<Shown>, AllocError>
+fn with_least(
+    alloc: Global,
+    shown: &[OutputColumn],
+    by: &[usize],
+) -> Result<Vec<OutputColumn>, AllocError>
     ensures { IfOk result (λ all. all.items ≡ least_shown by.now ++ shown.now) }
 {
     let mut all = Vec::new(alloc);
     for column in by {
-        all.push(Shown::Aggregate(AggKind::Min, *column))?;
+        all.push(OutputColumn::Aggregate(AggKind::Min, *column))?;
     }
     all.extend_from_slice(shown)?;
     Ok(all)
@@ -68,12 +72,12 @@ impl<'a, H: KeyHash<Key> + Copy> Query<'a, H> {
     /// The result rows of the groups, in the order of their keys, and what grouping them took.
     pub fn rows<S: RunStore>(
         &self,
-        shown: &[Shown],
+        shown: &[OutputColumn],
         store: &mut S,
     ) -> Result<(Rows, Spent), Refusal>
         requires columns { HasColumns self.now }
         requires shown { IsTrue
-            (list_all (can_show self.now.table.now.heading.columns) shown.now) }
+            (list_all (is_valid_for self.now.table.now.heading.columns) shown.now) }
         ensures rows { IsTrue (S.runs store.old).honest →
             IfOk result (λ found. answer self.now.by.now shown.now
             (kept_rows self.now) ≡ Some found.0) }
@@ -96,12 +100,12 @@ impl<'a, H: KeyHash<Key> + Copy> Query<'a, H> {
     // The same, where keys have the rows' own values.
     fn rows_alone<S: RunStore>(
         &self,
-        shown: &[Shown],
+        shown: &[OutputColumn],
         store: &mut S,
     ) -> Result<(Rows, Spent), Refusal>
         requires columns { HasColumns self.now }
         requires shown { IsTrue
-            (list_all (can_show self.now.table.now.heading.columns) shown.now) }
+            (list_all (is_valid_for self.now.table.now.heading.columns) shown.now) }
         requires alone { may_differ self.now.table.now.heading.columns self.now.by.now ≡ false }
         requires fitting { IsTrue (list_all (fits_columns self.now.table.now.heading.columns)
             self.now.table.now.rows) }
@@ -126,12 +130,12 @@ impl<'a, H: KeyHash<Key> + Copy> Query<'a, H> {
     // The same, with the least value in each of their columns.
     fn rows_spelled<S: RunStore>(
         &self,
-        shown: &[Shown],
+        shown: &[OutputColumn],
         store: &mut S,
     ) -> Result<(Rows, Spent), Refusal>
         requires columns { HasColumns self.now }
         requires shown { IsTrue
-            (list_all (can_show self.now.table.now.heading.columns) shown.now) }
+            (list_all (is_valid_for self.now.table.now.heading.columns) shown.now) }
         ensures rows { IsTrue (S.runs store.old).honest →
             IfOk result (λ found. answer self.now.by.now shown.now
             (kept_rows self.now) ≡ Some found.0) }

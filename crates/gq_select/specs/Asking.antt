@@ -7,8 +7,8 @@ use Rattle.gq_agg.specs.declared.kind.AggKind.{AggKind}
 use Rattle.gq_agg.specs.declared.kind.AggKind.TheVariants.{CountAll, Count, Sum, Min, Max}
 use Rattle.gq_group.specs.Groups.{counts_all}
 use Rattle.gq_select.specs.declared.matching.Matching.{Matching}
-use Rattle.gq_select.specs.declared.shown.Shown.{Shown}
-use Rattle.gq_select.specs.declared.shown.Shown.TheVariants.{Aggregate, CountDistinct}
+use Rattle.gq_select.specs.declared.output_column.OutputColumn.{OutputColumn}
+use Rattle.gq_select.specs.declared.output_column.OutputColumn.TheVariants.{Aggregate, CountDistinct}
 
 -- the kind of the column at a position
 abbrev pub kind_at : List Column → ℕ → Kind
@@ -29,9 +29,9 @@ abbrev pub can_take : List Column → AggKind × ℕ → Bool
 can_take columns a = counts_all a.0 || (nat_lt a.1 (length columns) && takes_kind a.0 (kind_at columns a.1))
 
 -- what is asked for can be shown of rows that fit these columns
-abbrev pub can_show : List Column → Shown → Bool
-can_show columns (Aggregate asked column) = can_take columns (asked, column)
-can_show columns (CountDistinct column) = nat_lt column (length columns)
+abbrev pub is_valid_for : List Column → OutputColumn → Bool
+is_valid_for columns (Aggregate asked column) = can_take columns (asked, column)
+is_valid_for columns (CountDistinct column) = nat_lt column (length columns)
 
 -- a match that is asked for names columns of the rows, and of the other rows
 abbrev pub CanMatch : List Column → List Column → Option Matching → Type 0

@@ -11,7 +11,7 @@
 //!   columns: null equals nothing, so a row with null in one of its columns has no match. A
 //!   [`Matching`] says which of the two is asked, and of which columns.
 //! - [`distinct`] pushes each different key of the rows once, by its fold. Nulls are one key value there.
-//! - [`Shown`] is what may be asked of a group: an aggregate of a column, or how many different values it has.
+//! - [`OutputColumn`] is what may be asked of a group: an aggregate of a column, or how many different values it has.
 //!
 //! A comparison is unknown where one of its values is null; `is null` and `is not null` never are.
 //! Where one of its values is a text without case, a text is taken as such, and folds are compared.
@@ -48,12 +48,12 @@ mod join;
 mod keys;
 pub mod laws;
 mod matching;
-mod shown;
+mod output_column;
 mod truth;
 
 pub use condition::{Condition, Operand, Test, filter, having, holds};
 pub use join::{KeySet, anti_join, semi_join};
 pub use keys::distinct;
 pub use matching::Matching;
-pub use shown::Shown;
+pub use output_column::OutputColumn;
 pub use truth::Truth;

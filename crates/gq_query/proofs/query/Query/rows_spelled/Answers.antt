@@ -1,8 +1,8 @@
 use Rattle.std.proofs.Common.{◌≡◌, ◌∙◌, [], ◌∷◌, map, List, refl, sym, ap, subst, rules, Some}
 use Rattle.std.specs.List.{list_all}
 use Rattle.gq_group.specs.Groups.{Group}
-use Rattle.gq_select.specs.Asking.{can_show}
-use Rattle.gq_select.specs.declared.shown.Shown.{Shown}
+use Rattle.gq_select.specs.Asking.{is_valid_for}
+use Rattle.gq_select.specs.declared.output_column.OutputColumn.{OutputColumn}
 use Rattle.gq_query.specs.Joining.{AreShown, folded_answer, row_of}
 use Rattle.gq_query.specs.Keeping.{kept_rows}
 use Rattle.gq_query.proofs.SpellingLemmas.{all_may, no_spelled_answer, spelled_answer}
@@ -11,14 +11,14 @@ use Rattle.gq_query.proofs.query.Query.rows_spelled.Goals as goal
 pub show-requires-clause-shown : goal.show-requires-clause-shown
 show-requires-clause-shown g c =
     let columns = c.args.self.now.table.now.heading.columns in
-    ap (list_all (can_show columns)) (c.as_slice.ensures.value ∙ c.in-Ok.ensures) ∙ all_may columns c.args.shown.now c.args.self.now.by.now c.requires.shown c.requires.columns.by
+    ap (list_all (is_valid_for columns)) (c.as_slice.ensures.value ∙ c.in-Ok.ensures) ∙ all_may columns c.args.shown.now c.args.self.now.by.now c.requires.shown c.requires.columns.by
 
 pub returns-in_err-groups-clause-overflow : goal.returns-in_err-groups-clause-overflow
 returns-in_err-groups-clause-overflow g c = λ h e.
     let by = c.args.self.now.by.now in
     let mine = kept_rows c.args.self.now in
     no_spelled_answer by c.args.shown.now mine
-    (sym (ap (λ (all : List Shown). folded_answer by all mine) (c.as_slice.ensures.value ∙ c.in-Ok.ensures)) ∙ c.in_err-groups.ensures.overflow h (search rules))
+    (sym (ap (λ (all : List OutputColumn). folded_answer by all mine) (c.as_slice.ensures.value ∙ c.in-Ok.ensures)) ∙ c.in_err-groups.ensures.overflow h (search rules))
 
 pub returns-in-Ok-into_values-clause-rows : goal.returns-in-Ok-into_values-clause-rows
 returns-in-Ok-into_values-clause-rows g c = λ h.
@@ -26,7 +26,7 @@ returns-in-Ok-into_values-clause-rows g c = λ h.
     let mine = kept_rows c.args.self.now in
     let gs = c.in_ok-groups.groups in
     spelled_answer by c.args.shown.now mine gs
-    (subst (λ (all : List Shown). AreShown by all mine gs) (c.as_slice.ensures.value ∙ c.in-Ok.ensures) (c.in_ok-groups.ensures.groups h))
+    (subst (λ (all : List OutputColumn). AreShown by all mine gs) (c.as_slice.ensures.value ∙ c.in-Ok.ensures) (c.in_ok-groups.ensures.groups h))
     ∙ ap Some (left_out gs ∙ sym c.in-Ok-into_values.ensures)
   where
     left_out : (gs : List Group) → map row_of (map (λ (k : Group). ([], k.1)) gs) ≡ map (λ (k : Group). k.1) gs

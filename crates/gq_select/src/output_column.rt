@@ -1,31 +1,31 @@
-//! What is shown of a group.
+//! The columns of a result row that follow its key.
 ghost use Rattle.std.specs.Prelude.{◌≡◌};
-ghost use Rattle.gq_select.specs.Asking.{can_show as may_show, takes_kind as may_take};
+ghost use Rattle.gq_select.specs.Asking.{is_valid_for as valid_for, takes_kind as may_take};
 
 use gq_agg::AggKind;
 use gq_row::{Column, Kind};
 
-/// What is shown of each group. Columns are told by their positions in a row.
+/// What is shown of each group. A column of its rows is named by its position.
 #[derive(Clone, Copy, Debug, PartialEq, Eq)]
-pub enum Shown {
+pub enum OutputColumn {
     /// An aggregate of the values in a column. The column of `CountAll` is ignored.
     Aggregate(AggKind, usize),
     /// How many different values there are in a column, nulls aside.
     CountDistinct(usize),
 }
 
-impl Shown {
-    /// Whether it can be had of rows that fit these columns: its column is one of them, and there
-    /// are no texts in a column that is summed.
-    pub fn can_show(&self, columns: &[Column]) -> bool
-        ensures { result ≡ may_show columns.now self.now }
+impl OutputColumn {
+    /// Whether it can be made of rows that fit these columns: its column is one of them, and no
+    /// texts are summed.
+    pub fn is_valid_for(&self, columns: &[Column]) -> bool
+        ensures { result ≡ valid_for columns.now self.now }
     {
         match self {
-            Shown::Aggregate(AggKind::CountAll, _) => true,
-            Shown::Aggregate(kind, column) => {
+            OutputColumn::Aggregate(AggKind::CountAll, _) => true,
+            OutputColumn::Aggregate(kind, column) => {
                 *column < columns.len() && takes_kind(*kind, columns[*column].kind)
             }
-            Shown::CountDistinct(column) => *column < columns.len(),
+            OutputColumn::CountDistinct(column) => *column < columns.len(),
         }
     }
 }
