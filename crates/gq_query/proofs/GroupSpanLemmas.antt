@@ -19,19 +19,19 @@ use Rattle.gq_row.specs.Order.{compare_keys}
 use Rattle.gq_row.proofs.OrderLemmas.{keys_total}
 use Rattle.gq_cells.proofs.RowsLemmas.{part_kept, last_part}
 use Rattle.gq_group.specs.Groups.{Group}
-use Rattle.gq_query.specs.declared.front.Front.{Front}
+use Rattle.gq_query.specs.declared.sort_prefix.SortPrefix.{SortPrefix}
 use Rattle.gq_query.specs.declared.group_list.GroupSpan.{GroupSpan}
-use Rattle.gq_query.specs.Fronts.{IsFrontOf}
+use Rattle.gq_query.specs.SortPrefixes.{IsSortPrefix}
 use Rattle.gq_query.specs.GroupSpans.{IsGroupAt, IsSpan, group_at, compare_at, middle_of, end_of}
 use Rattle.gq_query.specs.Joining.{row_of}
-use Rattle.gq_query.proofs.FrontLemmas.{compare_fronts, told}
+use Rattle.gq_query.proofs.SortPrefixLemmas.{compare_prefixes, told}
 
 -- ---- a group more
 
 kept_at : (xs ys : List Value) (s : GroupSpan) → IsGroupAt xs s → IsGroupAt (xs ++ ys) s
 kept_at xs ys s h = record {
   within = omega (arith, h.within, length-append xs ys);
-  fronted = subst (λ key. IsFrontOf key s.front) (sym (part_kept xs ys s.start (middle_of s) (omega arith) (omega (arith, h.within)))) h.fronted;
+  prefixed = subst (λ key. IsSortPrefix key s.prefix) (sym (part_kept xs ys s.start (middle_of s) (omega arith) (omega (arith, h.within)))) h.prefixed;
 }
 
 all_kept : (xs ys : List Value) (spans : List GroupSpan) → All (IsGroupAt xs) spans → All (IsGroupAt (xs ++ ys)) spans
@@ -55,17 +55,17 @@ record IsNext (xs key values cells : List Value) (s : GroupSpan) : Type 0 where
   pub keyed : s.key ≡ length key
   pub valued : s.values ≡ length values
   pub whole : cells ≡ (xs ++ key) ++ values
-  pub fronted : IsFrontOf key s.front
+  pub prefixed : IsSortPrefix key s.prefix
 
 -- a span of so many cells as the key and the values have
-next_by : (xs key values cells : List Value) (front : Front) (s : GroupSpan) → IsSpan front (length xs) (length key) (length values) s → IsFrontOf key front → cells ≡ (xs ++ key) ++ values
+next_by : (xs key values cells : List Value) (prefix : SortPrefix) (s : GroupSpan) → IsSpan prefix (length xs) (length key) (length values) s → IsSortPrefix key prefix → cells ≡ (xs ++ key) ++ values
     → IsNext xs key values cells s
-next_by xs key values cells front s span fronted whole = record {
+next_by xs key values cells prefix s span prefixed whole = record {
   start = span.begins;
   keyed = span.keyed;
   valued = span.valued;
   whole = whole;
-  fronted = subst (IsFrontOf key) (sym span.fronted) fronted;
+  prefixed = subst (IsSortPrefix key) (sym span.prefixed) prefixed;
 }
 
 middle_next : (xs key values cells : List Value) (s : GroupSpan) → IsNext xs key values cells s → middle_of s ≡ length (xs ++ key)
@@ -93,17 +93,17 @@ span_pushed xs key values cells spans s next h =
     let others : All (IsGroupAt ((xs ++ key) ++ values)) spans = subst (λ l. All (IsGroupAt l) spans) (sym (append_assoc xs key values)) (all_kept xs (key ++ values) spans h) in
     let one : IsGroupAt ((xs ++ key) ++ values) s = record {
       within = omega (arith, end_next xs key values cells s next);
-      fronted = subst (λ k. IsFrontOf k s.front) (sym (key_next xs key values cells s next)) next.fronted;
+      prefixed = subst (λ k. IsSortPrefix k s.prefix) (sym (key_next xs key values cells s next)) next.prefixed;
     } in
     subst (λ l. All (IsGroupAt l) (spans ++ s ∷ [])) (sym next.whole) (All-push (IsGroupAt ((xs ++ key) ++ values)) spans s others one)
 
 -- a group more, in a list behind whose cells its own were put
-module _ (xs key values cells : List Value) (front : Front) (s : GroupSpan) (spans now : List GroupSpan) (whole : cells ≡ (xs ++ key) ++ values) (h : All (IsGroupAt xs) spans) where
-  pub put_groups : IsSpan front (length xs) (length key) (length values) s → IsFrontOf key front → now ≡ spans ++ s ∷ [] → All (IsGroupAt cells) now
-  put_groups span fronted is = subst (All (IsGroupAt cells)) (sym is) (span_pushed xs key values cells spans s (next_by xs key values cells front s span fronted whole) h)
+module _ (xs key values cells : List Value) (prefix : SortPrefix) (s : GroupSpan) (spans now : List GroupSpan) (whole : cells ≡ (xs ++ key) ++ values) (h : All (IsGroupAt xs) spans) where
+  pub put_groups : IsSpan prefix (length xs) (length key) (length values) s → IsSortPrefix key prefix → now ≡ spans ++ s ∷ [] → All (IsGroupAt cells) now
+  put_groups span prefixed is = subst (All (IsGroupAt cells)) (sym is) (span_pushed xs key values cells spans s (next_by xs key values cells prefix s span prefixed whole) h)
 
-  pub put_is : IsSpan front (length xs) (length key) (length values) s → IsFrontOf key front → now ≡ spans ++ s ∷ [] → map (group_at cells) now ≡ map (group_at xs) spans ++ (key, values) ∷ []
-  put_is span fronted is = ap (map (group_at cells)) is ∙ group_pushed xs key values cells spans s (next_by xs key values cells front s span fronted whole) h
+  pub put_is : IsSpan prefix (length xs) (length key) (length values) s → IsSortPrefix key prefix → now ≡ spans ++ s ∷ [] → map (group_at cells) now ≡ map (group_at xs) spans ++ (key, values) ∷ []
+  put_is span prefixed is = ap (map (group_at cells)) is ∙ group_pushed xs key values cells spans s (next_by xs key values cells prefix s span prefixed whole) h
 
   pub not_put : now ≡ spans → All (IsGroupAt cells) now
   not_put same = kept_on xs cells (key ++ values) spans now (whole ∙ append_assoc xs key values) same h
@@ -112,7 +112,7 @@ module _ (xs key values cells : List Value) (front : Front) (s : GroupSpan) (spa
 
 spans_total : (cells : List Value) → IsTotalOrder (compare_at cells)
 spans_total cells =
-    then_total (on_total (λ (s : GroupSpan). s.front) (then_total (on_total (λ (f : Front). f.high) nat_cmp_total) (on_total (λ (f : Front). f.low) nat_cmp_total)))
+    then_total (on_total (λ (s : GroupSpan). s.prefix) (then_total (on_total (λ (f : SortPrefix). f.high) nat_cmp_total) (on_total (λ (f : SortPrefix). f.low) nat_cmp_total)))
     (on_total (λ (s : GroupSpan). part cells s.start (middle_of s)) keys_total)
 
 -- what a sort by a closure that compares spans ensures
@@ -125,17 +125,17 @@ sorted_at {g = g} {f = f} cells spans up h =
 -- so they are in the order of the keys
 order_is : (cells : List Value) (a b : GroupSpan) → IsGroupAt cells a → IsGroupAt cells b
     → compare_at cells a b ≡ compare_keys (part cells a.start (middle_of a)) (part cells b.start (middle_of b))
-order_is cells a b p q = decided (compare_fronts a.front b.front) refl
+order_is cells a b p q = decided (compare_prefixes a.prefix b.prefix) refl
   where
-    decided : (o : Ordering) → o ≡ compare_fronts a.front b.front → ordering_then o (compare_keys (part cells a.start (middle_of a)) (part cells b.start (middle_of b))) ≡ compare_keys (part cells a.start (middle_of a)) (part cells b.start (middle_of b))
+    decided : (o : Ordering) → o ≡ compare_prefixes a.prefix b.prefix → ordering_then o (compare_keys (part cells a.start (middle_of a)) (part cells b.start (middle_of b))) ≡ compare_keys (part cells a.start (middle_of a)) (part cells b.start (middle_of b))
     decided Equal e = refl
-    decided Less e = told (part cells a.start (middle_of a)) (part cells b.start (middle_of b)) a.front b.front Less p.fronted q.fronted e (λ no. let none : ⊥ = cc in none)
-    decided Greater e = told (part cells a.start (middle_of a)) (part cells b.start (middle_of b)) a.front b.front Greater p.fronted q.fronted e (λ no. let none : ⊥ = cc in none)
+    decided Less e = told (part cells a.start (middle_of a)) (part cells b.start (middle_of b)) a.prefix b.prefix Less p.prefixed q.prefixed e (λ no. let none : ⊥ = cc in none)
+    decided Greater e = told (part cells a.start (middle_of a)) (part cells b.start (middle_of b)) a.prefix b.prefix Greater p.prefixed q.prefixed e (λ no. let none : ⊥ = cc in none)
 
 pub groups_sorted : (cells : List Value) (spans : List GroupSpan) → All (IsGroupAt cells) spans → IsSorted (compare_at cells) spans
     → IsSortedByKey (λ (g : Group). g.0) compare_keys (map (group_at cells) spans)
 groups_sorted cells spans h up = λ k d low high.
-    let none : GroupSpan = record { front = record { high = 0; low = 0 }; start = 0; key = 0; values = 0 } in
+    let none : GroupSpan = record { prefix = record { high = 0; low = 0 }; start = 0; key = 0; values = 0 } in
     let within : k + 1 < length spans = omega (arith, high, length-map spans (group_at cells)) in
     let before : k < length spans = omega (arith, within) in
     rw (get_or-map (group_at cells) spans (k + 1) none d within, get_or-map (group_at cells) spans k none d before)

@@ -135,11 +135,11 @@ pub as_many : (by : List ℕ) (rows : List (List Value)) (A B : List OutputColum
 as_many by rows A B ks gs cs h e =
     sym (length-map gs answered) ∙ ap length h ∙ length-map ks (shown_of by A rows) ∙ sym (length-map ks (shown_of by B rows)) ∙ sym (ap length e) ∙ length-map cs answered
 
-front_length : {X : Type 0} (i : ℕ) (xs : List X) → i < length xs → length (take i xs) ≡ i
-front_length zero [] h = refl
-front_length zero (x ∷ xs) h = refl
-front_length (suc i) [] h = absurd (omega arith)
-front_length (suc i) (x ∷ xs) h = ap (λ n. suc n) (front_length i xs (omega arith))
+prefix_length : {X : Type 0} (i : ℕ) (xs : List X) → i < length xs → length (take i xs) ≡ i
+prefix_length zero [] h = refl
+prefix_length zero (x ∷ xs) h = refl
+prefix_length (suc i) [] h = absurd (omega arith)
+prefix_length (suc i) (x ∷ xs) h = ap (λ n. suc n) (prefix_length i xs (omega arith))
 
 -- an aggregate is there
 pub next_aggregate : (i : ℕ) (shown : List OutputColumn) (d : OutputColumn) (k : AggKind) (c : ℕ) → i < length shown → get_or shown i d ≡ Aggregate k c → so_far (suc i) shown ≡ so_far i shown
@@ -163,7 +163,7 @@ joined_shown by rows shown i d c gs cs less e h k =
     let rest : List OutputColumn = aggregates_of (drop (suc i) shown) in
     let put : AreShown by (take i shown ++ CountDistinct c ∷ rest) rows (joined (length (take i shown)) gs cs)
     = joined_each by rows (take i shown) rest (CountDistinct c) (in_order (λ key. key) (keys_of by rows)) gs cs (subst (λ l. AreShown by l rows gs) next.0 h) k in
-    subst (λ l. AreShown by l rows (joined i gs cs)) (sym next.1) (subst (λ n. AreShown by (take i shown ++ CountDistinct c ∷ rest) rows (joined n gs cs)) (front_length i shown less) put)
+    subst (λ l. AreShown by l rows (joined i gs cs)) (sym next.1) (subst (λ n. AreShown by (take i shown ++ CountDistinct c ∷ rest) rows (joined n gs cs)) (prefix_length i shown less) put)
 
 pub so_far_none : (shown : List OutputColumn) → so_far 0 shown ≡ aggregates_of shown
 so_far_none shown = refl

@@ -1,4 +1,4 @@
-pub mod FrontLemmas
+pub mod SortPrefixLemmas
 pub mod GroupSpanLemmas
 pub mod HavingLemmas
 pub mod Joined

@@ -6,9 +6,9 @@ use Rattle.gq_row.specs.declared.value.Value.{Value}
 use Rattle.gq_cells.specs.Lists.{part}
 use Rattle.gq_row.specs.Order.{compare_keys}
 use Rattle.gq_group.specs.Groups.{Group}
-use Rattle.gq_query.specs.declared.front.Front.{Front}
+use Rattle.gq_query.specs.declared.sort_prefix.SortPrefix.{SortPrefix}
 use Rattle.gq_query.specs.declared.group_list.GroupSpan.{GroupSpan}
-use Rattle.gq_query.specs.Fronts.{IsFrontOf}
+use Rattle.gq_query.specs.SortPrefixes.{IsSortPrefix}
 
 -- where the key of a span ends
 abbrev pub middle_of : GroupSpan → ℕ
@@ -19,8 +19,8 @@ abbrev pub end_of : GroupSpan → ℕ
 end_of span = middle_of span + span.values
 
 -- a span that begins at a place, of so many cells for its key, and so many behind these
-pub record IsSpan (front : Front) (start key values : ℕ) (span : GroupSpan) : Type 0 where
-  pub fronted : span.front ≡ front
+pub record IsSpan (prefix : SortPrefix) (start key values : ℕ) (span : GroupSpan) : Type 0 where
+  pub prefixed : span.prefix ≡ prefix
   pub begins : span.start ≡ start
   pub keyed : span.key ≡ key
   pub valued : span.values ≡ values
@@ -29,11 +29,11 @@ pub record IsSpan (front : Front) (start key values : ℕ) (span : GroupSpan) : 
 abbrev pub group_at : List Value → GroupSpan → Group
 group_at cells span = (part cells span.start (middle_of span), part cells (middle_of span) (end_of span))
 
--- a span lies within a list, and its front is that of the key there
+-- a span lies within a list, and its prefix is that of the key there
 pub record IsGroupAt (cells : List Value) (span : GroupSpan) : Type 0 where
   pub within : end_of span ≤ length cells
-  pub fronted : IsFrontOf (part cells span.start (middle_of span)) span.front
+  pub prefixed : IsSortPrefix (part cells span.start (middle_of span)) span.prefix
 
--- spans are compared by the two words of their fronts, and by the keys that stand there where these tie
+-- spans are compared by the two words of their prefixes, and by the keys that stand there where these tie
 abbrev pub compare_at : List Value → GroupSpan → GroupSpan → Ordering
-compare_at cells a b = ordering_then (ordering_then (nat_cmp a.front.high b.front.high) (nat_cmp a.front.low b.front.low)) (compare_keys (part cells a.start (middle_of a)) (part cells b.start (middle_of b)))
+compare_at cells a b = ordering_then (ordering_then (nat_cmp a.prefix.high b.prefix.high) (nat_cmp a.prefix.low b.prefix.low)) (compare_keys (part cells a.start (middle_of a)) (part cells b.start (middle_of b)))

@@ -6,7 +6,7 @@ use Rattle.gq_select.specs.declared.join.KeySet.{KeySet}
 use Rattle.gq_select.specs.declared.matching.Matching.{Matching}
 use Rattle.gq_select.specs.KeySets.{has}
 use Rattle.gq_select.specs.Truths.{keeps}
-use Rattle.gq_query.specs.declared.kept.Kept.{Kept}
+use Rattle.gq_query.specs.declared.row_filter.RowFilter.{RowFilter}
 use Rattle.gq_query.specs.declared.query.Query.{Query}
 
 -- the columns that a match asks of a row
@@ -19,7 +19,7 @@ abbrev pub is_found : {H : Type 0} → Option Matching → KeySet H → List Val
 is_found None keys row = true
 is_found (Some matching) keys row = if matching.negated then not (has keys (key_of matching.ours row)) else has keys (key_of matching.ours row)
 
-abbrev pub is_kept : {H : Type 0} → Kept H → List Value → Bool
+abbrev pub is_kept : {H : Type 0} → RowFilter H → List Value → Bool
 is_kept kept row = keeps kept.condition.now.tests row && is_found (option_copied kept.matching) kept.keys.now row
 
 -- each of the rows has these columns

@@ -20,7 +20,7 @@ pub record OrderIsUnseen : Type 0 where
 abbrev pub without_level : ℕ → ℕ → List Value → List Value
 without_level level columns row = take level (drop 1 row) ++ drop (suc columns) row
 
--- What a rollup is beside the `group` of each of its levels: without level and nulls its rows of a level are those of a `group` by so many of the first columns. So its rows of level 0 are those of the `group` without `by`, and the last those of the `group` by all of the columns. In front of each row stands its level, and nulls stand for the columns that the level leaves out.
+-- What a rollup is beside the `group` of each of its levels: without level and nulls its rows of a level are those of a `group` by so many of the first columns. So its rows of level 0 are those of the `group` without `by`, and the last those of the `group` by all of the columns. In prefix of each row stands its level, and nulls stand for the columns that the level leaves out.
 pub record RollsUp : Type 0 where
   pub level : (by : List ℕ) (shown : List OutputColumn) (rows : List (List Value)) (level : ℕ) → level ≤ length by
       → option_map (map (without_level level (length by))) (level_rows by shown [] rows level) ≡ answer (take level by) shown rows

@@ -6,8 +6,8 @@ ghost use Rattle.gq_query.specs.Sources.{no_runs};
 ghost use Rattle.gq_select.specs.Asking.{CanMatch};
 ghost use Rattle.gq_query.specs.Selecting.{other_columns, rows_selected};
 
-use crate::kept::Kept;
 use crate::query::Query;
+use crate::row_filter::RowFilter;
 use crate::selection::{Selection, other_keys};
 use gq_cells::Rows;
 use gq_group::{Budget, Refusal};
@@ -44,7 +44,7 @@ pub fn distinct_rows<H: KeyHash<Key> + Copy, S: RunStore>(
     let Ok(keys) = other_keys(alloc, hasher, selection) else {
         return Err(Refusal::Memory);
     };
-    let kept = Kept {
+    let kept = RowFilter {
         condition: selection.condition,
         matching: selection.matching,
         keys: &keys,

@@ -10,7 +10,7 @@ ghost use Rattle.gq_group.specs.Groups.{Group};
 ghost use Rattle.gq_query.specs.GroupSpans.{IsSpan, compare_at, end_of, middle_of};
 ghost use Rattle.gq_query.specs.Joining.{row_of};
 
-use crate::front::{Front, front_in};
+use crate::sort_prefix::{SortPrefix, prefix_in};
 use gq_cells::{Cells, Rows, Span};
 use gq_group::{GroupSink, Refusal};
 use gq_row::{Key, Value};
@@ -19,11 +19,11 @@ use std::alloc::{AllocError, Global};
 use std::cmp::Ordering;
 use std::marker::Model;
 
-/// Where a group stands in a list of cells, and the front of its key: so many cells from `start` on are the
+/// Where a group stands in a list of cells, and the prefix of its key: so many cells from `start` on are the
 /// key, and so many behind these its values. It has 24 bytes, as each group has one, and sorts move it.
 #[derive(Clone, Copy)]
 pub struct GroupSpan {
-    front: Front,
+    prefix: SortPrefix,
     start: u32,
     key: u16,
     values: u16,
@@ -32,8 +32,13 @@ pub struct GroupSpan {
 impl GroupSpan {
     // A group in a list of 2^32 cells, which take 32 GiB or more, and one of 2^16 cells count as too large for memory.
     #[inline]
-    fn new(front: Front, start: usize, key: usize, values: usize) -> Result<GroupSpan, AllocError>
-        ensures made { IfOk result (IsSpan front start key values) }
+    fn new(
+        prefix: SortPrefix,
+        start: usize,
+        key: usize,
+        values: usize,
+    ) -> Result<GroupSpan, AllocError>
+        ensures made { IfOk result (IsSpan prefix start key values) }
         ensures fits { start < 2 ^ 32 → key < 2 ^ 16 → values < 2 ^ 16 → IsOk result }
     {
         match (
@@ -42,7 +47,7 @@ impl GroupSpan {
             u16::try_from(values),
         ) {
             (Ok(start), Ok(key), Ok(values)) => Ok(GroupSpan {
-                front,
+                prefix,
                 start,
                 key,
                 values,
@@ -149,9 +154,9 @@ impl GroupList {
     fn add(&mut self, key: Key, values: &mut Vec<Value>) -> Result<(), AllocError>
         ensures { OnOk result (self.new ≡ self.old ++ (key, values.old.items) ∷ []) }
     {
-        let front = front_in(&[], key.cells());
+        let prefix = prefix_in(&[], key.cells());
         let start = self.cells.len();
-        let span = GroupSpan::new(front, start, key.len(), values.len())?;
+        let span = GroupSpan::new(prefix, start, key.len(), values.len())?;
         put_key(self.alloc, &mut self.cells, key)?;
         self.cells.push_all(self.alloc, values.as_mut_slice())?;
         self.groups.push(span)?;
@@ -168,8 +173,8 @@ impl GroupList {
     ) -> Result<(), AllocError>
         ensures { OnOk result (self.new ≡ self.old ++ (key.old.items, values.old.items) ∷ []) }
     {
-        let front = front_in(&[], key.as_slice());
-        let span = GroupSpan::new(front, self.cells.len(), key.len(), values.len())?;
+        let prefix = prefix_in(&[], key.as_slice());
+        let span = GroupSpan::new(prefix, self.cells.len(), key.len(), values.len())?;
         self.cells.push_all(self.alloc, key.as_mut_slice())?;
         self.cells.push_all(self.alloc, values.as_mut_slice())?;
         self.groups.push(span)?;
@@ -202,7 +207,7 @@ impl GroupList {
         self.cells.copy_part(self.alloc, span, values)
     }
 
-    /// Sorts the groups by their keys: by the fronts of these first, and by whole keys where fronts tie.
+    /// Sorts the groups by their keys: by the prefixes of these first, and by whole keys where prefixes tie.
     pub fn sort(&mut self)
         ensures moved { IsPermutation self.old self.new }
         ensures ascending { IsSortedByKey (λ (g : Group). g.0) compare_keys self.new }
@@ -286,13 +291,13 @@ fn key_within(cells: &Cells, group: &GroupSpan) -> Span
 fn compare_spans(cells: &Cells, a: &GroupSpan, b: &GroupSpan) -> Ordering
     ensures { result ≡ compare_at cells.now a.now b.now }
 {
-    match a.front.cmp(&b.front) {
+    match a.prefix.cmp(&b.prefix) {
         Ordering::Equal => compare_keys_at(cells, a, b),
         told => told,
     }
 }
 
-// The same where fronts tie. Stands by itself, so that the sort's loops are short.
+// The same where prefixes tie. Stands by itself, so that the sort's loops are short.
 #[inline(never)]
 fn compare_keys_at(cells: &Cells, a: &GroupSpan, b: &GroupSpan) -> Ordering
     ensures { result ≡ compare_keys (part cells.now a.now.start (middle_of a.now))

@@ -15,8 +15,8 @@ ghost use Rattle.gq_query.specs.Work.{IsSpentOn, RisesBy};
 
 use crate::cells::aggs_of;
 use crate::group_list::GroupList;
-use crate::kept::Kept;
 use crate::query::Query;
+use crate::row_filter::RowFilter;
 use crate::selection::{Selection, other_keys};
 use crate::spending::both_spent;
 use gq_cells::Rows;
@@ -289,7 +289,7 @@ pub fn group_rows<H: KeyHash<Key> + Copy, S: RunStore>(
     let Ok(keys) = other_keys(alloc, hasher, selection) else {
         return Err(Refusal::Memory);
     };
-    let kept = Kept {
+    let kept = RowFilter {
         condition: selection.condition,
         matching: selection.matching,
         keys: &keys,

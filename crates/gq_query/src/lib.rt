@@ -32,16 +32,16 @@
 
 mod cells;
 mod distinct;
-mod front;
 mod group_list;
 mod grouping;
-mod kept;
 pub mod laws;
 mod ordering;
 mod query;
 mod rollup;
+mod row_filter;
 mod selection;
 mod showing;
+mod sort_prefix;
 mod spelling;
 mod spending;
 mod table_rows;

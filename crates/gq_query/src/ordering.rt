@@ -1,8 +1,8 @@
 //! Rows in the order in which queries give them.
 //!
-//! Spans are sorted, and no cell moves: by fronts first, which are made once and compared in place. What
+//! Spans are sorted, and no cell moves: by prefixes first, which are made once and compared in place. What
 //! they leave is mostly in order, so that the sort by whole rows behind it is one look over it, and moves
-//! spans again among ties alone. Groups keep their fronts, and are sorted where they stand.
+//! spans again among ties alone. Groups keep their prefixes, and are sorted where they stand.
 ghost use Rattle.std.specs.Prelude.{◌≡◌, IfOk, IsPermutation, OnOk};
 ghost use Rattle.std.specs.List.Sorted.{IsSortedByKey};
 ghost use Rattle.gq_row.specs.Laws.{IsArranged};
@@ -11,7 +11,7 @@ ghost use Rattle.gq_row.specs.Rows.{cell, key_of};
 ghost use Rattle.gq_query.specs.Answers.{ordered_by};
 ghost use Rattle.gq_query.specs.Spans.{row_in};
 
-use crate::front::front_in;
+use crate::sort_prefix::prefix_in;
 use gq_cells::{Cells, Rows, Span};
 use gq_row::{Value, compare_cells, compare_folded};
 use std::alloc::{AllocError, Global};
@@ -33,7 +33,7 @@ fn sort_spans(cells: &[Value], spans: &mut Vec<Span>, columns: &[usize]) -> Resu
     ensures ascending { OnOk result (IsSortedByKey
         (λ span. ordered_by columns.now (row_in cells.now span)) compare_keys spans.new.items) }
 {
-    spans.sort_by_cached_key(|span| front_in(columns, row_in(cells, span)))?;
+    spans.sort_by_cached_key(|span| prefix_in(columns, row_in(cells, span)))?;
     spans.sort_by(|a, b| compare_rows(columns, row_in(cells, a), row_in(cells, b)))
 }
 

@@ -13,7 +13,7 @@ ghost use Rattle.gq_query.specs.Work.{IsSpentOn};
 
 use crate::cells::{columns_used, place_aggs, place_columns, place_of};
 use crate::group_list::GroupList;
-use crate::kept::Kept;
+use crate::row_filter::RowFilter;
 use crate::table_rows::TableRows;
 use gq_agg::AggKind;
 use gq_group::{Budget, GroupSpec, Refusal, Spent, group, group_distinct};
@@ -31,7 +31,7 @@ pub struct Query<'a, H: KeyHash<Key>> {
     pub alloc: Global,
     pub hasher: H,
     pub table: &'a Table<H>,
-    pub kept: &'a Kept<'a, H>,
+    pub kept: &'a RowFilter<'a, H>,
     pub by: &'a [usize],
     pub budget: Budget,
 }

@@ -1,6 +1,6 @@
 //! The rows of a table that are kept, as a source.
 
-use crate::kept::Kept;
+use crate::row_filter::RowFilter;
 use gq_group::{Refusal, RowSource};
 use gq_row::{Key, Row};
 use gq_spill::RunStore;
@@ -12,7 +12,7 @@ use sw_probe::KeyHash;
 #[derive(Drop)]
 pub struct TableRows<'a, H: KeyHash<Key>> {
     pub rows: RowCursor<'a>,
-    pub kept: &'a Kept<'a, H>,
+    pub kept: &'a RowFilter<'a, H>,
     pub columns: &'a [usize],
 }
 

@@ -1,26 +1,24 @@
-//! What two words tell of a row's place in an order.
+//! Normalized sort keys: the first sixteen bytes of what a row is sorted by.
 ghost use Rattle.std.specs.Prelude.{◌≡◌, slice_index_or};
 ghost use Rattle.gq_row.specs.declared.value.Value.TheVariants.{NoCase, Text};
 ghost use Rattle.gq_row.specs.Folding.{fold_case};
 ghost use Rattle.gq_query.specs.Answers.{ordered_by};
-ghost use Rattle.gq_query.specs.Fronts.{IsFrontOf, IsValueFront, front_of, leading};
+ghost use Rattle.gq_query.specs.SortPrefixes.{IsSortPrefix, IsValuePrefix, prefix_of, leading};
 
 use gq_row::{Value, fold_eight};
 
-/// The front of a value, sixteen bytes in two words: nothing of null, a number behind a byte of 1,
-/// the first fifteen bytes of a text behind a byte of 2, and those of the fold of a text without case
-/// behind a byte of 3. Sorts know such words as normalized keys: compared as numbers they come in the
-/// order of the values' folds, which decides first, so whole values, with the memory of their texts,
-/// need a look only where their fronts tie.
+/// The normalized key of a value, cut to sixteen bytes in two words: zeros for null, 1 and a number, 2 and
+/// the first fifteen bytes of a text, 3 and those of the fold of a text without case. Compared as numbers
+/// they are in the order of the folds. So only where they tie are whole values compared.
 #[derive(Clone, Copy, PartialEq, Eq, PartialOrd, Ord)]
-pub struct Front {
+pub struct SortPrefix {
     high: u64,
     low: u64,
 }
 
-const NULL: Front = Front { high: 0, low: 0 };
+const NULL: SortPrefix = SortPrefix { high: 0, low: 0 };
 
-// The first byte of a number's front, in its place.
+// The first byte of a number's prefix, in its place.
 const NUMBER: u64 = 1 << 56;
 
 // That of a text's.
@@ -29,49 +27,49 @@ const TEXT: u64 = 2 << 56;
 // And that of a text's without case.
 const NO_CASE: u64 = 3 << 56;
 
-/// The front of a row's first value among those that it is ordered by.
+/// The prefix of a row's first value among those that it is ordered by.
 #[inline]
-pub fn front_in(columns: &[usize], row: &[Value]) -> Front
-    ensures { IsFrontOf (ordered_by columns.now row.now) result }
+pub fn prefix_in(columns: &[usize], row: &[Value]) -> SortPrefix
+    ensures { IsSortPrefix (ordered_by columns.now row.now) result }
 {
     let column = match columns.first() {
         Some(column) => *column,
         None => 0,
     };
     match row.get(column) {
-        Some(value) => value_front(value),
+        Some(value) => value_prefix(value),
         None => NULL,
     }
 }
 
-fn value_front(value: &Value) -> Front
-    ensures { IsValueFront value.now result }
+fn value_prefix(value: &Value) -> SortPrefix
+    ensures { IsValuePrefix value.now result }
 {
     match value {
         Value::Null => NULL,
-        Value::Int(n) => Front {
+        Value::Int(n) => SortPrefix {
             high: NUMBER,
             low: n.abs_diff(i64::MIN),
         },
-        Value::Text(text) => text_front(text.as_str().as_bytes()),
-        Value::NoCase(text) => folded_front(text.as_str().as_bytes()),
+        Value::Text(text) => text_prefix(text.as_str().as_bytes()),
+        Value::NoCase(text) => folded_prefix(text.as_str().as_bytes()),
     }
 }
 
-fn text_front(text: &[u8]) -> Front
-    ensures { IsValueFront (Text text.now) result }
+fn text_prefix(text: &[u8]) -> SortPrefix
+    ensures { IsValuePrefix (Text text.now) result }
 {
-    Front {
+    SortPrefix {
         high: TEXT + first_bytes(text) / 256,
         low: first_bytes(text.get(7..).unwrap_or(&[])),
     }
 }
 
 // That of a text without case. Its bytes are folded as they are read.
-fn folded_front(text: &[u8]) -> Front
-    ensures { IsValueFront (NoCase text.now) result }
+fn folded_prefix(text: &[u8]) -> SortPrefix
+    ensures { IsValuePrefix (NoCase text.now) result }
 {
-    Front {
+    SortPrefix {
         high: NO_CASE + first_folded(text) / 256,
         low: first_folded(text.get(7..).unwrap_or(&[])),
     }

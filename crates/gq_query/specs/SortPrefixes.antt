@@ -1,11 +1,11 @@
--- What two words tell of a value's place in the order.
+-- Normalized sort keys: what two words say of a value's place in the order.
 use Rattle.std.specs.Prelude.{◌≡◌, ℕ, zero, suc, ◌+◌, ◌-◌, ◌*◌, ◌^◌, ◌<◌, negsuc, ◌-ℤ◌, List, [], ◌∷◌, drop, get_or, unsigned_abs, FitsSigned}
 use Rattle.std.specs.Int.{w64}
 use Rattle.gq_row.specs.declared.value.Value.{Value}
 use Rattle.gq_row.specs.declared.value.Value.TheVariants.{Null, Int, Text, NoCase}
 use Rattle.gq_row.specs.Folding.{fold_case}
 use Rattle.gq_row.specs.Rows.{cell}
-use Rattle.gq_query.specs.declared.front.Front.{Front}
+use Rattle.gq_query.specs.declared.sort_prefix.SortPrefix.{SortPrefix}
 
 -- the first n bytes of a text as one number, the first of them highest, with zeros behind its end
 abbrev pub leading : ℕ → List ℕ → ℕ
@@ -14,11 +14,11 @@ leading (suc n) [] = 0
 leading (suc n) (byte ∷ text) = byte * 256 ^ n + leading n text
 
 -- sixteen bytes in two words: nothing of null, 1 and how far a number is from the least, 2 and the first fifteen bytes of a text, 3 and those of the fold of a text without case
-abbrev pub front_of : Value → Front
-front_of Null = record { high = 0; low = 0 }
-front_of (Int n) = record { high = 2 ^ 56; low = unsigned_abs (n -ℤ negsuc (2 ^ 63 - 1)) }
-front_of (Text text) = record { high = 2 * 2 ^ 56 + leading 7 text; low = leading 8 (drop 7 text) }
-front_of (NoCase text) = record { high = 3 * 2 ^ 56 + leading 7 (fold_case text); low = leading 8 (drop 7 (fold_case text)) }
+abbrev pub prefix_of : Value → SortPrefix
+prefix_of Null = record { high = 0; low = 0 }
+prefix_of (Int n) = record { high = 2 ^ 56; low = unsigned_abs (n -ℤ negsuc (2 ^ 63 - 1)) }
+prefix_of (Text text) = record { high = 2 * 2 ^ 56 + leading 7 text; low = leading 8 (drop 7 text) }
+prefix_of (NoCase text) = record { high = 3 * 2 ^ 56 + leading 7 (fold_case text); low = leading 8 (drop 7 (fold_case text)) }
 
 -- what a machine holds: numbers of 64 bits, and texts of bytes
 abbrev pub IsOfBytes : Value → Type 0
@@ -27,10 +27,10 @@ IsOfBytes (Int n) = FitsSigned w64 n
 IsOfBytes (Text text) = (i : ℕ) → get_or text i 0 < 256
 IsOfBytes (NoCase text) = (i : ℕ) → get_or text i 0 < 256
 
--- the front of a value that a machine holds
-abbrev pub IsValueFront : Value → Front → Type 0
-IsValueFront value front = (front ≡ front_of value) × IsOfBytes value
+-- the prefix of a value that a machine holds
+abbrev pub IsValuePrefix : Value → SortPrefix → Type 0
+IsValuePrefix value prefix = (prefix ≡ prefix_of value) × IsOfBytes value
 
--- the front of a key is that of its first value
-abbrev pub IsFrontOf : List Value → Front → Type 0
-IsFrontOf key front = IsValueFront (cell key 0) front
+-- the prefix of a key is that of its first value
+abbrev pub IsSortPrefix : List Value → SortPrefix → Type 0
+IsSortPrefix key prefix = IsValuePrefix (cell key 0) prefix

@@ -1,4 +1,4 @@
-//! Rows that are kept.
+//! Which rows a query keeps.
 ghost use Rattle.std.specs.Prelude.{◌≡◌, ◌+◌, ◌≤◌, ◌<◌, ◌∷◌, [], ℕ, true, false, All, IfOk, List, filter, length, option_copied};
 ghost use Rattle.gq_row.specs.declared.value.Value.{Value as Cell};
 ghost use Rattle.gq_query.specs.Keeping.{AreLong, is_found, is_kept, ours_of};
@@ -9,16 +9,16 @@ use gq_table::RowCursor;
 use std::alloc::AllocError;
 use sw_probe::KeyHash;
 
-/// Which rows are kept: those for which a condition is true and, where a match is asked for, which
-/// have it, or with `negated` have none, among the rows of which a set has the keys.
+/// Keeps the rows for which a condition is true and, if a match is asked for, which have it, or with
+/// `negated` have none, among the rows of which a set has the keys.
 #[derive(Drop)]
-pub struct Kept<'a, H: KeyHash<Key>> {
+pub struct RowFilter<'a, H: KeyHash<Key>> {
     pub condition: &'a Condition,
     pub matching: Option<&'a Matching>,
     pub keys: &'a KeySet<H>,
 }
 
-impl<'a, H: KeyHash<Key>> Kept<'a, H> {
+impl<'a, H: KeyHash<Key>> RowFilter<'a, H> {
     /// Whether a row is kept. Nothing is copied, and its key is looked up at most once.
     #[inline]
     pub fn keeps(&self, row: &[Value]) -> bool

@@ -1,4 +1,4 @@
--- Fronts come in the order of the values' folds, which decides first.
+-- SortPrefixes come in the order of the values' folds, which decides first.
 use Rattle.std.proofs.Common.{◌≡◌, ℕ, ℤ, zero, suc, ◌+◌, ◌*◌, ◌^◌, ◌<◌, ◌≤◌, List, [], ◌∷◌, drop, get_or, slice_index_or, Ordering, Less, Equal, Greater, refl, sym, ap, subst, ◌∙◌, arith}
 use Rattle.std.specs.Prelude.{negsuc, ◌-ℤ◌, ◌-◌, unsigned_abs, FitsSigned, ◌<ℤ◌}
 use Rattle.std.specs.Char.{to_ascii_lowercase}
@@ -15,13 +15,13 @@ use Rattle.gq_row.specs.Folding.{fold_case, folded}
 use Rattle.gq_row.specs.Order.{folded_order, plain_order, compare_keys}
 use Rattle.gq_row.specs.Rows.{cell}
 use Rattle.gq_row.proofs.FoldLemmas.{folds_once, then_same}
-use Rattle.gq_query.specs.declared.front.Front.{Front}
+use Rattle.gq_query.specs.declared.sort_prefix.SortPrefix.{SortPrefix}
 use Rattle.gq_query.specs.Answers.{ordered_by}
-use Rattle.gq_query.specs.Fronts.{leading, front_of, IsOfBytes, IsValueFront, IsFrontOf}
+use Rattle.gq_query.specs.SortPrefixes.{leading, prefix_of, IsOfBytes, IsValuePrefix, IsSortPrefix}
 
--- the order of fronts, as that of numbers of sixteen bytes
-abbrev pub compare_fronts : Front → Front → Ordering
-compare_fronts a b = ordering_then (nat_cmp a.high b.high) (nat_cmp a.low b.low)
+-- the order of prefixes, as that of numbers of sixteen bytes
+abbrev pub compare_prefixes : SortPrefix → SortPrefix → Ordering
+compare_prefixes a b = ordering_then (nat_cmp a.high b.high) (nat_cmp a.low b.low)
 
 abbrev AreBytes : List ℕ → Type 0
 AreBytes text = (i : ℕ) → get_or text i 0 < 256
@@ -115,7 +115,7 @@ dropped_bytes zero text bytes = bytes
 dropped_bytes (suc n) [] bytes = bytes
 dropped_bytes (suc n) (b ∷ text) bytes = dropped_bytes n text (tail_bytes b text bytes)
 
--- ---- fronts of values
+-- ---- prefixes of values
 
 abbrev from_least : ℤ → ℕ
 from_least n = unsigned_abs (n -ℤ negsuc (2 ^ 63 - 1))
@@ -126,7 +126,7 @@ numbers m n p q = by_ranked (m <ℤ n) (m ≡ n) (n <ℤ m) (int_cmp m n) (int_r
     (λ e eq. same (from_least m) (from_least n) (ap from_least eq) ∙ sym e)
     (λ e gt. greater (from_least m) (from_least n) (omega (arith, ints, gt)) ∙ sym e)
 
--- the fronts of two texts behind one tag, as numbers of fifteen bytes
+-- the prefixes of two texts behind one tag, as numbers of fifteen bytes
 texts : (tag : ℕ) (s t : List ℕ) → AreBytes s → AreBytes t
     → ordering_then (nat_cmp (tag * 2 ^ 56 + leading 7 s) (tag * 2 ^ 56 + leading 7 t)) (nat_cmp (leading 8 (drop 7 s)) (leading 8 (drop 7 t))) ≡ nat_cmp (leading 15 s) (leading 15 t)
 texts tag s t p q =
@@ -148,7 +148,7 @@ text_above tag k text lt = less k (tag * 2 ^ 56 + leading 7 text) (omega (arith,
 above_text : (tag k : ℕ) (text : List ℕ) → k < tag * 2 ^ 56 → nat_cmp (tag * 2 ^ 56 + leading 7 text) k ≡ Greater
 above_text tag k text lt = greater (tag * 2 ^ 56 + leading 7 text) k (omega (arith, lt))
 
--- each front of a text is below each of a text without case
+-- each prefix of a text is below each of a text without case
 text_below : (text : List ℕ) → AreBytes text → 2 * 2 ^ 56 + leading 7 text < 3 * 2 ^ 56
 text_below text bytes = let small : leading 7 text < 256 ^ 7 = leading_small 7 text bytes in omega (arith, small)
 
@@ -165,11 +165,11 @@ folded_byte (c ∷ text) (suc i) = folded_byte text i
 folded_bytes : (text : List ℕ) → AreBytes text → AreBytes (fold_case text)
 folded_bytes text bytes i = subst (λ b. b < 256) (sym (folded_byte text i)) (lower_byte (get_or text i 0) (bytes i))
 
-front_folded : (v : Value) → front_of (folded v) ≡ front_of v
-front_folded Null = refl
-front_folded (Int n) = refl
-front_folded (Text t) = refl
-front_folded (NoCase t) = ap (λ text. record { high = 3 * 2 ^ 56 + leading 7 text; low = leading 8 (drop 7 text) }) (folds_once t)
+prefix_folded : (v : Value) → prefix_of (folded v) ≡ prefix_of v
+prefix_folded Null = refl
+prefix_folded (Int n) = refl
+prefix_folded (Text t) = refl
+prefix_folded (NoCase t) = ap (λ text. record { high = 3 * 2 ^ 56 + leading 7 text; low = leading 8 (drop 7 text) }) (folds_once t)
 
 bytes_folded : (v : Value) → IsOfBytes v → IsOfBytes (folded v)
 bytes_folded Null h = h
@@ -177,35 +177,35 @@ bytes_folded (Int n) h = h
 bytes_folded (Text t) h = h
 bytes_folded (NoCase t) h = folded_bytes t h
 
--- the front of a value is that of its fold, so that of a row's first value is that of its key
-pub first_front : (columns : List ℕ) (row : List Value) (column : ℕ) (v : Value) (f : Front) → column ≡ slice_index_or columns 0 0 → v ≡ cell row column → IsValueFront v f → IsFrontOf (ordered_by columns row) f
-first_front [] row column v f at is h = subst (λ w. IsValueFront w f) (is ∙ ap (cell row) at) h
-first_front (c ∷ columns) row column v f at is h =
-    let front : IsValueFront (cell row c) f = subst (λ w. IsValueFront w f) (is ∙ ap (cell row) at) h in
-    (front.0 ∙ sym (front_folded (cell row c)), bytes_folded (cell row c) front.1)
+-- the prefix of a value is that of its fold, so that of a row's first value is that of its key
+pub first_prefix : (columns : List ℕ) (row : List Value) (column : ℕ) (v : Value) (f : SortPrefix) → column ≡ slice_index_or columns 0 0 → v ≡ cell row column → IsValuePrefix v f → IsSortPrefix (ordered_by columns row) f
+first_prefix [] row column v f at is h = subst (λ w. IsValuePrefix w f) (is ∙ ap (cell row) at) h
+first_prefix (c ∷ columns) row column v f at is h =
+    let prefix : IsValuePrefix (cell row c) f = subst (λ w. IsValuePrefix w f) (is ∙ ap (cell row) at) h in
+    (prefix.0 ∙ sym (prefix_folded (cell row c)), bytes_folded (cell row c) prefix.1)
 
 -- ---- values and keys
 
--- Values are compared by their fronts first, and where these tie by their folds.
-by_fronts : (x y : Value) → IsOfBytes x → IsOfBytes y → ordering_then (compare_fronts (front_of x) (front_of y)) (folded_order x y) ≡ folded_order x y
-by_fronts Null Null p q = refl
-by_fronts Null (Int n) p q = refl
-by_fronts Null (Text t) p q = ap (λ o. ordering_then (ordering_then o (nat_cmp 0 (leading 8 (drop 7 t)))) Less) (text_above 2 0 t (omega arith))
-by_fronts Null (NoCase t) p q = ap (λ o. ordering_then (ordering_then o (nat_cmp 0 (leading 8 (drop 7 (fold_case t))))) Less) (text_above 3 0 (fold_case t) (omega arith))
-by_fronts (Int m) Null p q = refl
-by_fronts (Int m) (Int n) p q = ap (λ o. ordering_then o (int_cmp m n)) (numbers m n p q) ∙ then_same (int_cmp m n)
-by_fronts (Int m) (Text t) p q = ap (λ o. ordering_then (ordering_then o (nat_cmp (from_least m) (leading 8 (drop 7 t)))) Less) (text_above 2 (2 ^ 56) t (omega arith))
-by_fronts (Int m) (NoCase t) p q = ap (λ o. ordering_then (ordering_then o (nat_cmp (from_least m) (leading 8 (drop 7 (fold_case t))))) Less) (text_above 3 (2 ^ 56) (fold_case t) (omega arith))
-by_fronts (Text s) Null p q = ap (λ o. ordering_then (ordering_then o (nat_cmp (leading 8 (drop 7 s)) 0)) Greater) (above_text 2 0 s (omega arith))
-by_fronts (Text s) (Int n) p q = ap (λ o. ordering_then (ordering_then o (nat_cmp (leading 8 (drop 7 s)) (from_least n))) Greater) (above_text 2 (2 ^ 56) s (omega arith))
-by_fronts (Text s) (Text t) p q = texts_first 2 s t p q
-by_fronts (Text s) (NoCase t) p q =
+-- Values are compared by their prefixes first, and where these tie by their folds.
+by_prefixes : (x y : Value) → IsOfBytes x → IsOfBytes y → ordering_then (compare_prefixes (prefix_of x) (prefix_of y)) (folded_order x y) ≡ folded_order x y
+by_prefixes Null Null p q = refl
+by_prefixes Null (Int n) p q = refl
+by_prefixes Null (Text t) p q = ap (λ o. ordering_then (ordering_then o (nat_cmp 0 (leading 8 (drop 7 t)))) Less) (text_above 2 0 t (omega arith))
+by_prefixes Null (NoCase t) p q = ap (λ o. ordering_then (ordering_then o (nat_cmp 0 (leading 8 (drop 7 (fold_case t))))) Less) (text_above 3 0 (fold_case t) (omega arith))
+by_prefixes (Int m) Null p q = refl
+by_prefixes (Int m) (Int n) p q = ap (λ o. ordering_then o (int_cmp m n)) (numbers m n p q) ∙ then_same (int_cmp m n)
+by_prefixes (Int m) (Text t) p q = ap (λ o. ordering_then (ordering_then o (nat_cmp (from_least m) (leading 8 (drop 7 t)))) Less) (text_above 2 (2 ^ 56) t (omega arith))
+by_prefixes (Int m) (NoCase t) p q = ap (λ o. ordering_then (ordering_then o (nat_cmp (from_least m) (leading 8 (drop 7 (fold_case t))))) Less) (text_above 3 (2 ^ 56) (fold_case t) (omega arith))
+by_prefixes (Text s) Null p q = ap (λ o. ordering_then (ordering_then o (nat_cmp (leading 8 (drop 7 s)) 0)) Greater) (above_text 2 0 s (omega arith))
+by_prefixes (Text s) (Int n) p q = ap (λ o. ordering_then (ordering_then o (nat_cmp (leading 8 (drop 7 s)) (from_least n))) Greater) (above_text 2 (2 ^ 56) s (omega arith))
+by_prefixes (Text s) (Text t) p q = texts_first 2 s t p q
+by_prefixes (Text s) (NoCase t) p q =
     ap (λ o. ordering_then (ordering_then o (nat_cmp (leading 8 (drop 7 s)) (leading 8 (drop 7 (fold_case t))))) Less) (text_above 3 (2 * 2 ^ 56 + leading 7 s) (fold_case t) (text_below s p))
-by_fronts (NoCase s) Null p q = ap (λ o. ordering_then (ordering_then o (nat_cmp (leading 8 (drop 7 (fold_case s))) 0)) Greater) (above_text 3 0 (fold_case s) (omega arith))
-by_fronts (NoCase s) (Int n) p q = ap (λ o. ordering_then (ordering_then o (nat_cmp (leading 8 (drop 7 (fold_case s))) (from_least n))) Greater) (above_text 3 (2 ^ 56) (fold_case s) (omega arith))
-by_fronts (NoCase s) (Text t) p q =
+by_prefixes (NoCase s) Null p q = ap (λ o. ordering_then (ordering_then o (nat_cmp (leading 8 (drop 7 (fold_case s))) 0)) Greater) (above_text 3 0 (fold_case s) (omega arith))
+by_prefixes (NoCase s) (Int n) p q = ap (λ o. ordering_then (ordering_then o (nat_cmp (leading 8 (drop 7 (fold_case s))) (from_least n))) Greater) (above_text 3 (2 ^ 56) (fold_case s) (omega arith))
+by_prefixes (NoCase s) (Text t) p q =
     ap (λ o. ordering_then (ordering_then o (nat_cmp (leading 8 (drop 7 (fold_case s))) (leading 8 (drop 7 t)))) Greater) (above_text 3 (2 * 2 ^ 56 + leading 7 t) (fold_case s) (text_below t q))
-by_fronts (NoCase s) (NoCase t) p q = texts_first 3 (fold_case s) (fold_case t) (folded_bytes s p) (folded_bytes t q)
+by_prefixes (NoCase s) (NoCase t) p q = texts_first 3 (fold_case s) (fold_case t) (folded_bytes s p) (folded_bytes t q)
 
 grouped : (a b c : Ordering) → ordering_then a b ≡ b → ordering_then a (ordering_then b c) ≡ ordering_then b c
 grouped Less Less c h = refl
@@ -232,25 +232,25 @@ null_last (Int n) o h = h
 null_last (Text t) o h = h
 null_last (NoCase t) o h = h
 
--- So are keys, by the fronts of their first values.
-folds_by_fronts : (xs ys : List Value) → IsOfBytes (cell xs 0) → IsOfBytes (cell ys 0)
-    → ordering_then (compare_fronts (front_of (cell xs 0)) (front_of (cell ys 0))) (slice_cmp folded_order xs ys) ≡ slice_cmp folded_order xs ys
-folds_by_fronts [] [] p q = refl
-folds_by_fronts [] (y ∷ ys) p q = null_first y (compare_fronts (front_of Null) (front_of y)) (by_fronts Null y p q)
-folds_by_fronts (x ∷ xs) [] p q = null_last x (compare_fronts (front_of x) (front_of Null)) (by_fronts x Null p q)
-folds_by_fronts (x ∷ xs) (y ∷ ys) p q = grouped (compare_fronts (front_of x) (front_of y)) (folded_order x y) (slice_cmp folded_order xs ys) (by_fronts x y p q)
+-- So are keys, by the prefixes of their first values.
+folds_by_prefixes : (xs ys : List Value) → IsOfBytes (cell xs 0) → IsOfBytes (cell ys 0)
+    → ordering_then (compare_prefixes (prefix_of (cell xs 0)) (prefix_of (cell ys 0))) (slice_cmp folded_order xs ys) ≡ slice_cmp folded_order xs ys
+folds_by_prefixes [] [] p q = refl
+folds_by_prefixes [] (y ∷ ys) p q = null_first y (compare_prefixes (prefix_of Null) (prefix_of y)) (by_prefixes Null y p q)
+folds_by_prefixes (x ∷ xs) [] p q = null_last x (compare_prefixes (prefix_of x) (prefix_of Null)) (by_prefixes x Null p q)
+folds_by_prefixes (x ∷ xs) (y ∷ ys) p q = grouped (compare_prefixes (prefix_of x) (prefix_of y)) (folded_order x y) (slice_cmp folded_order xs ys) (by_prefixes x y p q)
 
-keys_by_fronts : (xs ys : List Value) → IsOfBytes (cell xs 0) → IsOfBytes (cell ys 0)
-    → ordering_then (compare_fronts (front_of (cell xs 0)) (front_of (cell ys 0))) (compare_keys xs ys) ≡ compare_keys xs ys
-keys_by_fronts xs ys p q = grouped (compare_fronts (front_of (cell xs 0)) (front_of (cell ys 0))) (slice_cmp folded_order xs ys) (slice_cmp plain_order xs ys) (folds_by_fronts xs ys p q)
+keys_by_prefixes : (xs ys : List Value) → IsOfBytes (cell xs 0) → IsOfBytes (cell ys 0)
+    → ordering_then (compare_prefixes (prefix_of (cell xs 0)) (prefix_of (cell ys 0))) (compare_keys xs ys) ≡ compare_keys xs ys
+keys_by_prefixes xs ys p q = grouped (compare_prefixes (prefix_of (cell xs 0)) (prefix_of (cell ys 0))) (slice_cmp folded_order xs ys) (slice_cmp plain_order xs ys) (folds_by_prefixes xs ys p q)
 
 decided : (r k : Ordering) → (r ≡ Equal → ⊥) → ordering_then r k ≡ k → r ≡ k
 decided Less k not h = h
 decided Equal k not h = absurd (not refl)
 decided Greater k not h = h
 
--- Where the fronts of two keys do not tie, they tell the order of the keys.
-pub told : (xs ys : List Value) (a b : Front) (r : Ordering) → IsFrontOf xs a → IsFrontOf ys b → r ≡ compare_fronts a b → (r ≡ Equal → ⊥) → r ≡ compare_keys xs ys
+-- Where the prefixes of two keys do not tie, they tell the order of the keys.
+pub told : (xs ys : List Value) (a b : SortPrefix) (r : Ordering) → IsSortPrefix xs a → IsSortPrefix ys b → r ≡ compare_prefixes a b → (r ≡ Equal → ⊥) → r ≡ compare_keys xs ys
 told xs ys a b r p q e not =
-    let fronts : compare_fronts a b ≡ compare_fronts (front_of (cell xs 0)) (front_of (cell ys 0)) = ap (λ f. compare_fronts f b) p.0 ∙ ap (compare_fronts (front_of (cell xs 0))) q.0 in
-    decided r (compare_keys xs ys) not (ap (λ o. ordering_then o (compare_keys xs ys)) (e ∙ fronts) ∙ keys_by_fronts xs ys p.1 q.1)
+    let prefixes : compare_prefixes a b ≡ compare_prefixes (prefix_of (cell xs 0)) (prefix_of (cell ys 0)) = ap (λ f. compare_prefixes f b) p.0 ∙ ap (compare_prefixes (prefix_of (cell xs 0))) q.0 in
+    decided r (compare_keys xs ys) not (ap (λ o. ordering_then o (compare_keys xs ys)) (e ∙ prefixes) ∙ keys_by_prefixes xs ys p.1 q.1)

@@ -1,6 +1,6 @@
 use Rattle.std.proofs.Common.{arith}
 use Rattle.std.proofs.lemmas.Grind.{common_steps}
-use Rattle.gq_query.proofs.front.text_front.Goals as goal
+use Rattle.gq_query.proofs.sort_prefix.text_prefix.Goals as goal
 
 pub returns : goal.returns
 returns c = grind (arith, common_steps)

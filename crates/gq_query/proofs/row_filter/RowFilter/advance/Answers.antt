@@ -4,7 +4,7 @@ use Rattle.std.proofs.lemmas.List.Elements.{All-head, All-tail}
 use Rattle.gq_row.specs.declared.value.Value.{Value}
 use Rattle.gq_query.specs.Keeping.{AreLong, is_kept, ours_of}
 use Rattle.gq_query.proofs.KeepingLemmas.{passed_first}
-use Rattle.gq_query.proofs.kept.Kept.advance.Goals as goal
+use Rattle.gq_query.proofs.row_filter.RowFilter.advance.Goals as goal
 
 -- a row has these columns
 abbrev Long : List ℕ → List Value → Type 0
