@@ -7,7 +7,7 @@ use Rattle.std.proofs.lemmas.Cmp.{nat_list_eq_equiv}
 use Rattle.std.proofs.lemmas.Slice.Eq.{bytes_eq-Decides}
 use Rattle.gq_row.specs.Repeats.{no_repeats}
 use Rattle.gq_row.specs.Tables.{PlainTable}
-use Rattle.gq_table.proofs.StandingLemmas.{two, both}
+use Rattle.gq_table.proofs.ValidTableLemmas.{two, both}
 use Rattle.gq_engine.specs.Databases.{Database, table_at, with_table, without_table, names_differ, IsFiniteMap}
 
 pub itself : (name : List ℕ) → bytes_eq name name ≡ true

@@ -13,7 +13,7 @@ use Rattle.gq_row.specs.Tables.{PlainTable, keys_differ, put, put_all, delete, h
 use Rattle.gq_row.proofs.MovedLemmas.{IsPermutation-filter, put-same_rows}
 use Rattle.gq_row.proofs.OrderLemmas.{same_key_equiv, same_key_exact}
 use Rattle.gq_row.proofs.TableLemmas.{keys_differ-put}
-use Rattle.gq_table.proofs.StandingLemmas.{keys_differ-delete}
+use Rattle.gq_table.proofs.ValidTableLemmas.{keys_differ-delete}
 use Rattle.gq_command.specs.Commands.{Bytes, column_names, some}
 use Rattle.gq_clause.specs.declared.condition.Test.{Test}
 use Rattle.gq_command.specs.declared.command.Command.{Command}

@@ -3,7 +3,7 @@ ghost use Rattle.std.specs.Prelude.{◌≡◌, ◌++◌, ◌∷◌, [], IfSome, 
 ghost use Rattle.gq_row.specs.Fitting.{stored_in};
 ghost use Rattle.gq_reply.specs.declared.reply.Reply.TheVariants.{Done};
 ghost use Rattle.gq_reply.specs.Refusals.{unnumbered};
-ghost use Rattle.gq_table.specs.Standing.{IsStanding};
+ghost use Rattle.gq_table.specs.ValidTables.{IsValidTable};
 ghost use Rattle.gq_engine.specs.Databases.{table_at, StandsAt, IsKeyed};
 ghost use Rattle.gq_engine.specs.Refusing.{put_within, put_all_within, table_refusal};
 ghost use Rattle.gq_engine.specs.Serving.{Changes, Settles, Takes, Deletes, deleted};
@@ -150,11 +150,11 @@ fn put_row<H: KeyHash<Key> + Copy>(
 ) -> Result<(), Refused>
     ensures takes { Takes (put_within limits.now.bounds table.old
         (stored_in table.old.heading.columns row)) result table.old table.new }
-    ensures standing { IsStanding table.new }
+    ensures valid { IsValidTable table.new }
 {
     let row = table.schema().store(row);
     let taken = table.upsert(row, limits);
-    let _standing = table.len();
+    let _valid = table.len();
     match taken {
         Ok(()) => Ok(()),
         Err(why) => Err(refused_by_table(why)),
@@ -171,10 +171,10 @@ fn put_rows<H: KeyHash<Key> + Copy>(
     requires { staged.heading ≡ table.old.heading }
     ensures takes { Takes (put_all_within limits.now.bounds table.old staged.rows)
         result table.old table.new }
-    ensures standing { IsStanding table.new }
+    ensures valid { IsValidTable table.new }
 {
     let taken = table.load(staged, limits);
-    let _standing = table.len();
+    let _valid = table.len();
     match taken {
         Ok(()) => Ok(()),
         Err(why) => Err(refused_by_table(why)),
@@ -187,15 +187,15 @@ fn delete_row<H: KeyHash<Key> + Copy>(
     values: &mut [Value],
 ) -> Result<bool, Refused>
     ensures deletes { Deletes values.old result table.old table.new }
-    ensures standing { IsStanding table.new }
+    ensures valid { IsValidTable table.new }
 {
     store_key(table.schema(), values);
     if let Err(why) = check_key(table.schema(), values) {
-        let _standing = table.len();
+        let _valid = table.len();
         return Err(why);
     }
     let found = table.delete(values);
-    let _standing = table.len();
+    let _valid = table.len();
     Ok(found)
 }
 

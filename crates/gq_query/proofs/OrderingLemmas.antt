@@ -23,7 +23,7 @@ use Rattle.gq_row.specs.Tables.{PlainTable, keys_differ}
 use Rattle.gq_row.proofs.FoldLemmas.{folded_once, then_same}
 use Rattle.gq_row.proofs.ArrangeLemmas.{in_order-alone, in_order-alone_by_row}
 use Rattle.gq_row.proofs.OrderLemmas.{keys_total}
-use Rattle.gq_table.specs.Standing.{IsStanding}
+use Rattle.gq_table.specs.ValidTables.{IsValidTable}
 use Rattle.gq_query.specs.Answers.{ordered_by, rows_shown}
 use Rattle.gq_query.specs.Spans.{row_in}
 
@@ -63,8 +63,8 @@ rows_in_are cells (s ∷ spans) h =
     λ i. (if low i && high i then part cells s.start s.end else []) ∷ rows_in_are cells spans (All-tail (IsPart cells) s spans h) i
 
 -- the rows of a table, sorted, are those that a `show` gives
-pub shown : (table : PlainTable) (sorted : List (List Value)) → IsStanding table → IsArranged (ordered_by table.heading.key) table.rows sorted → sorted ≡ rows_shown table
-shown table sorted standing arranged = chosen table.heading.key standing.keyed arranged
+pub shown : (table : PlainTable) (sorted : List (List Value)) → IsValidTable table → IsArranged (ordered_by table.heading.key) table.rows sorted → sorted ≡ rows_shown table
+shown table sorted valid arranged = chosen table.heading.key valid.keyed arranged
   where
     chosen : (key : List ℕ) → IsTrue (keys_differ key table.rows) → IsArranged (ordered_by key) table.rows sorted → sorted ≡ in_order (ordered_by key) table.rows
     chosen [] differ arranged = in_order-alone_by_row table.rows sorted arranged

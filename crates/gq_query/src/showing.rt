@@ -16,7 +16,7 @@ pub fn show_rows<H: KeyHash<Key> + Copy>(
 ) -> Result<Rows, AllocError>
     ensures { IfOk result (λ rows. rows ≡ rows_shown table.now) }
 {
-    let _standing = table.len();
+    let _valid = table.len();
     let rows = rows_of(alloc, table)?;
     sort_rows(alloc, rows, table.schema().key())
 }

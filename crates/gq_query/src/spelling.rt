@@ -89,7 +89,7 @@ impl<'a, H: KeyHash<Key> + Copy> Query<'a, H> {
         ensures others { LeavesOthers no_runs no_runs (S.runs store.old) (S.runs store.new) }
         ensures cause { IfErr result (λ e. GroupCause e (S.runs store.old) (S.runs store.new)) }
     {
-        let _standing = self.table.len();
+        let _valid = self.table.len();
         if has_spellings(self.table.schema().columns(), self.by) {
             self.rows_spelled(shown, store)
         } else {
@@ -167,7 +167,7 @@ impl<'a, H: KeyHash<Key> + Copy> Query<'a, H> {
         ensures others { LeavesOthers no_runs no_runs (S.runs store.old) (S.runs store.new) }
         ensures cause { IfErr result (λ e. HasCause e (S.runs store.old) (S.runs store.new)) }
     {
-        let _standing = self.table.len();
+        let _valid = self.table.len();
         if has_spellings(self.table.schema().columns(), self.by) {
             self.different_spelled(store)
         } else {

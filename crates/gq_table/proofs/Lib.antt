@@ -1,7 +1,7 @@
-pub mod GridLemmas
+pub mod ColumnStoreLemmas
 pub mod KeyedLemmas
 pub mod PlaceLemmas
-pub mod SheetLemmas
+pub mod RowStoreLemmas
 pub mod StagedLemmas
-pub mod StandingLemmas
+pub mod ValidTableLemmas
 pub mod StoredLemmas

@@ -20,7 +20,7 @@ use Rattle.gq_row.specs.Tables.{put_by_key, has_row}
 use Rattle.gq_row.specs.Classes.{class_of}
 use Rattle.gq_table.specs.Places.{AreEven, IsPlace, ArePlaces, IsThere, AreThere, AreStillThere, is_absent, with_place, without_place}
 use Rattle.gq_cells.proofs.RowsLemmas.{left_next, left_there}
-use Rattle.gq_table.proofs.GridLemmas.{one_more}
+use Rattle.gq_table.proofs.ColumnStoreLemmas.{one_more}
 use Rattle.gq_table.proofs.KeyedLemmas.{absent_lacked, any_at_none, found_there, has_at, has_keys, key_there, lacks_absent, length-keys, mapped_any, put_among, put_at, put_new, read_mapped, set_again}
 
 abbrev Row : Type 0

@@ -14,14 +14,14 @@ use Rattle.gq_row.specs.Tables.{PlainTable, put, put_by_key, put_all, delete, ha
 use Rattle.gq_table.specs.declared.refusal.TableRefusal.{TableRefusal}
 use Rattle.gq_table.specs.declared.refusal.TableRefusal.TheVariants.{TypeMismatch, NullKey, Limit, Memory}
 use Rattle.gq_table.specs.declared.rows.Storage.{Storage}
-use Rattle.gq_table.specs.declared.rows.Storage.TheVariants.{Keyed, Listed}
+use Rattle.gq_table.specs.declared.rows.Storage.TheVariants.{Keyed, Columnar}
 use Rattle.gq_table.specs.Changes.{IsPut, IsLoaded}
 use Rattle.gq_table.specs.declared.keyed.KeyedRows.{KeyedRows}
 use Rattle.gq_table.specs.Keyed.{OwnKeys, AreApart}
 use Rattle.gq_table.specs.Refusing.{limit_refusal, row_refusal, load_refusal, rows_with, replaces, WhyNotPut, WhyNotKeyed, WhyNotLoaded}
-use Rattle.gq_table.specs.Standing.{IsStanding}
+use Rattle.gq_table.specs.ValidTables.{IsValidTable}
 use Rattle.gq_table.specs.Stored.{ArePlaced, IsStored, rows_of}
-use Rattle.gq_table.proofs.StandingLemmas.{table, length-put, rows_limit, standing_put, standing_loaded, standing_deleted}
+use Rattle.gq_table.proofs.ValidTableLemmas.{table, length-put, rows_limit, valid_put, valid_loaded, valid_deleted}
 
 -- ---- rows under keys where the key has columns, a list where it has none
 
@@ -38,18 +38,18 @@ module _ {H : Type 0} where
   placed_again [] m some own = absurd (omega arith)
   placed_again (column ∷ columns) m some own = own
 
-  abbrev pub IsListed : Storage H → Type 0
-  IsListed (Keyed m) = ⊥
-  IsListed (Listed v) = Unit {0}
+  abbrev pub IsColumnar : Storage H → Type 0
+  IsColumnar (Keyed m) = ⊥
+  IsColumnar (Columnar v) = Unit {0}
 
-  pub listed_key : (key : List ℕ) (r : Storage H) → IsListed r → ArePlaced key r → key ≡ []
-  listed_key [] r e h = refl
-  listed_key (column ∷ columns) (Keyed n) e h = absurd e
-  listed_key (column ∷ columns) (Listed w) e h = absurd h
+  pub columnar_key : (key : List ℕ) (r : Storage H) → IsColumnar r → ArePlaced key r → key ≡ []
+  columnar_key [] r e h = refl
+  columnar_key (column ∷ columns) (Keyed n) e h = absurd e
+  columnar_key (column ∷ columns) (Columnar w) e h = absurd h
 
-  listed_placed : (r : Storage H) → IsListed r → ArePlaced [] r
-  listed_placed (Keyed m) e = absurd e
-  listed_placed (Listed v) e = tt
+  columnar_placed : (r : Storage H) → IsColumnar r → ArePlaced [] r
+  columnar_placed (Keyed m) e = absurd e
+  columnar_placed (Columnar v) e = tt
 
 -- ---- refusals
 
@@ -103,7 +103,7 @@ pub record PutKeyed {H : Type 0} (most : ℕ) (row : List Value) (m n : KeyedRow
   pub err : OnErr result (n ≡ m)
   pub why : IfErr result (WhyNotKeyed most key m.rows row)
 
-pub record PutListed (most : ℕ) (row : List Value) (old new : List (List Value)) (result : Result (Unit {0}) TableRefusal) : Type 0 where
+pub record PutColumnar (most : ℕ) (row : List Value) (old new : List (List Value)) (result : Result (Unit {0}) TableRefusal) : Type 0 where
   pub ok : OnOk result (new ≡ old ++ row ∷ [])
   pub few : OnOk result (length old < most)
   pub err : OnErr result (new ≡ old)
@@ -116,7 +116,7 @@ pub record LoadKeyed {H : Type 0} (most : ℕ) (loaded : List (List Value)) (m n
   pub err : OnErr result (n ≡ m)
   pub why : IfErr result (λ w. ((w ≡ Limit) × (most < length (fold (put_by_key key) m.rows loaded))) ⊎ (w ≡ Memory))
 
-pub record LoadListed (most : ℕ) (loaded old new : List (List Value)) (result : Result (Unit {0}) TableRefusal) : Type 0 where
+pub record LoadColumnar (most : ℕ) (loaded old new : List (List Value)) (result : Result (Unit {0}) TableRefusal) : Type 0 where
   pub ok : OnOk result (new ≡ old ++ loaded)
   pub few : OnOk result (length old + length loaded ≤ most)
   pub err : OnErr result (new ≡ old)
@@ -140,9 +140,9 @@ put_none : (key : List ℕ) (rows : List (List Value)) (row : List Value) → ke
 put_none [] rows row e = refl
 put_none (column ∷ columns) rows row e = let none : ⊥ = cc in absurd none
 
-replaces_listed : (key : List ℕ) (rows : List (List Value)) (row : List Value) → key ≡ [] → replaces key rows row ≡ false
-replaces_listed [] rows row e = refl
-replaces_listed (column ∷ columns) rows row e = let none : ⊥ = cc in absurd none
+replaces_columnar : (key : List ℕ) (rows : List (List Value)) (row : List Value) → key ≡ [] → replaces key rows row ≡ false
+replaces_columnar [] rows row e = refl
+replaces_columnar (column ∷ columns) rows row e = let none : ⊥ = cc in absurd none
 
 module _ {H : Type 0} (bounds : Bounds) (limits : IsTrue (within_greatest bounds)) (h : Heading) (row : List Value) (fits : fits_columns h.columns row ≡ true) (no_null : has_null h.key row ≡ false) where
   upserted_in : (m n : KeyedRows H) (result : Result (Unit {0}) TableRefusal) → IsStored h (Keyed m) → PutKeyed bounds.rows row m n result h.key → Upserted bounds (table h m.rows) row result (Keyed n)
@@ -154,7 +154,7 @@ module _ {H : Type 0} (bounds : Bounds) (limits : IsTrue (within_greatest bounds
       let out = put_keyed_rows h.key m.rows n.rows row some p.ok in
       record {
         stored = record {
-          standing = standing_put h m.rows n.rows row stored.standing fits (omega arith) out;
+          valid = valid_put h m.rows n.rows row stored.valid fits (omega arith) out;
           placed = placed_again h.key n some p.own;
         };
         ok = record { heading = refl; rows = out };
@@ -180,9 +180,9 @@ module _ {H : Type 0} (bounds : Bounds) (limits : IsTrue (within_greatest bounds
   pub upserted_keyed : (m n : KeyedRows H) (result : Result (Unit {0}) TableRefusal) (key : List ℕ) → key ≡ h.key → IsStored h (Keyed m) → PutKeyed bounds.rows row m n result key → Upserted bounds (table h m.rows) row result (Keyed n)
   upserted_keyed m n result key e stored p = upserted_in m n result stored (subst (PutKeyed bounds.rows row m n result) e p)
 
-  pub upserted_listed : (r n : Storage H) (result : Result (Unit {0}) TableRefusal) → IsListed r → IsListed n → IsStored h r → PutListed bounds.rows row (rows_of r) (rows_of n) result → Upserted bounds (table h (rows_of r)) row result n
-  upserted_listed r n (Ok u) was is stored p =
-      let none = listed_key h.key r was stored.placed in
+  pub upserted_columnar : (r n : Storage H) (result : Result (Unit {0}) TableRefusal) → IsColumnar r → IsColumnar n → IsStored h r → PutColumnar bounds.rows row (rows_of r) (rows_of n) result → Upserted bounds (table h (rows_of r)) row result n
+  upserted_columnar r n (Ok u) was is stored p =
+      let none = columnar_key h.key r was stored.placed in
       let e = put_none h.key (rows_of r) row none in
       let long = ap length e ∙ length-append (rows_of r) (row ∷ []) in
       let few : length (put h.key (rows_of r) row) ≤ bounds.rows = (let few = p.few in omega arith) in
@@ -190,18 +190,18 @@ module _ {H : Type 0} (bounds : Bounds) (limits : IsTrue (within_greatest bounds
       let out : IsPermutation (put h.key (rows_of r) row) (rows_of n) = subst (IsPermutation (put h.key (rows_of r) row)) (e ∙ sym p.ok) (IsPermutation-refl (put h.key (rows_of r) row)) in
       record {
         stored = record {
-          standing = standing_put h (rows_of r) (rows_of n) row stored.standing fits (omega arith) out;
-          placed = subst (λ k. ArePlaced k n) (sym none) (listed_placed n is);
+          valid = valid_put h (rows_of r) (rows_of n) row stored.valid fits (omega arith) out;
+          placed = subst (λ k. ArePlaced k n) (sym none) (columnar_placed n is);
         };
         ok = record { heading = refl; rows = out };
         taken = refusal bounds h row fits no_null (rows_of r) ∙ within bounds.rows (put h.key (rows_of r) row) few;
         refused = tt;
         unchanged = tt;
       }
-  upserted_listed r n (Err why) was is stored p = record {
+  upserted_columnar r n (Err why) was is stored p = record {
     stored = record {
-      standing = subst (λ rows. IsStanding (table h rows)) (sym p.err) stored.standing;
-      placed = subst (λ k. ArePlaced k n) (sym none) (listed_placed n is);
+      valid = subst (λ rows. IsValidTable (table h rows)) (sym p.err) stored.valid;
+      placed = subst (λ k. ArePlaced k n) (sym none) (columnar_placed n is);
     };
     ok = tt;
     taken = tt;
@@ -210,14 +210,14 @@ module _ {H : Type 0} (bounds : Bounds) (limits : IsTrue (within_greatest bounds
   }
     where
       none : h.key ≡ []
-      none = listed_key h.key r was stored.placed
+      none = columnar_key h.key r was stored.placed
 
       long : length (put h.key (rows_of r) row) ≡ length (rows_of r) + 1
       long = ap length (put_none h.key (rows_of r) row none) ∙ length-append (rows_of r) (row ∷ [])
 
       reason : ((why ≡ Limit) × (bounds.rows ≤ length (rows_of r))) ⊎ ((why ≡ Memory) × (length (rows_of r) < bounds.rows)) → WhyNotPut bounds (table h (rows_of r)) row why
       reason (inl w) = inl (refusal bounds h row fits no_null (rows_of r) ∙ over bounds.rows (put h.key (rows_of r) row) (let far = w.1 in omega (arith, long)) ∙ ap Some (sym w.0))
-      reason (inr w) = inr (w.0, refusal bounds h row fits no_null (rows_of r) ∙ within bounds.rows (put h.key (rows_of r) row) (let near = w.1 in omega (arith, long)), replaces_listed h.key (rows_of r) row none)
+      reason (inr w) = inr (w.0, refusal bounds h row fits no_null (rows_of r) ∙ within bounds.rows (put h.key (rows_of r) row) (let near = w.1 in omega (arith, long)), replaces_columnar h.key (rows_of r) row none)
 
 -- ---- a load
 
@@ -246,7 +246,7 @@ module _ {H : Type 0} (bounds : Bounds) (limits : IsTrue (within_greatest bounds
       let out : IsPermutation (put_all h.key m.rows rows) n.rows = subst (IsPermutation (put_all h.key m.rows rows)) (all ∙ sym p.ok) (IsPermutation-refl (put_all h.key m.rows rows)) in
       record {
         stored = record {
-          standing = standing_loaded h m.rows rows n.rows stored.standing fits (omega arith) out;
+          valid = valid_loaded h m.rows rows n.rows stored.valid fits (omega arith) out;
           placed = placed_again h.key n some p.own;
         };
         ok = record { heading = refl; rows = out };
@@ -272,9 +272,9 @@ module _ {H : Type 0} (bounds : Bounds) (limits : IsTrue (within_greatest bounds
   pub loaded_keyed : (m n : KeyedRows H) (result : Result (Unit {0}) TableRefusal) (key : List ℕ) → key ≡ h.key → IsStored h (Keyed m) → LoadKeyed bounds.rows rows m n result key → LoadedTable bounds (table h m.rows) rows result (Keyed n)
   loaded_keyed m n result key e stored p = loaded_in m n result stored (subst (LoadKeyed bounds.rows rows m n result) e p)
 
-  pub loaded_listed : (r n : Storage H) (result : Result (Unit {0}) TableRefusal) → IsListed r → IsListed n → IsStored h r → LoadListed bounds.rows rows (rows_of r) (rows_of n) result → LoadedTable bounds (table h (rows_of r)) rows result n
-  loaded_listed r n (Ok u) was is stored p =
-      let none = listed_key h.key r was stored.placed in
+  pub loaded_columnar : (r n : Storage H) (result : Result (Unit {0}) TableRefusal) → IsColumnar r → IsColumnar n → IsStored h r → LoadColumnar bounds.rows rows (rows_of r) (rows_of n) result → LoadedTable bounds (table h (rows_of r)) rows result n
+  loaded_columnar r n (Ok u) was is stored p =
+      let none = columnar_key h.key r was stored.placed in
       let e = put_all_none h.key (rows_of r) rows none in
       let long = ap length e ∙ length-append (rows_of r) rows in
       let few : length (put_all h.key (rows_of r) rows) ≤ bounds.rows = (let few = p.few in omega arith) in
@@ -282,18 +282,18 @@ module _ {H : Type 0} (bounds : Bounds) (limits : IsTrue (within_greatest bounds
       let out : IsPermutation (put_all h.key (rows_of r) rows) (rows_of n) = subst (IsPermutation (put_all h.key (rows_of r) rows)) (e ∙ sym p.ok) (IsPermutation-refl (put_all h.key (rows_of r) rows)) in
       record {
         stored = record {
-          standing = standing_loaded h (rows_of r) rows (rows_of n) stored.standing fits (omega arith) out;
-          placed = subst (λ k. ArePlaced k n) (sym none) (listed_placed n is);
+          valid = valid_loaded h (rows_of r) rows (rows_of n) stored.valid fits (omega arith) out;
+          placed = subst (λ k. ArePlaced k n) (sym none) (columnar_placed n is);
         };
         ok = record { heading = refl; rows = out };
         taken = within bounds.rows (put_all h.key (rows_of r) rows) few;
         refused = tt;
         unchanged = tt;
       }
-  loaded_listed r n (Err why) was is stored p = record {
+  loaded_columnar r n (Err why) was is stored p = record {
     stored = record {
-      standing = subst (λ l. IsStanding (table h l)) (sym p.err) stored.standing;
-      placed = subst (λ k. ArePlaced k n) (sym (listed_key h.key r was stored.placed)) (listed_placed n is);
+      valid = subst (λ l. IsValidTable (table h l)) (sym p.err) stored.valid;
+      placed = subst (λ k. ArePlaced k n) (sym (columnar_key h.key r was stored.placed)) (columnar_placed n is);
     };
     ok = tt;
     taken = tt;
@@ -302,7 +302,7 @@ module _ {H : Type 0} (bounds : Bounds) (limits : IsTrue (within_greatest bounds
   }
     where
       long : length (put_all h.key (rows_of r) rows) ≡ length (rows_of r) + length rows
-      long = ap length (put_all_none h.key (rows_of r) rows (listed_key h.key r was stored.placed)) ∙ length-append (rows_of r) rows
+      long = ap length (put_all_none h.key (rows_of r) rows (columnar_key h.key r was stored.placed)) ∙ length-append (rows_of r) rows
 
       reason : ((why ≡ Limit) × (bounds.rows < length (rows_of r) + length rows)) ⊎ (why ≡ Memory) → WhyNotLoaded bounds (table h (rows_of r)) rows why
       reason (inl w) = inl (over bounds.rows (put_all h.key (rows_of r) rows) (let far = w.1 in omega (arith, long)) ∙ ap Some (sym w.0))
@@ -312,13 +312,13 @@ module _ {H : Type 0} (bounds : Bounds) (limits : IsTrue (within_greatest bounds
 
 pub deleted_keyed : {H : Type 0} (h : Heading) (m n : KeyedRows H) (key : List ℕ) (k : List Value) → key ≡ h.key → IsStored h (Keyed m) → OwnKeys key n → IsPermutation (delete key m.rows k) n.rows → IsStored h (Keyed n)
 deleted_keyed h m n key k e stored own moved = record {
-  standing = standing_deleted h m.rows n.rows k stored.standing (subst (λ l. IsPermutation (delete l m.rows k) n.rows) e moved);
+  valid = valid_deleted h m.rows n.rows k stored.valid (subst (λ l. IsPermutation (delete l m.rows k) n.rows) e moved);
   placed = placed_again h.key n (keyed_some h.key m stored.placed) (subst (λ l. OwnKeys l n) e own);
 }
 
 pub stored_empty : {H : Type 0} (h : Heading) (m : KeyedRows H) → IsTrue (is_heading h) → (h.key ≡ [] → ⊥) → m.index.keys ≡ [] → m.rows ≡ [] → IsStored h (Keyed m)
 stored_empty h m heading some none no_rows = record {
-  standing = subst (λ rows. IsStanding (table h rows)) (sym no_rows) (record { heading = heading; fitting = refl; keyed = nothing_differs h.key; few = omega arith });
+  valid = subst (λ rows. IsValidTable (table h rows)) (sym no_rows) (record { heading = heading; fitting = refl; keyed = nothing_differs h.key; few = omega arith });
   placed = placed_again h.key m (some_long h.key some) (none ∙ ap (map (key_of h.key)) (sym no_rows));
 }
   where
@@ -332,4 +332,4 @@ stored_empty h m heading some none no_rows = record {
 
 -- the rows of a table fit the columns of one with the same heading
 pub staged_fit : {H : Type 0} (h g : Heading) (r : Storage H) (rows : List (List Value)) → g ≡ h → IsStored g r → rows_of r ≡ rows → list_all (fits_columns h.columns) rows ≡ true
-staged_fit h g r rows same stored is = subst (λ l. list_all (fits_columns h.columns) l ≡ true) is (subst (λ (x : Heading). list_all (fits_columns x.columns) (rows_of r) ≡ true) same stored.standing.fitting)
+staged_fit h g r rows same stored is = subst (λ l. list_all (fits_columns h.columns) l ≡ true) is (subst (λ (x : Heading). list_all (fits_columns x.columns) (rows_of r) ≡ true) same stored.valid.fitting)

@@ -1,10 +1,10 @@
--- What a sheet ends as once a row that it lent is back.
+-- What a row store ends as once a row that it lent is back.
 use Rattle.std.specs.Prelude.{ℕ, List}
 use Rattle.std.specs.Borrow.{Fml, MutBor, Array, Lends}
 use Rattle.gq_row.specs.declared.value.Value.{Value}
 use Rattle.gq_row.specs.contracts.value.Value.{the_row as value_row}
-use Rattle.gq_table.specs.contracts.sheet.Sheet.{the_row}
-use Rattle.gq_table.specs.Sheets.{with_row}
+use Rattle.gq_table.specs.contracts.row_store.RowStore.{the_row}
+use Rattle.gq_table.specs.RowStores.{with_row}
 
 -- a row is lent, and has what was written last
 abbrev pub lends_row : MutBor (List (List Value)) → ℕ → MutBor (List Value) → Fml

@@ -4,7 +4,7 @@ pub mod Keyed
 pub mod Lending
 pub mod Places
 pub mod Refusing
-pub mod Sheets
-pub mod Standing
+pub mod RowStores
+pub mod ValidTables
 pub mod Stored
 pub mod Walking

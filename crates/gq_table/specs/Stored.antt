@@ -3,22 +3,22 @@ use Rattle.std.specs.Prelude.{List, [], ◌∷◌, ℕ}
 use Rattle.gq_row.specs.declared.value.Value.{Value}
 use Rattle.gq_row.specs.Headings.{Heading}
 use Rattle.gq_table.specs.declared.rows.Storage.{Storage}
-use Rattle.gq_table.specs.declared.rows.Storage.TheVariants.{Keyed, Listed}
+use Rattle.gq_table.specs.declared.rows.Storage.TheVariants.{Keyed, Columnar}
 use Rattle.gq_table.specs.Keyed.{OwnKeys}
-use Rattle.gq_table.specs.Standing.{IsStanding}
+use Rattle.gq_table.specs.ValidTables.{IsValidTable}
 
--- the rows: those under keys in the order of the index, or the list's
+-- the rows: those with keys in the order of the index, or those of the columns
 abbrev pub rows_of : {H : Type 0} → Storage H → List (List Value)
 rows_of (Keyed m) = m.rows
-rows_of (Listed rows) = rows
+rows_of (Columnar rows) = rows
 
--- with key columns the rows stand under their own keys, and without in a list
+-- with key columns the rows are stored with an index of their keys, and without by columns
 abbrev pub ArePlaced : {H : Type 0} → List ℕ → Storage H → Type 0
 ArePlaced [] (Keyed m) = ⊥
-ArePlaced [] (Listed rows) = Unit {0}
+ArePlaced [] (Columnar rows) = Unit {0}
 ArePlaced (column ∷ columns) (Keyed m) = OwnKeys (column ∷ columns) m
-ArePlaced (column ∷ columns) (Listed rows) = ⊥
+ArePlaced (column ∷ columns) (Columnar rows) = ⊥
 
 pub record IsStored {H : Type 0} (heading : Heading) (rows : Storage H) : Type 0 where
-  pub standing : IsStanding (record { heading = heading; rows = rows_of rows })
+  pub valid : IsValidTable (record { heading = heading; rows = rows_of rows })
   pub placed : ArePlaced heading.key rows

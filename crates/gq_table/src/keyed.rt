@@ -9,7 +9,7 @@ ghost use Rattle.gq_table.specs.Keyed.{OwnKeys, AreApart};
 ghost use Rattle.gq_table.specs.Refusing.{rows_with, WhyNotKeyed};
 
 use crate::refusal::TableRefusal;
-use crate::sheet::Sheet;
+use crate::row_store::RowStore;
 use gq_row::{Key, KeyCells, KeyRef, Row, Value};
 use std::alloc::{AllocError, Global};
 use sw_index::{Absence, Found, Index};
@@ -19,7 +19,7 @@ use sw_probe::KeyHash;
 #[derive(Drop)]
 pub struct KeyedRows<H: KeyHash<Key>> {
     pub(crate) index: Index<Key, H>,
-    pub(crate) rows: Sheet,
+    pub(crate) rows: RowStore,
 }
 
 impl<H: KeyHash<Key>> KeyedRows<H> {
@@ -30,7 +30,7 @@ impl<H: KeyHash<Key>> KeyedRows<H> {
     {
         KeyedRows {
             index: Index::new(alloc, hasher),
-            rows: Sheet::new(alloc),
+            rows: RowStore::new(alloc),
         }
     }
 

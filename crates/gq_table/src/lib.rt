@@ -12,16 +12,16 @@
 //! table as it was; a put on a key that is there and a delete take no memory.
 #![tactic(auto)]
 
-mod grid;
+mod column_store;
 mod keyed;
 mod load;
 mod refusal;
+mod row_store;
 mod rows;
-mod sheet;
 mod table;
 
-pub use grid::Grid;
+pub use column_store::ColumnStore;
 pub use refusal::TableRefusal;
+pub use row_store::RowStore;
 pub use rows::{RowCursor, Storage};
-pub use sheet::Sheet;
 pub use table::Table;

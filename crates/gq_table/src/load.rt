@@ -7,7 +7,7 @@ ghost use Rattle.gq_table.specs.declared.refusal.TableRefusal.TheVariants.{Limit
 
 use crate::keyed::KeyedRows;
 use crate::refusal::TableRefusal;
-use crate::sheet::Sheet;
+use crate::row_store::RowStore;
 use gq_row::Key;
 use std::alloc::{AllocError, Global};
 use sw_index::Found;
@@ -92,7 +92,7 @@ impl<H: KeyHash<Key> + Copy> KeyedRows<H> {
         alloc: Global,
         positions: &[usize],
         places: &[Found],
-        staged: &mut Sheet,
+        staged: &mut RowStore,
     ) -> Result<(), AllocError>
         requires columns { All (λ row. All (λ position. position < length row) positions.now)
             staged.old }
@@ -123,7 +123,7 @@ impl<H: KeyHash<Key> + Copy> KeyedRows<H> {
         alloc: Global,
         positions: &[usize],
         places: &[Found],
-        staged: &mut Sheet,
+        staged: &mut RowStore,
     ) -> Result<(), AllocError>
         requires columns { All (λ row. All (λ position. position < length row) positions.now)
             staged.old }
@@ -160,7 +160,7 @@ impl<H: KeyHash<Key> + Copy> KeyedRows<H> {
     }
 
     // Puts the rows that have a place: each is exchanged with the one that stands there.
-    fn place_found(&mut self, positions: &[usize], places: &[Found], staged: &mut Sheet)
+    fn place_found(&mut self, positions: &[usize], places: &[Found], staged: &mut RowStore)
         requires even { AreEven self.old.rows staged.old }
         requires own { OwnKeys positions.now self.old }
         requires apart { IsTrue (AreApart positions.now self.old.rows) }

@@ -1,29 +1,29 @@
-//! Where the rows of a table stand, and how they are gone over.
+//! How the rows of a table are stored, and a walk over them.
 ghost use Rattle.std.specs.Prelude.{◌≡◌, ◌<◌, ◌∷◌, [], true, false, All, IsOk, OnOk, length};
 ghost use Rattle.gq_row.specs.Rows.{cells_in};
 ghost use Rattle.gq_row.specs.Written.{IsInPlace};
 
-use crate::grid::{Grid, fit};
+use crate::column_store::{ColumnStore, fit};
 use crate::keyed::KeyedRows;
-use crate::sheet::Sheet;
+use crate::row_store::RowStore;
 use gq_row::{Key, Row, Value};
 use std::alloc::{AllocError, Global};
 use std::marker::Model;
 use std::mem;
 use sw_probe::KeyHash;
 
-/// The rows of a table with key columns stand row by row, under their keys, those of one without by columns.
+/// The rows of a table: row by row with an index of their keys if it has a key, and by columns if not.
 #[derive(Drop)]
 pub enum Storage<H: KeyHash<Key>> {
     Keyed(KeyedRows<H>),
-    Listed(Grid),
+    Columnar(ColumnStore),
 }
 
-/// How the rows that are gone over stand: row by row, or by columns.
+/// A reference to the rows of a table, however they are stored.
 #[derive(Clone, Copy)]
-pub enum Standing<'a> {
-    Rows(&'a Sheet),
-    Columns(&'a Grid),
+pub enum RowsRef<'a> {
+    Rows(&'a RowStore),
+    Columns(&'a ColumnStore),
 }
 
 /// A walk over the rows of a table: at one of them, and before those that are still to come. A row of a table
@@ -32,7 +32,7 @@ pub enum Standing<'a> {
 #[derive(Drop)]
 pub struct RowCursor<'a> {
     alloc: Global,
-    rows: Standing<'a>,
+    rows: RowsRef<'a>,
     // How many rows were begun.
     from: usize,
     // A row that stood by columns and was written out.
@@ -47,16 +47,16 @@ impl<'a> Model for RowCursor<'a> {
     ghost view = { λ w. record { row = row_of w.rows w.from; read = read_of w.rows w.from w.copy.items; rest = rest_of w.rows w.from } };
 }
 
-impl<'a> Standing<'a> {
-    ghost use Rattle.gq_table.specs.Walking.{standing};
+impl<'a> RowsRef<'a> {
+    ghost use Rattle.gq_table.specs.Walking.{rows_in};
 
     #[inline]
     fn len(&self) -> usize
-        ensures { result ≡ length (standing self.now) }
+        ensures { result ≡ length (rows_in self.now) }
     {
         match self {
-            Standing::Rows(rows) => rows.len(),
-            Standing::Columns(rows) => rows.len(),
+            RowsRef::Rows(rows) => rows.len(),
+            RowsRef::Columns(rows) => rows.len(),
         }
     }
 }
@@ -69,8 +69,8 @@ impl<'a> RowCursor<'a> {
         ensures { result.rest ≡ rows_of rows.now }
     {
         let rows = match rows {
-            Storage::Keyed(keyed) => Standing::Rows(&keyed.rows),
-            Storage::Listed(rows) => Standing::Columns(rows),
+            Storage::Keyed(keyed) => RowsRef::Rows(&keyed.rows),
+            Storage::Columnar(rows) => RowsRef::Columns(rows),
         };
         RowCursor {
             alloc,
@@ -108,7 +108,7 @@ impl<'a> RowCursor<'a> {
         ensures row { self.new.row ≡ self.old.row }
         ensures rest { self.new.rest ≡ self.old.rest }
     {
-        let Standing::Columns(rows) = self.rows else {
+        let RowsRef::Columns(rows) = self.rows else {
             return Ok(());
         };
         let place = self.from.saturating_sub(1);
@@ -124,7 +124,7 @@ impl<'a> RowCursor<'a> {
     pub fn row(&self) -> &[Value]
         ensures { result.now ≡ self.now.read }
     {
-        let Standing::Rows(rows) = self.rows else {
+        let RowsRef::Rows(rows) = self.rows else {
             return self.copy.as_slice();
         };
         let place = self.from.saturating_sub(1);
@@ -158,8 +158,8 @@ impl<'a> RowCursor<'a> {
         ensures in_place { All IsInPlace (cells_in columns.now self.now.row) → IsOk result }
     {
         match self.rows {
-            Standing::Rows(_) => write_cells(self.alloc, cells, self.row(), columns),
-            Standing::Columns(rows) => {
+            RowsRef::Rows(_) => write_cells(self.alloc, cells, self.row(), columns),
+            RowsRef::Columns(rows) => {
                 rows.copy_cells(self.alloc, self.from.saturating_sub(1), columns, cells)
             }
         }

@@ -4,11 +4,11 @@ ghost use Rattle.gq_row.specs.Fitting.{fits_columns, has_null};
 ghost use Rattle.gq_row.specs.Tables.{has_row};
 ghost use Rattle.gq_table.specs.Changes.{IsPut, IsLoaded, IsDeleted, named_key};
 ghost use Rattle.gq_table.specs.Refusing.{row_refusal, load_refusal, WhyNotPut, WhyNotLoaded};
-ghost use Rattle.gq_table.specs.Standing.{IsStanding};
+ghost use Rattle.gq_table.specs.ValidTables.{IsValidTable};
 ghost use Rattle.gq_table.specs.Stored.{IsStored, rows_of};
 ghost use Rattle.gq_table.specs.declared.refusal.TableRefusal.TheVariants.{Limit, Memory};
 
-use crate::grid::Grid;
+use crate::column_store::ColumnStore;
 use crate::keyed::KeyedRows;
 use crate::refusal::TableRefusal;
 use crate::rows::{RowCursor, Storage};
@@ -50,7 +50,7 @@ impl<H: KeyHash<Key> + Copy> Table<H> {
                 alloc,
                 schema,
                 hasher,
-                rows: Storage::Listed(Grid::new(alloc)),
+                rows: Storage::Columnar(ColumnStore::new(alloc)),
             };
         }
         Table {
@@ -80,13 +80,13 @@ impl<H: KeyHash<Key> + Copy> Table<H> {
     /// The number of its rows.
     pub fn len(&self) -> usize
         ensures count { result ≡ length self.now.rows }
-        ensures standing { IsStanding self.now }
+        ensures valid { IsValidTable self.now }
     {
         match &self.rows {
             Storage::Keyed(rows) => {
                 return rows.len();
             }
-            Storage::Listed(rows) => {
+            Storage::Columnar(rows) => {
                 return rows.len();
             }
         }
@@ -102,7 +102,7 @@ impl<H: KeyHash<Key> + Copy> Table<H> {
             Storage::Keyed(keyed) => {
                 return keyed.reserve(rows);
             }
-            Storage::Listed(list) => {
+            Storage::Columnar(list) => {
                 return list.reserve(rows.saturating_sub(list.len()));
             }
         }
@@ -111,7 +111,7 @@ impl<H: KeyHash<Key> + Copy> Table<H> {
     /// The rows, each once.
     pub fn rows(&self) -> RowCursor<'_>
         ensures rows { result.rest ≡ self.now.rows }
-        ensures standing { IsStanding self.now }
+        ensures valid { IsValidTable self.now }
     {
         RowCursor::new(self.alloc, &self.rows)
     }
@@ -153,8 +153,8 @@ impl<H: KeyHash<Key> + Copy> Table<H> {
             Storage::Keyed(rows) => {
                 return rows.put(self.alloc, self.schema.key(), row, most);
             }
-            Storage::Listed(rows) => {
-                return put_listed(self.alloc, rows, row, most);
+            Storage::Columnar(rows) => {
+                return put_columnar(self.alloc, rows, row, most);
             }
         }
     }
@@ -178,11 +178,11 @@ impl<H: KeyHash<Key> + Copy> Table<H> {
                 };
                 return keyed.load(self.alloc, self.schema.key(), staged, most);
             }
-            Storage::Listed(list) => {
-                let Storage::Listed(staged) = rows else {
+            Storage::Columnar(list) => {
+                let Storage::Columnar(staged) = rows else {
                     unreachable!()
                 };
-                return load_listed(self.alloc, list, staged, most);
+                return load_columnar(self.alloc, list, staged, most);
             }
         }
     }
@@ -204,16 +204,16 @@ impl<H: KeyHash<Key> + Copy> Table<H> {
     {
         match &mut self.rows {
             Storage::Keyed(rows) => rows.delete(self.schema.key(), key),
-            Storage::Listed(_) => unreachable!(),
+            Storage::Columnar(_) => unreachable!(),
         }
     }
 }
 
 // Puts a row at the end of a list, where no more than `most` rows then stand there. Its texts move, and
 // its memory is left for another row.
-fn put_listed(
+fn put_columnar(
     alloc: Global,
-    rows: &mut Grid,
+    rows: &mut ColumnStore,
     row: &mut Row,
     most: usize,
 ) -> Result<(), TableRefusal>
@@ -234,7 +234,12 @@ fn put_listed(
 }
 
 // Puts rows at the end of a list, where no more than `most` then stand there: all or none.
-fn load_listed(alloc: Global, list: &mut Grid, rows: Grid, most: usize) -> Result<(), TableRefusal>
+fn load_columnar(
+    alloc: Global,
+    list: &mut ColumnStore,
+    rows: ColumnStore,
+    most: usize,
+) -> Result<(), TableRefusal>
     requires few { most ≤ 16777216 }
     requires even { All (λ row. All (λ other. length other ≡ length row) list.old) rows }
     ensures ok { OnOk result (list.new ≡ list.old ++ rows) }

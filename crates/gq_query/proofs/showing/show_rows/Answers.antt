@@ -9,5 +9,5 @@ pub returns : goal.returns
 returns g c =
     let table = c.args.table.now in
     IfOk-weaker c.sort_rows.result (IsArranged (ordered_by c.key.result.now) c.in_ok-rows.rows) (λ rows. rows ≡ rows_shown table)
-    (λ rows arranged. shown table rows c.len-standing.ensures.standing (rw (c.key.ensures.positions, c.schema.ensures, c.in_ok-rows.ensures) at arranged))
+    (λ rows arranged. shown table rows c.len-valid.ensures.valid (rw (c.key.ensures.positions, c.schema.ensures, c.in_ok-rows.ensures) at arranged))
     c.sort_rows.ensures

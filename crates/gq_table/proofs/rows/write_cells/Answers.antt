@@ -1,7 +1,7 @@
 use Rattle.std.proofs.Common.{arith}
 use Rattle.std.proofs.lemmas.Grind.{common_steps}
 use Rattle.std.proofs.lemmas.Bool.{false≢true}
-use Rattle.gq_table.proofs.GridLemmas.{in_place_among}
+use Rattle.gq_table.proofs.ColumnStoreLemmas.{in_place_among}
 use Rattle.gq_table.proofs.rows.write_cells.Goals as goal
 
 pub loop-i-preserved : goal.loop-i-preserved

@@ -15,7 +15,7 @@ use Rattle.gq_engine.proofs.catalog.Catalog.delete.Goals as goal
 pub invariant_of-self : goal.invariant_of-self
 invariant_of-self g c = (
   differ_set c.self.inside.tables.items c.in-Some.i c.index_mut.result.now c.delete_row.new.table c.index_mut.ensures.value c.self.invariant.0,
-  keyed_set c.self.inside.tables.items c.in-Some.i c.index_mut.result.now.0 c.delete_row.new.table c.self.invariant.1 c.delete_row.ensures.standing.keyed,
+  keyed_set c.self.inside.tables.items c.in-Some.i c.index_mut.result.now.0 c.delete_row.new.table c.self.invariant.1 c.delete_row.ensures.valid.keyed,
 )
 
 pub returns-in-Some : goal.returns-in-Some

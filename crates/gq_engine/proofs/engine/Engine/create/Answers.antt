@@ -13,7 +13,7 @@ use Rattle.gq_engine.proofs.StepLemmas.{no_memory_at, refuses, carries, create_e
 use Rattle.gq_row.specs.Repeats.{no_repeats}
 use Rattle.gq_command.specs.Commands.{some, column_names}
 use Rattle.gq_plan.proofs.ColumnLemmas.{is_heading_of}
-use Rattle.gq_table.proofs.StandingLemmas.{two}
+use Rattle.gq_table.proofs.ValidTableLemmas.{two}
 use Rattle.gq_engine.proofs.engine.Engine.create.Goals as goal
 
 -- whether something is there, by what was looked up

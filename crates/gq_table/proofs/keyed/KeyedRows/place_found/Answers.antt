@@ -3,7 +3,7 @@ use Rattle.std.specs.Prelude.{slice_index_or, slice_set}
 use Rattle.gq_row.specs.declared.value.Value.{Value}
 use Rattle.gq_row.specs.Tables.{put_by_key}
 use Rattle.gq_table.specs.Places.{is_absent}
-use Rattle.gq_table.specs.Sheets.{with_row}
+use Rattle.gq_table.specs.RowStores.{with_row}
 use Rattle.gq_table.proofs.PlaceLemmas.{Placing, as_long_there, found_in, in_staged, place_none, placing_found, placing_past}
 use Rattle.gq_table.proofs.keyed.KeyedRows.place_found.Goals as goal
 use Rattle.gq_table.proofs.keyed.KeyedRows.place_found.Goals.{in-At, in_default}

@@ -10,7 +10,7 @@ delete-requires g c =
     let stored = subst (IsStored c.self.inside.schema) c.in-Keyed.is c.self.invariant in
     record {
       own = subst (λ k. OwnKeys k c.in-Keyed.rows) (sym c.key.ensures.positions) (keyed_own c.self.inside.schema.key c.in-Keyed.rows stored.placed);
-      apart = subst (λ k. IsTrue (AreApart k c.in-Keyed.rows.rows)) (sym c.key.ensures.positions) (apart_of c.self.inside.schema.key c.in-Keyed.rows.rows (keyed_some c.self.inside.schema.key c.in-Keyed.rows stored.placed) stored.standing.keyed);
+      apart = subst (λ k. IsTrue (AreApart k c.in-Keyed.rows.rows)) (sym c.key.ensures.positions) (apart_of c.self.inside.schema.key c.in-Keyed.rows.rows (keyed_some c.self.inside.schema.key c.in-Keyed.rows stored.placed) stored.valid.keyed);
     }
 
 pub invariant_of-self : goal.invariant_of-self

@@ -6,9 +6,9 @@ use Rattle.gq_table.specs.Changes.{IsLoaded}
 use Rattle.gq_table.specs.Keyed.{OwnKeys, AreApart}
 use Rattle.gq_table.specs.Refusing.{load_refusal, WhyNotLoaded}
 use Rattle.gq_table.specs.Stored.{IsStored, rows_of}
-use Rattle.gq_table.specs.declared.rows.Storage.TheVariants.{Keyed, Listed}
-use Rattle.gq_table.proofs.StandingLemmas.{table, keys_in_range, rows_limit}
-use Rattle.gq_table.proofs.StoredLemmas.{apart_of, loaded_keyed, loaded_listed, keyed_own, keyed_some, staged_fit, IsListed, LoadKeyed, LoadListed}
+use Rattle.gq_table.specs.declared.rows.Storage.TheVariants.{Keyed, Columnar}
+use Rattle.gq_table.proofs.ValidTableLemmas.{table, keys_in_range, rows_limit}
+use Rattle.gq_table.proofs.StoredLemmas.{apart_of, loaded_keyed, loaded_columnar, keyed_own, keyed_some, staged_fit, IsColumnar, LoadKeyed, LoadColumnar}
 use Rattle.gq_table.proofs.table.Table.load.Goals as goal
 
 pub load-requires : goal.load-requires
@@ -20,12 +20,12 @@ load-requires g c =
     let key = c.self.inside.schema.key in
     let some = keyed_some key c.in-Keyed.keyed stored.placed in
     record {
-      columns = subst (λ k. All (λ row. All (λ position. position < length row) k) c.in-Keyed-rows.staged.rows) (sym c.key.ensures.positions) (keys_in_range c.self.inside.schema c.in-Keyed-rows.staged.rows c.key.ensures.heading mine.standing.fitting);
-      even = (length c.self.inside.schema.columns, all_as_long c.self.inside.schema.columns c.in-Keyed.keyed.rows (length c.self.inside.schema.columns) stored.standing.fitting refl, all_as_long c.self.inside.schema.columns c.in-Keyed-rows.staged.rows (length c.self.inside.schema.columns) mine.standing.fitting refl);
+      columns = subst (λ k. All (λ row. All (λ position. position < length row) k) c.in-Keyed-rows.staged.rows) (sym c.key.ensures.positions) (keys_in_range c.self.inside.schema c.in-Keyed-rows.staged.rows c.key.ensures.heading mine.valid.fitting);
+      even = (length c.self.inside.schema.columns, all_as_long c.self.inside.schema.columns c.in-Keyed.keyed.rows (length c.self.inside.schema.columns) stored.valid.fitting refl, all_as_long c.self.inside.schema.columns c.in-Keyed-rows.staged.rows (length c.self.inside.schema.columns) mine.valid.fitting refl);
       own = subst (λ k. OwnKeys k c.in-Keyed.keyed) (sym c.key.ensures.positions) (keyed_own key c.in-Keyed.keyed stored.placed);
       mine = subst (λ k. OwnKeys k c.in-Keyed-rows.staged) (sym c.key.ensures.positions) (keyed_own key c.in-Keyed-rows.staged mine.placed);
-      apart = subst (λ k. IsTrue (AreApart k c.in-Keyed.keyed.rows)) (sym c.key.ensures.positions) (apart_of key c.in-Keyed.keyed.rows some stored.standing.keyed);
-      all_apart = subst (λ k. IsTrue (AreApart k c.in-Keyed-rows.staged.rows)) (sym c.key.ensures.positions) (apart_of key c.in-Keyed-rows.staged.rows some mine.standing.keyed);
+      apart = subst (λ k. IsTrue (AreApart k c.in-Keyed.keyed.rows)) (sym c.key.ensures.positions) (apart_of key c.in-Keyed.keyed.rows some stored.valid.keyed);
+      all_apart = subst (λ k. IsTrue (AreApart k c.in-Keyed-rows.staged.rows)) (sym c.key.ensures.positions) (apart_of key c.in-Keyed-rows.staged.rows some mine.valid.keyed);
       few = rows_limit c.args.limits.now.bounds c.args.limits.now.in_range;
     }
 
@@ -35,13 +35,13 @@ invariant_of-self g c =
     c.in-Keyed.keyed c.load.new.self c.load.result c.key.result.now c.key.ensures.positions (subst (IsStored c.self.inside.schema) c.in-Keyed.is c.self.invariant)
     (subst (λ l. LoadKeyed c.args.limits.now.bounds.rows l c.in-Keyed.keyed c.load.new.self c.load.result c.key.result.now) (ap rows_of (sym c.in-Keyed-rows.is) ∙ c.into_rows-rows.ensures.rows) (record { own = c.load.ensures.own; ok = c.load.ensures.ok; few = c.load.ensures.few; err = c.load.ensures.err; why = c.load.ensures.why }))).stored
 
-pub invariant_of-self-in-Listed : goal.invariant_of-self-in-Listed
-invariant_of-self-in-Listed g c =
-    (loaded_listed c.args.limits.now.bounds c.args.limits.now.in_range c.self.inside.schema c.args.staged.rows (staged_fit c.self.inside.schema c.args.staged.heading c.into_rows-rows.result c.args.staged.rows (c.requires ∙ sym (ap (λ (t : PlainTable). t.heading) c.self.view_is)) c.into_rows-rows.ensures.stored c.into_rows-rows.ensures.rows)
-    c.self.inside.rows (Listed c.load_listed.new.list) c.load_listed.result (subst IsListed (sym c.in-Listed.is) tt) tt c.self.invariant
-    (subst (λ r. LoadListed c.args.limits.now.bounds.rows c.args.staged.rows (rows_of r) c.load_listed.new.list c.load_listed.result) (sym c.in-Listed.is)
-    (subst (λ l. LoadListed c.args.limits.now.bounds.rows l c.in-Listed.list c.load_listed.new.list c.load_listed.result) (ap rows_of (sym c.in-Listed-rows.is) ∙ c.into_rows-rows.ensures.rows)
-    (record { ok = c.load_listed.ensures.ok; few = c.load_listed.ensures.few; err = c.load_listed.ensures.err; why = c.load_listed.ensures.why })))).stored
+pub invariant_of-self-in-Columnar : goal.invariant_of-self-in-Columnar
+invariant_of-self-in-Columnar g c =
+    (loaded_columnar c.args.limits.now.bounds c.args.limits.now.in_range c.self.inside.schema c.args.staged.rows (staged_fit c.self.inside.schema c.args.staged.heading c.into_rows-rows.result c.args.staged.rows (c.requires ∙ sym (ap (λ (t : PlainTable). t.heading) c.self.view_is)) c.into_rows-rows.ensures.stored c.into_rows-rows.ensures.rows)
+    c.self.inside.rows (Columnar c.load_columnar.new.list) c.load_columnar.result (subst IsColumnar (sym c.in-Columnar.is) tt) tt c.self.invariant
+    (subst (λ r. LoadColumnar c.args.limits.now.bounds.rows c.args.staged.rows (rows_of r) c.load_columnar.new.list c.load_columnar.result) (sym c.in-Columnar.is)
+    (subst (λ l. LoadColumnar c.args.limits.now.bounds.rows l c.in-Columnar.list c.load_columnar.new.list c.load_columnar.result) (ap rows_of (sym c.in-Columnar-rows.is) ∙ c.into_rows-rows.ensures.rows)
+    (record { ok = c.load_columnar.ensures.ok; few = c.load_columnar.ensures.few; err = c.load_columnar.ensures.err; why = c.load_columnar.ensures.why })))).stored
 
 pub returns-in-Keyed-clause-ok : goal.returns-in-Keyed-clause-ok
 returns-in-Keyed-clause-ok g c =
@@ -71,47 +71,47 @@ returns-in-Keyed-clause-unchanged g c =
     c.in-Keyed.keyed c.load.new.self c.load.result c.key.result.now c.key.ensures.positions (subst (IsStored c.self.inside.schema) c.in-Keyed.is c.self.invariant)
     (subst (λ l. LoadKeyed c.args.limits.now.bounds.rows l c.in-Keyed.keyed c.load.new.self c.load.result c.key.result.now) (ap rows_of (sym c.in-Keyed-rows.is) ∙ c.into_rows-rows.ensures.rows) (record { own = c.load.ensures.own; ok = c.load.ensures.ok; few = c.load.ensures.few; err = c.load.ensures.err; why = c.load.ensures.why }))).unchanged
 
-pub returns-in-Listed-clause-ok : goal.returns-in-Listed-clause-ok
-returns-in-Listed-clause-ok g c =
-    subst (λ t. OnOk c.load_listed.result (IsLoaded t c.args.staged.rows (table c.self.inside.schema c.load_listed.new.list))) c.self.view_is
-    (loaded_listed c.args.limits.now.bounds c.args.limits.now.in_range c.self.inside.schema c.args.staged.rows (staged_fit c.self.inside.schema c.args.staged.heading c.into_rows-rows.result c.args.staged.rows (c.requires ∙ sym (ap (λ (t : PlainTable). t.heading) c.self.view_is)) c.into_rows-rows.ensures.stored c.into_rows-rows.ensures.rows)
-    c.self.inside.rows (Listed c.load_listed.new.list) c.load_listed.result (subst IsListed (sym c.in-Listed.is) tt) tt c.self.invariant
-    (subst (λ r. LoadListed c.args.limits.now.bounds.rows c.args.staged.rows (rows_of r) c.load_listed.new.list c.load_listed.result) (sym c.in-Listed.is)
-    (subst (λ l. LoadListed c.args.limits.now.bounds.rows l c.in-Listed.list c.load_listed.new.list c.load_listed.result) (ap rows_of (sym c.in-Listed-rows.is) ∙ c.into_rows-rows.ensures.rows)
-    (record { ok = c.load_listed.ensures.ok; few = c.load_listed.ensures.few; err = c.load_listed.ensures.err; why = c.load_listed.ensures.why })))).ok
+pub returns-in-Columnar-clause-ok : goal.returns-in-Columnar-clause-ok
+returns-in-Columnar-clause-ok g c =
+    subst (λ t. OnOk c.load_columnar.result (IsLoaded t c.args.staged.rows (table c.self.inside.schema c.load_columnar.new.list))) c.self.view_is
+    (loaded_columnar c.args.limits.now.bounds c.args.limits.now.in_range c.self.inside.schema c.args.staged.rows (staged_fit c.self.inside.schema c.args.staged.heading c.into_rows-rows.result c.args.staged.rows (c.requires ∙ sym (ap (λ (t : PlainTable). t.heading) c.self.view_is)) c.into_rows-rows.ensures.stored c.into_rows-rows.ensures.rows)
+    c.self.inside.rows (Columnar c.load_columnar.new.list) c.load_columnar.result (subst IsColumnar (sym c.in-Columnar.is) tt) tt c.self.invariant
+    (subst (λ r. LoadColumnar c.args.limits.now.bounds.rows c.args.staged.rows (rows_of r) c.load_columnar.new.list c.load_columnar.result) (sym c.in-Columnar.is)
+    (subst (λ l. LoadColumnar c.args.limits.now.bounds.rows l c.in-Columnar.list c.load_columnar.new.list c.load_columnar.result) (ap rows_of (sym c.in-Columnar-rows.is) ∙ c.into_rows-rows.ensures.rows)
+    (record { ok = c.load_columnar.ensures.ok; few = c.load_columnar.ensures.few; err = c.load_columnar.ensures.err; why = c.load_columnar.ensures.why })))).ok
 
-pub returns-in-Listed-clause-taken : goal.returns-in-Listed-clause-taken
-returns-in-Listed-clause-taken g c =
-    subst (λ t. OnOk c.load_listed.result (load_refusal c.args.limits.now.bounds t c.args.staged.rows ≡ None)) c.self.view_is
-    (loaded_listed c.args.limits.now.bounds c.args.limits.now.in_range c.self.inside.schema c.args.staged.rows (staged_fit c.self.inside.schema c.args.staged.heading c.into_rows-rows.result c.args.staged.rows (c.requires ∙ sym (ap (λ (t : PlainTable). t.heading) c.self.view_is)) c.into_rows-rows.ensures.stored c.into_rows-rows.ensures.rows)
-    c.self.inside.rows (Listed c.load_listed.new.list) c.load_listed.result (subst IsListed (sym c.in-Listed.is) tt) tt c.self.invariant
-    (subst (λ r. LoadListed c.args.limits.now.bounds.rows c.args.staged.rows (rows_of r) c.load_listed.new.list c.load_listed.result) (sym c.in-Listed.is)
-    (subst (λ l. LoadListed c.args.limits.now.bounds.rows l c.in-Listed.list c.load_listed.new.list c.load_listed.result) (ap rows_of (sym c.in-Listed-rows.is) ∙ c.into_rows-rows.ensures.rows)
-    (record { ok = c.load_listed.ensures.ok; few = c.load_listed.ensures.few; err = c.load_listed.ensures.err; why = c.load_listed.ensures.why })))).taken
+pub returns-in-Columnar-clause-taken : goal.returns-in-Columnar-clause-taken
+returns-in-Columnar-clause-taken g c =
+    subst (λ t. OnOk c.load_columnar.result (load_refusal c.args.limits.now.bounds t c.args.staged.rows ≡ None)) c.self.view_is
+    (loaded_columnar c.args.limits.now.bounds c.args.limits.now.in_range c.self.inside.schema c.args.staged.rows (staged_fit c.self.inside.schema c.args.staged.heading c.into_rows-rows.result c.args.staged.rows (c.requires ∙ sym (ap (λ (t : PlainTable). t.heading) c.self.view_is)) c.into_rows-rows.ensures.stored c.into_rows-rows.ensures.rows)
+    c.self.inside.rows (Columnar c.load_columnar.new.list) c.load_columnar.result (subst IsColumnar (sym c.in-Columnar.is) tt) tt c.self.invariant
+    (subst (λ r. LoadColumnar c.args.limits.now.bounds.rows c.args.staged.rows (rows_of r) c.load_columnar.new.list c.load_columnar.result) (sym c.in-Columnar.is)
+    (subst (λ l. LoadColumnar c.args.limits.now.bounds.rows l c.in-Columnar.list c.load_columnar.new.list c.load_columnar.result) (ap rows_of (sym c.in-Columnar-rows.is) ∙ c.into_rows-rows.ensures.rows)
+    (record { ok = c.load_columnar.ensures.ok; few = c.load_columnar.ensures.few; err = c.load_columnar.ensures.err; why = c.load_columnar.ensures.why })))).taken
 
-pub returns-in-Listed-clause-refused : goal.returns-in-Listed-clause-refused
-returns-in-Listed-clause-refused g c =
-    subst (λ t. IfErr c.load_listed.result (WhyNotLoaded c.args.limits.now.bounds t c.args.staged.rows)) c.self.view_is
-    (loaded_listed c.args.limits.now.bounds c.args.limits.now.in_range c.self.inside.schema c.args.staged.rows (staged_fit c.self.inside.schema c.args.staged.heading c.into_rows-rows.result c.args.staged.rows (c.requires ∙ sym (ap (λ (t : PlainTable). t.heading) c.self.view_is)) c.into_rows-rows.ensures.stored c.into_rows-rows.ensures.rows)
-    c.self.inside.rows (Listed c.load_listed.new.list) c.load_listed.result (subst IsListed (sym c.in-Listed.is) tt) tt c.self.invariant
-    (subst (λ r. LoadListed c.args.limits.now.bounds.rows c.args.staged.rows (rows_of r) c.load_listed.new.list c.load_listed.result) (sym c.in-Listed.is)
-    (subst (λ l. LoadListed c.args.limits.now.bounds.rows l c.in-Listed.list c.load_listed.new.list c.load_listed.result) (ap rows_of (sym c.in-Listed-rows.is) ∙ c.into_rows-rows.ensures.rows)
-    (record { ok = c.load_listed.ensures.ok; few = c.load_listed.ensures.few; err = c.load_listed.ensures.err; why = c.load_listed.ensures.why })))).refused
+pub returns-in-Columnar-clause-refused : goal.returns-in-Columnar-clause-refused
+returns-in-Columnar-clause-refused g c =
+    subst (λ t. IfErr c.load_columnar.result (WhyNotLoaded c.args.limits.now.bounds t c.args.staged.rows)) c.self.view_is
+    (loaded_columnar c.args.limits.now.bounds c.args.limits.now.in_range c.self.inside.schema c.args.staged.rows (staged_fit c.self.inside.schema c.args.staged.heading c.into_rows-rows.result c.args.staged.rows (c.requires ∙ sym (ap (λ (t : PlainTable). t.heading) c.self.view_is)) c.into_rows-rows.ensures.stored c.into_rows-rows.ensures.rows)
+    c.self.inside.rows (Columnar c.load_columnar.new.list) c.load_columnar.result (subst IsColumnar (sym c.in-Columnar.is) tt) tt c.self.invariant
+    (subst (λ r. LoadColumnar c.args.limits.now.bounds.rows c.args.staged.rows (rows_of r) c.load_columnar.new.list c.load_columnar.result) (sym c.in-Columnar.is)
+    (subst (λ l. LoadColumnar c.args.limits.now.bounds.rows l c.in-Columnar.list c.load_columnar.new.list c.load_columnar.result) (ap rows_of (sym c.in-Columnar-rows.is) ∙ c.into_rows-rows.ensures.rows)
+    (record { ok = c.load_columnar.ensures.ok; few = c.load_columnar.ensures.few; err = c.load_columnar.ensures.err; why = c.load_columnar.ensures.why })))).refused
 
-pub returns-in-Listed-clause-unchanged : goal.returns-in-Listed-clause-unchanged
-returns-in-Listed-clause-unchanged g c =
-    subst (λ t. OnErr c.load_listed.result ((table c.self.inside.schema c.load_listed.new.list) ≡ t)) c.self.view_is
-    (loaded_listed c.args.limits.now.bounds c.args.limits.now.in_range c.self.inside.schema c.args.staged.rows (staged_fit c.self.inside.schema c.args.staged.heading c.into_rows-rows.result c.args.staged.rows (c.requires ∙ sym (ap (λ (t : PlainTable). t.heading) c.self.view_is)) c.into_rows-rows.ensures.stored c.into_rows-rows.ensures.rows)
-    c.self.inside.rows (Listed c.load_listed.new.list) c.load_listed.result (subst IsListed (sym c.in-Listed.is) tt) tt c.self.invariant
-    (subst (λ r. LoadListed c.args.limits.now.bounds.rows c.args.staged.rows (rows_of r) c.load_listed.new.list c.load_listed.result) (sym c.in-Listed.is)
-    (subst (λ l. LoadListed c.args.limits.now.bounds.rows l c.in-Listed.list c.load_listed.new.list c.load_listed.result) (ap rows_of (sym c.in-Listed-rows.is) ∙ c.into_rows-rows.ensures.rows)
-    (record { ok = c.load_listed.ensures.ok; few = c.load_listed.ensures.few; err = c.load_listed.ensures.err; why = c.load_listed.ensures.why })))).unchanged
+pub returns-in-Columnar-clause-unchanged : goal.returns-in-Columnar-clause-unchanged
+returns-in-Columnar-clause-unchanged g c =
+    subst (λ t. OnErr c.load_columnar.result ((table c.self.inside.schema c.load_columnar.new.list) ≡ t)) c.self.view_is
+    (loaded_columnar c.args.limits.now.bounds c.args.limits.now.in_range c.self.inside.schema c.args.staged.rows (staged_fit c.self.inside.schema c.args.staged.heading c.into_rows-rows.result c.args.staged.rows (c.requires ∙ sym (ap (λ (t : PlainTable). t.heading) c.self.view_is)) c.into_rows-rows.ensures.stored c.into_rows-rows.ensures.rows)
+    c.self.inside.rows (Columnar c.load_columnar.new.list) c.load_columnar.result (subst IsColumnar (sym c.in-Columnar.is) tt) tt c.self.invariant
+    (subst (λ r. LoadColumnar c.args.limits.now.bounds.rows c.args.staged.rows (rows_of r) c.load_columnar.new.list c.load_columnar.result) (sym c.in-Columnar.is)
+    (subst (λ l. LoadColumnar c.args.limits.now.bounds.rows l c.in-Columnar.list c.load_columnar.new.list c.load_columnar.result) (ap rows_of (sym c.in-Columnar-rows.is) ∙ c.into_rows-rows.ensures.rows)
+    (record { ok = c.load_columnar.ensures.ok; few = c.load_columnar.ensures.few; err = c.load_columnar.ensures.err; why = c.load_columnar.ensures.why })))).unchanged
 
-pub load_listed-requires : goal.load_listed-requires
-load_listed-requires g c =
-    let staged = c.in-Listed-rows.staged in
-    let fits = staged_fit c.self.inside.schema c.args.staged.heading (Listed staged) staged (c.requires ∙ sym (ap (λ (t : PlainTable). t.heading) c.self.view_is)) (subst (IsStored c.args.staged.heading) c.in-Listed-rows.is c.into_rows-rows.ensures.stored) refl in
+pub load_columnar-requires : goal.load_columnar-requires
+load_columnar-requires g c =
+    let staged = c.in-Columnar-rows.staged in
+    let fits = staged_fit c.self.inside.schema c.args.staged.heading (Columnar staged) staged (c.requires ∙ sym (ap (λ (t : PlainTable). t.heading) c.self.view_is)) (subst (IsStored c.args.staged.heading) c.in-Columnar-rows.is c.into_rows-rows.ensures.stored) refl in
     record {
       few = rows_limit c.args.limits.now.bounds c.args.limits.now.in_range;
-      even = each_as_long c.self.inside.schema.columns c.in-Listed.list staged (subst (IsStored c.self.inside.schema) c.in-Listed.is c.self.invariant).standing.fitting fits;
+      even = each_as_long c.self.inside.schema.columns c.in-Columnar.list staged (subst (IsStored c.self.inside.schema) c.in-Columnar.is c.self.invariant).valid.fitting fits;
     }

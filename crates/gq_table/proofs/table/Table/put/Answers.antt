@@ -7,9 +7,9 @@ use Rattle.gq_table.specs.Changes.{IsPut}
 use Rattle.gq_table.specs.Keyed.{OwnKeys, AreApart}
 use Rattle.gq_table.specs.Refusing.{row_refusal, WhyNotPut}
 use Rattle.gq_table.specs.Stored.{IsStored, rows_of}
-use Rattle.gq_table.specs.declared.rows.Storage.TheVariants.{Listed}
-use Rattle.gq_table.proofs.StandingLemmas.{table, key_in_range}
-use Rattle.gq_table.proofs.StoredLemmas.{apart_of, upserted_keyed, upserted_listed, keyed_own, keyed_some, IsListed, PutListed}
+use Rattle.gq_table.specs.declared.rows.Storage.TheVariants.{Columnar}
+use Rattle.gq_table.proofs.ValidTableLemmas.{table, key_in_range}
+use Rattle.gq_table.proofs.StoredLemmas.{apart_of, upserted_keyed, upserted_columnar, keyed_own, keyed_some, IsColumnar, PutColumnar}
 use Rattle.gq_table.proofs.table.Table.put.Goals as goal
 
 pub put-requires : goal.put-requires
@@ -18,16 +18,16 @@ put-requires g c =
     let fits = subst (λ t. fits_columns t.heading.columns c.args.row.now ≡ true) (sym c.self.view_is) c.requires.fits in
     record {
       columns = subst (All (λ position. position < length c.args.row.now)) (sym c.key.ensures.positions) (key_in_range c.self.inside.schema c.args.row.now c.key.ensures.heading fits);
-      even = all_as_long c.self.inside.schema.columns c.in-Keyed.rows.rows (length c.args.row.now) stored.standing.fitting (as_long c.self.inside.schema.columns c.args.row.now fits);
+      even = all_as_long c.self.inside.schema.columns c.in-Keyed.rows.rows (length c.args.row.now) stored.valid.fitting (as_long c.self.inside.schema.columns c.args.row.now fits);
       own = subst (λ k. OwnKeys k c.in-Keyed.rows) (sym c.key.ensures.positions) (keyed_own c.self.inside.schema.key c.in-Keyed.rows stored.placed);
-      apart = subst (λ k. IsTrue (AreApart k c.in-Keyed.rows.rows)) (sym c.key.ensures.positions) (apart_of c.self.inside.schema.key c.in-Keyed.rows.rows (keyed_some c.self.inside.schema.key c.in-Keyed.rows stored.placed) stored.standing.keyed);
+      apart = subst (λ k. IsTrue (AreApart k c.in-Keyed.rows.rows)) (sym c.key.ensures.positions) (apart_of c.self.inside.schema.key c.in-Keyed.rows.rows (keyed_some c.self.inside.schema.key c.in-Keyed.rows stored.placed) stored.valid.keyed);
     }
 
-pub put_listed-requires : goal.put_listed-requires
-put_listed-requires g c =
+pub put_columnar-requires : goal.put_columnar-requires
+put_columnar-requires g c =
     let columns = c.self.inside.schema.columns in
     let fits = subst (λ t. fits_columns t.heading.columns c.args.row.now ≡ true) (sym c.self.view_is) c.requires.fits in
-    all_as_long columns c.in-Listed.rows (length c.args.row.now) (subst (IsStored c.self.inside.schema) c.in-Listed.is c.self.invariant).standing.fitting (as_long columns c.args.row.now fits)
+    all_as_long columns c.in-Columnar.rows (length c.args.row.now) (subst (IsStored c.self.inside.schema) c.in-Columnar.is c.self.invariant).valid.fitting (as_long columns c.args.row.now fits)
 
 pub invariant_of-self : goal.invariant_of-self
 invariant_of-self g c =
@@ -35,12 +35,12 @@ invariant_of-self g c =
     c.in-Keyed.rows c.put.new.self c.put.result c.key.result.now c.key.ensures.positions (subst (IsStored c.self.inside.schema) c.in-Keyed.is c.self.invariant)
     (record { own = c.put.ensures.own; ok = c.put.ensures.ok; few = c.put.ensures.few; err = c.put.ensures.err; why = c.put.ensures.why })).stored
 
-pub invariant_of-self-in-Listed : goal.invariant_of-self-in-Listed
-invariant_of-self-in-Listed g c =
-    (upserted_listed c.args.limits.now.bounds c.args.limits.now.in_range c.self.inside.schema c.args.row.now (subst (λ t. fits_columns t.heading.columns c.args.row.now ≡ true) (sym c.self.view_is) c.requires.fits) (subst (λ t. has_null t.heading.key c.args.row.now ≡ false) (sym c.self.view_is) c.requires.keyed)
-    c.self.inside.rows (Listed c.put_listed.new.rows) c.put_listed.result (subst IsListed (sym c.in-Listed.is) tt) tt c.self.invariant
-    (subst (λ r. PutListed c.args.limits.now.bounds.rows c.args.row.now (rows_of r) c.put_listed.new.rows c.put_listed.result) (sym c.in-Listed.is)
-    (record { ok = c.put_listed.ensures.ok; few = c.put_listed.ensures.few; err = c.put_listed.ensures.err; why = c.put_listed.ensures.why }))).stored
+pub invariant_of-self-in-Columnar : goal.invariant_of-self-in-Columnar
+invariant_of-self-in-Columnar g c =
+    (upserted_columnar c.args.limits.now.bounds c.args.limits.now.in_range c.self.inside.schema c.args.row.now (subst (λ t. fits_columns t.heading.columns c.args.row.now ≡ true) (sym c.self.view_is) c.requires.fits) (subst (λ t. has_null t.heading.key c.args.row.now ≡ false) (sym c.self.view_is) c.requires.keyed)
+    c.self.inside.rows (Columnar c.put_columnar.new.rows) c.put_columnar.result (subst IsColumnar (sym c.in-Columnar.is) tt) tt c.self.invariant
+    (subst (λ r. PutColumnar c.args.limits.now.bounds.rows c.args.row.now (rows_of r) c.put_columnar.new.rows c.put_columnar.result) (sym c.in-Columnar.is)
+    (record { ok = c.put_columnar.ensures.ok; few = c.put_columnar.ensures.few; err = c.put_columnar.ensures.err; why = c.put_columnar.ensures.why }))).stored
 
 pub returns-in-Keyed-clause-ok : goal.returns-in-Keyed-clause-ok
 returns-in-Keyed-clause-ok g c =
@@ -70,5 +70,5 @@ returns-in-Keyed-clause-unchanged g c =
     c.in-Keyed.rows c.put.new.self c.put.result c.key.result.now c.key.ensures.positions (subst (IsStored c.self.inside.schema) c.in-Keyed.is c.self.invariant)
     (record { own = c.put.ensures.own; ok = c.put.ensures.ok; few = c.put.ensures.few; err = c.put.ensures.err; why = c.put.ensures.why })).unchanged
 
-pub returns-in-Listed-clause-taken : goal.returns-in-Listed-clause-taken
-returns-in-Listed-clause-taken g c = grind (arith, common_steps)
+pub returns-in-Columnar-clause-taken : goal.returns-in-Columnar-clause-taken
+returns-in-Columnar-clause-taken g c = grind (arith, common_steps)

@@ -1,5 +1,5 @@
 use Rattle.std.proofs.Common.{◌<◌, All, length, sym, subst, ◌∙◌}
-use Rattle.gq_table.proofs.StandingLemmas.{key_in_range}
+use Rattle.gq_table.proofs.ValidTableLemmas.{key_in_range}
 use Rattle.gq_table.proofs.table.Table.upsert.Goals as goal
 
 pub has_null-requires : goal.has_null-requires

@@ -1,0 +1,10 @@
+use Rattle.std.proofs.Common.{◌≡◌, ◌++◌, [], length, map, take, drop, slice_index_or}
+use Rattle.gq_row.specs.declared.value.Value.TheVariants.{Null}
+use Rattle.gq_table.proofs.column_store.pick_cells.Given as goal
+
+abbrev pub invariant-loop-i : goal.invariant-loop-i
+invariant-loop-i l = record {
+  size : length l.cells ≡ length l.columns;
+  written : take l.i l.cells ++ map (λ column. slice_index_or (slice_index_or l.all column []) l.position Null) (drop l.i l.columns)
+      ≡ map (λ column. slice_index_or (slice_index_or l.all column []) l.position Null) l.columns;
+}

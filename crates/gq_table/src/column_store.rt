@@ -1,0 +1,292 @@
+//! Rows of one length, by columns.
+ghost use Rattle.std.specs.Prelude.{◌≡◌, ◌<◌, ◌==◌, ◌++◌, ◌∷◌, [], ℕ, All, IfOk, IsOk, OnOk, OnErr, length, map, replicate, take, slice_index_or};
+ghost use Rattle.gq_row.specs.declared.value.Value.TheVariants.{Null};
+ghost use Rattle.gq_row.specs.Rows.{cells_in};
+ghost use Rattle.gq_row.specs.Written.{IsInPlace};
+ghost use Rattle.gq_table.specs.Columns.{AreAsLong, alone, columns_behind, rows_across};
+
+use gq_cells::Cells;
+use gq_row::Value;
+use std::alloc::{AllocError, Global};
+use std::marker::Model;
+use std::mem;
+
+/// Rows of one length, seen as the list of rows. Their cells are stored by columns, so that nothing is kept
+/// for a row but its cells, and those of a column of numbers take half of what values take.
+#[derive(Drop)]
+pub struct ColumnStore {
+    columns: Vec<Cells>,
+    rows: usize,
+}
+
+impl Model for ColumnStore {
+    ghost use Rattle.std.specs.Prelude.{List};
+    ghost use Rattle.gq_row.specs.declared.value.Value.{Value as Cell};
+    ghost use Rattle.gq_table.specs.Columns.{AreAsLong, rows_across};
+
+    ghost Value = { List (List Cell) };
+
+    ghost view = { λ g. rows_across g.rows g.columns.items };
+
+    ghost invariant = { λ g. AreAsLong g.rows g.columns.items };
+}
+
+impl ColumnStore {
+    /// No row. It takes no memory.
+    pub fn new(alloc: Global) -> ColumnStore
+        ensures { result ≡ [] }
+    {
+        ColumnStore {
+            columns: Vec::new(alloc),
+            rows: 0,
+        }
+    }
+
+    /// Makes room for so many rows more, where there is one already.
+    pub fn reserve(&mut self, rows: usize) -> Result<(), AllocError>
+        ensures { self.new ≡ self.old }
+    {
+        reserve_cells(self.columns.as_mut_slice(), rows)
+    }
+
+    /// The number of rows.
+    #[inline]
+    pub fn len(&self) -> usize
+        ensures { result ≡ length self.now }
+    {
+        self.rows
+    }
+
+    #[inline]
+    pub fn is_empty(&self) -> bool
+        ensures { result ≡ (length self.now == 0) }
+    {
+        self.rows == 0
+    }
+
+    /// Writes the values of the row at a position, counted from 0, over those of another. Where that is as
+    /// long, only texts of more than 22 bytes take memory.
+    #[inline]
+    pub fn copy_row(
+        &self,
+        alloc: Global,
+        position: usize,
+        row: &mut Vec<Value>,
+    ) -> Result<(), AllocError>
+        requires { position < length self.now }
+        ensures { OnOk result (row.new.items ≡ slice_index_or self.now position []) }
+    {
+        if row.len() != self.columns.len() {
+            fit(row, self.columns.len())?;
+        }
+        write_cells(alloc, self.columns.as_slice(), position, row.as_mut_slice())
+    }
+
+    /// Writes the values in some columns of the row at a position over as many others. Only texts of more
+    /// than 22 bytes take memory.
+    #[inline]
+    pub fn copy_cells(
+        &self,
+        alloc: Global,
+        position: usize,
+        columns: &[usize],
+        cells: &mut [Value],
+    ) -> Result<(), AllocError>
+        requires within { All (λ column. column < length (slice_index_or self.now position []))
+            columns.now }
+        requires all { length cells.old ≡ length columns.now }
+        ensures copied { OnOk result (cells.new ≡
+            cells_in columns.now (slice_index_or self.now position [])) }
+        ensures in_place { All IsInPlace (cells_in columns.now (slice_index_or self.now position []))
+            → IsOk result }
+    {
+        pick_cells(alloc, self.columns.as_slice(), position, columns, cells)
+    }
+
+    /// Puts a row behind the others, all as long as it is. Its texts move out of it.
+    #[inline]
+    pub fn push(&mut self, alloc: Global, row: &mut [Value]) -> Result<(), AllocError>
+        requires { All (λ other. length other ≡ length row.old) self.old }
+        ensures pushed { OnOk result (self.new ≡ self.old ++ row.old ∷ []) }
+        ensures unchanged { OnErr result (self.new ≡ self.old) }
+    {
+        // There is no memory for so many rows that this fails.
+        let Some(rows) = self.rows.checked_add(1) else {
+            return Err(AllocError);
+        };
+        start_columns(alloc, &mut self.columns, self.rows, row.len())?;
+        match push_cells(alloc, self.columns.as_mut_slice(), row) {
+            Ok(()) => {
+                self.rows = rows;
+                Ok(())
+            }
+            Err(e) => {
+                truncate_columns(self.columns.as_mut_slice(), self.rows);
+                Err(e)
+            }
+        }
+    }
+
+    /// Puts all rows of another list behind the others, all of one length. They move.
+    pub fn append(&mut self, alloc: Global, more: ColumnStore) -> Result<(), AllocError>
+        requires { All (λ row. All (λ other. length other ≡ length row) self.old) more }
+        ensures appended { OnOk result (self.new ≡ self.old ++ more) }
+        ensures unchanged { OnErr result (self.new ≡ self.old) }
+    {
+        if self.rows == 0 {
+            *self = more;
+            return Ok(());
+        }
+        let ColumnStore { mut columns, rows } = more;
+        if rows == 0 {
+            return Ok(());
+        }
+        let Some(rows) = self.rows.checked_add(rows) else {
+            return Err(AllocError);
+        };
+        match append_columns(alloc, self.columns.as_mut_slice(), columns.as_mut_slice()) {
+            Ok(()) => {
+                self.rows = rows;
+                Ok(())
+            }
+            Err(e) => {
+                truncate_columns(self.columns.as_mut_slice(), self.rows);
+                Err(e)
+            }
+        }
+    }
+}
+
+// Makes the columns so many, where they have no rows yet.
+#[inline]
+fn start_columns(
+    alloc: Global,
+    columns: &mut Vec<Cells>,
+    rows: usize,
+    width: usize,
+) -> Result<(), AllocError>
+    requires long { AreAsLong rows columns.old.items }
+    requires even { All (λ row. length row ≡ width) (rows_across rows columns.old.items) }
+    ensures long { AreAsLong rows columns.new.items }
+    ensures same { rows_across rows columns.new.items ≡ rows_across rows columns.old.items }
+    ensures wide { OnOk result (length columns.new.items ≡ width) }
+{
+    if rows == 0 {
+        *columns = no_cells(alloc, width)?;
+    }
+    Ok(())
+}
+
+// So many columns without cells.
+fn no_cells(alloc: Global, columns: usize) -> Result<Vec<Cells>, AllocError>
+    ensures { IfOk result (λ made. made.items ≡ replicate columns []) }
+{
+    let mut made = Vec::with_capacity(alloc, columns)?;
+    for _ in 0..columns {
+        made.push(Cells::new(alloc))?;
+    }
+    Ok(made)
+}
+
+// Makes room for so many cells more in each column.
+fn reserve_cells(columns: &mut [Cells], cells: usize) -> Result<(), AllocError>
+    ensures { columns.new ≡ columns.old }
+{
+    for i in 0..columns.len() {
+        columns[i].reserve(cells)?;
+    }
+    Ok(())
+}
+
+// Makes a row so long, whatever its values.
+#[cold]
+pub(crate) fn fit(row: &mut Vec<Value>, width: usize) -> Result<(), AllocError>
+    ensures { OnOk result (length row.new.items ≡ width) }
+{
+    row.resize_with(width, || Value::Null)
+}
+
+// Writes the cells that stand at a position in columns over as many values.
+#[inline]
+fn write_cells(
+    alloc: Global,
+    columns: &[Cells],
+    position: usize,
+    row: &mut [Value],
+) -> Result<(), AllocError>
+    requires within { All (λ column. position < length column) columns.now }
+    requires all { length row.old ≡ length columns.now }
+    ensures { OnOk result (row.new ≡ map (λ column. slice_index_or column position Null) columns.now) }
+{
+    for i in 0..columns.len() {
+        columns[i].copy_to(alloc, position, &mut row[i])?;
+    }
+    Ok(())
+}
+
+// Writes the cells that stand at a position in some of the columns over as many values.
+#[inline]
+fn pick_cells(
+    alloc: Global,
+    all: &[Cells],
+    position: usize,
+    columns: &[usize],
+    cells: &mut [Value],
+) -> Result<(), AllocError>
+    requires columns { All (λ column. column < length all.now) columns.now }
+    requires within { All (λ column. position < length (slice_index_or all.now column []))
+        columns.now }
+    requires all { length cells.old ≡ length columns.now }
+    ensures copied { OnOk result (cells.new ≡
+        map (λ column. slice_index_or (slice_index_or all.now column []) position Null) columns.now) }
+    ensures in_place { All IsInPlace
+        (map (λ column. slice_index_or (slice_index_or all.now column []) position Null) columns.now)
+        → IsOk result }
+{
+    for i in 0..columns.len() {
+        all[columns[i]].copy_to(alloc, position, &mut cells[i])?;
+    }
+    Ok(())
+}
+
+// Puts the cells of a row behind those of the columns, of which it has as many. Refused, some columns may
+// have got theirs.
+#[inline]
+fn push_cells(alloc: Global, columns: &mut [Cells], row: &mut [Value]) -> Result<(), AllocError>
+    requires all { length row.old ≡ length columns.old }
+    ensures pushed { OnOk result (columns.new ≡ columns_behind columns.old (map alone row.old)) }
+    ensures kept { (n : ℕ) → AreAsLong n columns.old → map (take n) columns.new ≡ columns.old }
+{
+    for i in 0..columns.len() {
+        columns[i].push(alloc, &mut row[i])?;
+    }
+    Ok(())
+}
+
+// Puts the cells of as many other columns behind those of the columns. Refused, some columns may have got
+// theirs.
+fn append_columns(
+    alloc: Global,
+    columns: &mut [Cells],
+    more: &mut [Cells],
+) -> Result<(), AllocError>
+    requires all { length more.old ≡ length columns.old }
+    ensures appended { OnOk result (columns.new ≡ columns_behind columns.old more.old) }
+    ensures kept { (n : ℕ) → AreAsLong n columns.old → map (take n) columns.new ≡ columns.old }
+{
+    for i in 0..columns.len() {
+        let cells = mem::replace(&mut more[i], Cells::new(alloc));
+        columns[i].append(alloc, cells)?;
+    }
+    Ok(())
+}
+
+// Leaves so many cells in each column.
+#[cold]
+fn truncate_columns(columns: &mut [Cells], cells: usize)
+    ensures { columns.new ≡ map (take cells) columns.old }
+{
+    for i in 0..columns.len() {
+        columns[i].truncate(cells);
+    }
+}
