@@ -1,3 +1,3 @@
-pub mod MixedLemmas
+pub mod TaggedCellLemmas
 pub mod OrderLemmas
 pub mod RowsLemmas

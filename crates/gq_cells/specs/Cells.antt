@@ -4,11 +4,11 @@ use Rattle.gq_row.specs.declared.value.Value.{Value}
 use Rattle.gq_row.specs.declared.value.Value.TheVariants.{Null, Int, Text, NoCase}
 use Rattle.gq_cells.specs.declared.cell_ref.CellRef.{CellRef}
 use Rattle.gq_cells.specs.declared.cell_ref.CellRef.TheVariants as lent
-use Rattle.gq_cells.specs.declared.row_ref.Lent.{Lent}
-use Rattle.gq_cells.specs.declared.row_ref.Lent.TheVariants as together
+use Rattle.gq_cells.specs.declared.row_ref.CellSlice.{CellSlice}
+use Rattle.gq_cells.specs.declared.row_ref.CellSlice.TheVariants as together
 use Rattle.gq_cells.specs.declared.cells.Stored.{Stored}
 use Rattle.gq_cells.specs.Words.{word_value}
-use Rattle.gq_cells.specs.declared.cells.Stored.TheVariants.{Numbers, Nullable, Values, Mixed}
+use Rattle.gq_cells.specs.declared.cells.Stored.TheVariants.{Numbers, Nullable, Values, Tagged}
 
 -- the value of a number, or null
 abbrev pub number_cell : Option ℤ → Value
@@ -33,32 +33,32 @@ abbrev pub cells_of : Stored → List Value
 cells_of (Numbers numbers) = map Int numbers.items
 cells_of (Nullable numbers) = map number_cell numbers.items
 cells_of (Values values) = values.items
-cells_of (Mixed values) = values
+cells_of (Tagged values) = values
 
 -- values that are lent together
-abbrev pub lent_values : Lent → List Value
-lent_values (together.Numbers numbers) = map Int numbers.now
-lent_values (together.Nullable numbers) = map number_cell numbers.now
-lent_values (together.Values values) = values.now
-lent_values (together.Mixed words beside) = map (word_value beside.now) words.now
+abbrev pub slice_values : CellSlice → List Value
+slice_values (together.Numbers numbers) = map Int numbers.now
+slice_values (together.Nullable numbers) = map number_cell numbers.now
+slice_values (together.Values values) = values.now
+slice_values (together.Tagged words overflow) = map (word_value overflow.now) words.now
 
 -- stored as numbers among which null may stand
 abbrev pub HasNullable : Stored → Type 0
 HasNullable (Numbers numbers) = ⊥
 HasNullable (Nullable numbers) = Unit {0}
 HasNullable (Values values) = ⊥
-HasNullable (Mixed values) = ⊥
+HasNullable (Tagged values) = ⊥
 
 -- stored as values
 abbrev pub HasValues : Stored → Type 0
 HasValues (Numbers numbers) = ⊥
 HasValues (Nullable numbers) = ⊥
 HasValues (Values values) = Unit {0}
-HasValues (Mixed values) = ⊥
+HasValues (Tagged values) = ⊥
 
 -- stored so that texts may stand among them
 abbrev pub HasTexts : Stored → Type 0
 HasTexts (Numbers numbers) = ⊥
 HasTexts (Nullable numbers) = ⊥
 HasTexts (Values values) = Unit {0}
-HasTexts (Mixed values) = Unit {0}
+HasTexts (Tagged values) = Unit {0}

@@ -1,15 +1,15 @@
--- Words that tell values, numbers by themselves and others by their places beside the words.
+-- Tagged words: numbers by themselves, and other values by their indices in the overflow.
 use Rattle.std.specs.Prelude.{◌^◌, ◌<◌, ◌≤◌, ◌-◌, ◌-ℤ◌, ℕ, Bool, true, false, List, cond, nat_lt, pos, slice_index_or}
 use Rattle.std.specs.declared.cmp.Ordering.{Ordering}
 use Rattle.gq_row.specs.Order.{compare_values, folded_order}
 use Rattle.gq_row.specs.declared.value.Value.{Value}
 use Rattle.gq_row.specs.declared.value.Value.TheVariants.{Int, Null}
 
--- the value of a word: the number that it is without 2^62, or from 2^63 on what stands beside, at the place that it is without 2^63
+-- the value of a word: below 2^63 the number without its bias of 2^62, else the value of the overflow at the index without its bias of 2^63
 abbrev pub word_value : List Value → ℕ → Value
-word_value beside word = cond (nat_lt word (2 ^ 63)) (Int (pos word -ℤ pos (2 ^ 62))) (slice_index_or beside (word - 2 ^ 63) Null)
+word_value overflow word = cond (nat_lt word (2 ^ 63)) (Int (pos word -ℤ pos (2 ^ 62))) (slice_index_or overflow (word - 2 ^ 63) Null)
 
--- a word tells of a number, or of one of so many places
+-- a word is a number, or an index below this number of places
 abbrev pub IsWord : ℕ → ℕ → Type 0
 IsWord places word = 2 ^ 63 ≤ word → word - 2 ^ 63 < places
 

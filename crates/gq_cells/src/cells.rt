@@ -3,14 +3,14 @@ ghost use Rattle.std.specs.Prelude.{◌≡◌, ◌<◌, ◌≤◌, ◌+◌, ◌-
 ghost use Rattle.gq_row.specs.declared.value.Value.TheVariants.{Int, Null};
 ghost use Rattle.gq_row.specs.Order.{compare_keys};
 ghost use Rattle.gq_row.specs.Written.{IsInPlace};
-ghost use Rattle.gq_cells.specs.Cells.{IsText, lent_values, number_cell, value_of};
+ghost use Rattle.gq_cells.specs.Cells.{IsText, slice_values, number_cell, value_of};
 ghost use Rattle.gq_cells.specs.Lists.{IsPart, part, row_at};
 
 use crate::cell_ref::CellRef;
-use crate::mixed::Mixed;
 use crate::order::{compare_nullable, compare_numbers};
-use crate::row_ref::Lent;
+use crate::row_ref::CellSlice;
 use crate::rows::Span;
+use crate::tagged_cells::TaggedCells;
 use gq_row::{Value, compare_cells};
 use std::alloc::{AllocError, Global};
 use std::cmp::Ordering;
@@ -32,7 +32,7 @@ pub(crate) enum Stored {
     Numbers(Vec<i64>),
     Nullable(Vec<Option<i64>>),
     Values(Vec<Value>),
-    Mixed(Mixed),
+    Tagged(TaggedCells),
 }
 
 impl Model for Cells {
@@ -56,7 +56,7 @@ impl Cells {
         }
     }
 
-    /// No value, of those among which a text will have many numbers beside it, and is apart from them. It takes no memory.
+    /// An empty list that stores texts out of line. It takes no memory.
     pub fn with_texts_apart(alloc: Global) -> Cells
         ensures { result ≡ [] }
     {
@@ -84,7 +84,7 @@ impl Cells {
             Stored::Numbers(numbers) => values_of(alloc, numbers.as_slice()),
             Stored::Nullable(numbers) => values_of_nullable(alloc, numbers.as_slice()),
             Stored::Values(values) => Ok(values),
-            Stored::Mixed(values) => values.to_values(alloc),
+            Stored::Tagged(values) => values.to_values(alloc),
         }
     }
 
@@ -97,7 +97,7 @@ impl Cells {
             Stored::Numbers(numbers) => numbers.len(),
             Stored::Nullable(numbers) => numbers.len(),
             Stored::Values(values) => values.len(),
-            Stored::Mixed(values) => values.len(),
+            Stored::Tagged(values) => values.len(),
         }
     }
 
@@ -111,28 +111,28 @@ impl Cells {
             Stored::Numbers(numbers) => CellRef::Int(numbers[position]),
             Stored::Nullable(numbers) => CellRef::of_number(numbers[position]),
             Stored::Values(values) => CellRef::of(&values[position]),
-            Stored::Mixed(values) => values.get(position),
+            Stored::Tagged(values) => values.get(position),
         }
     }
 
     // The values of a part where they stand.
     #[inline(always)]
-    pub(crate) fn lend(&self, part: Span) -> Lent<'_>
+    pub(crate) fn lend(&self, part: Span) -> CellSlice<'_>
         requires { IsPart self.now part }
-        ensures { lent_values result ≡ row_at self.now part }
+        ensures { slice_values result ≡ row_at self.now part }
     {
         match &self.stored {
-            Stored::Numbers(numbers) => Lent::Numbers(&numbers[part.start..part.end]),
-            Stored::Nullable(numbers) => Lent::Nullable(&numbers[part.start..part.end]),
-            Stored::Values(values) => Lent::Values(&values[part.start..part.end]),
-            Stored::Mixed(values) => {
-                let (words, beside) = values.lend(part);
-                Lent::Mixed(words, beside)
+            Stored::Numbers(numbers) => CellSlice::Numbers(&numbers[part.start..part.end]),
+            Stored::Nullable(numbers) => CellSlice::Nullable(&numbers[part.start..part.end]),
+            Stored::Values(values) => CellSlice::Values(&values[part.start..part.end]),
+            Stored::Tagged(values) => {
+                let (words, overflow) = values.lend(part);
+                CellSlice::Tagged(words, overflow)
             }
         }
     }
 
-    /// Makes room for so many values more.
+    /// Makes room for this number of values more.
     pub fn reserve(&mut self, cells: usize) -> Result<(), AllocError>
         ensures { self.new ≡ self.old }
     {
@@ -140,7 +140,7 @@ impl Cells {
             Stored::Numbers(numbers) => numbers.reserve(cells),
             Stored::Nullable(numbers) => numbers.reserve(cells),
             Stored::Values(values) => values.reserve(cells),
-            Stored::Mixed(values) => values.reserve(cells),
+            Stored::Tagged(values) => values.reserve(cells),
         }
     }
 
@@ -167,7 +167,7 @@ impl Cells {
                 Ok(())
             }
             Stored::Values(values) => over.copy_from(alloc, &values[position]),
-            Stored::Mixed(values) => values.copy_to(alloc, position, over),
+            Stored::Tagged(values) => values.copy_to(alloc, position, over),
         }
     }
 
@@ -191,7 +191,7 @@ impl Cells {
             Stored::Values(values) => {
                 return push_value(values, value);
             }
-            Stored::Mixed(values) => {
+            Stored::Tagged(values) => {
                 return values.push(value);
             }
         }
@@ -266,7 +266,7 @@ impl Cells {
             Stored::Values(values) => {
                 compare_cells(&values[a.start..a.end], &values[b.start..b.end])
             }
-            Stored::Mixed(values) => values.compare(a, b),
+            Stored::Tagged(values) => values.compare(a, b),
         }
     }
 
@@ -278,7 +278,7 @@ impl Cells {
             Stored::Numbers(numbers) => numbers.truncate(cells),
             Stored::Nullable(numbers) => numbers.truncate(cells),
             Stored::Values(values) => values.truncate(cells),
-            Stored::Mixed(values) => values.truncate(cells),
+            Stored::Tagged(values) => values.truncate(cells),
         }
     }
 }
@@ -293,7 +293,7 @@ impl Stored {
         ensures unchanged { OnErr result (cells_of self.new ≡ cells_of self.old) }
     {
         match number_of(value) {
-            Some(number) if !matches!(self, Stored::Values(_) | Stored::Mixed(_)) => {
+            Some(number) if !matches!(self, Stored::Values(_) | Stored::Tagged(_)) => {
                 self.admit_null(alloc)?;
                 match self {
                     Stored::Nullable(numbers) => push_nullable(numbers, number),
@@ -308,7 +308,7 @@ impl Stored {
                 }
                 match self {
                     Stored::Values(values) => push_value(values, value),
-                    Stored::Mixed(values) => values.push(value),
+                    Stored::Tagged(values) => values.push(value),
                     _ => unreachable!(),
                 }
             }
@@ -334,12 +334,12 @@ impl Stored {
     {
         match self {
             Stored::Numbers(numbers) => {
-                *self = Stored::Mixed(mixed_of(alloc, numbers.as_slice())?);
+                *self = Stored::Tagged(tagged_of(alloc, numbers.as_slice())?);
             }
             Stored::Nullable(numbers) => {
-                *self = Stored::Mixed(mixed_of_nullable(alloc, numbers.as_slice())?);
+                *self = Stored::Tagged(tagged_of_nullable(alloc, numbers.as_slice())?);
             }
-            Stored::Values(_) | Stored::Mixed(_) => {}
+            Stored::Values(_) | Stored::Tagged(_) => {}
         }
         Ok(())
     }
@@ -356,7 +356,7 @@ impl Stored {
             Stored::Nullable(numbers) => {
                 *self = Stored::Values(values_of_nullable(alloc, numbers.as_slice())?);
             }
-            Stored::Mixed(values) => {
+            Stored::Tagged(values) => {
                 *self = Stored::Values(values.to_values(alloc)?);
             }
             Stored::Values(_) => {}
@@ -485,10 +485,10 @@ fn values_of_nullable(alloc: Global, numbers: &[Option<i64>]) -> Result<Vec<Valu
 }
 
 // Numbers from which texts may stand apart, likewise.
-fn mixed_of(alloc: Global, numbers: &[i64]) -> Result<Mixed, AllocError>
+fn tagged_of(alloc: Global, numbers: &[i64]) -> Result<TaggedCells, AllocError>
     ensures { IfOk result (λ values. values ≡ map Int numbers.now) }
 {
-    let mut values = Mixed::new(alloc);
+    let mut values = TaggedCells::new(alloc);
     values.reserve(numbers.len())?;
     for number in numbers {
         values.push(&mut Value::Int(*number))?;
@@ -497,10 +497,10 @@ fn mixed_of(alloc: Global, numbers: &[i64]) -> Result<Mixed, AllocError>
 }
 
 // And numbers and null.
-fn mixed_of_nullable(alloc: Global, numbers: &[Option<i64>]) -> Result<Mixed, AllocError>
+fn tagged_of_nullable(alloc: Global, numbers: &[Option<i64>]) -> Result<TaggedCells, AllocError>
     ensures { IfOk result (λ values. values ≡ map number_cell numbers.now) }
 {
-    let mut values = Mixed::new(alloc);
+    let mut values = TaggedCells::new(alloc);
     values.reserve(numbers.len())?;
     for number in numbers {
         values.push(&mut cell_of(*number))?;

@@ -1,7 +1,7 @@
 //! Many values in one list, and rows of them.
 //!
-//! In [`Cells`] a number takes eight bytes as long as nothing but numbers stands there, and beside texts that are apart from
-//! it. [`Rows`] are parts of one such list. What stands there is lent where it is, as a [`CellRef`] or a [`RowRef`].
+//! In [`Cells`] a number takes eight bytes as long as all values are numbers, and if texts are stored out of line. [`Rows`]
+//! are parts of one such list. A [`CellRef`] or a [`RowRef`] refers to what is stored there.
 //!
 //! The one contract above this crate: clauses see [`Cells`] as the list of their values and [`Rows`] as the list of
 //! their rows, whatever they take of memory.
@@ -9,10 +9,10 @@
 
 mod cell_ref;
 mod cells;
-mod mixed;
 mod order;
 mod row_ref;
 mod rows;
+mod tagged_cells;
 
 pub use cell_ref::CellRef;
 pub use cells::Cells;

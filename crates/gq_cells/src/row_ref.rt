@@ -1,40 +1,40 @@
 //! A row where it stands.
 ghost use Rattle.std.specs.Prelude.{◌≡◌, ◌<◌, ◌==◌, length, slice_index_or};
 ghost use Rattle.gq_row.specs.Rows.{cell};
-ghost use Rattle.gq_cells.specs.Cells.{lent_values, value_of};
+ghost use Rattle.gq_cells.specs.Cells.{slice_values, value_of};
 ghost use Rattle.gq_cells.specs.Lists.{IsPart, row_at};
 
 use crate::cell_ref::CellRef;
 use crate::cells::Cells;
-use crate::mixed::lend_word;
 use crate::rows::Span;
+use crate::tagged_cells::lend_word;
 use gq_row::Value;
 use std::marker::Model;
 
-/// A row that is lent where it stands among others, seen as the list of its values.
+/// A reference to a row in a list of rows, seen as the list of its values.
 #[derive(Drop)]
 pub struct RowRef<'a> {
-    lent: Lent<'a>,
+    cells: CellSlice<'a>,
 }
 
-// A part of a list of values. How they are stored is told once for all of them, and not for each.
+// A part of a list of values. How they are stored is said once for all of them.
 #[derive(Clone, Copy)]
-pub(crate) enum Lent<'a> {
+pub(crate) enum CellSlice<'a> {
     Numbers(&'a [i64]),
     Nullable(&'a [Option<i64>]),
     Values(&'a [Value]),
-    // Words, and what stands beside them.
-    Mixed(&'a [u64], &'a [Value]),
+    // Words, and their overflow.
+    Tagged(&'a [u64], &'a [Value]),
 }
 
 impl<'a> Model for RowRef<'a> {
     ghost use Rattle.std.specs.Prelude.{List};
     ghost use Rattle.gq_row.specs.declared.value.Value.{Value as Cell};
-    ghost use Rattle.gq_cells.specs.Cells.{lent_values};
+    ghost use Rattle.gq_cells.specs.Cells.{slice_values};
 
     ghost Value = { List Cell };
 
-    ghost view = { λ r. lent_values r.lent };
+    ghost view = { λ r. slice_values r.cells };
 }
 
 impl<'a> RowRef<'a> {
@@ -45,7 +45,7 @@ impl<'a> RowRef<'a> {
         ensures { result ≡ row_at cells.now span }
     {
         RowRef {
-            lent: cells.lend(span),
+            cells: cells.lend(span),
         }
     }
 
@@ -54,11 +54,11 @@ impl<'a> RowRef<'a> {
     pub fn len(&self) -> usize
         ensures { result ≡ length self.now }
     {
-        match self.lent {
-            Lent::Numbers(numbers) => numbers.len(),
-            Lent::Nullable(numbers) => numbers.len(),
-            Lent::Values(values) => values.len(),
-            Lent::Mixed(words, _) => words.len(),
+        match self.cells {
+            CellSlice::Numbers(numbers) => numbers.len(),
+            CellSlice::Nullable(numbers) => numbers.len(),
+            CellSlice::Values(values) => values.len(),
+            CellSlice::Tagged(words, _) => words.len(),
         }
     }
 
@@ -75,11 +75,11 @@ impl<'a> RowRef<'a> {
         requires { position < length self.now }
         ensures { value_of result ≡ cell self.now position }
     {
-        match self.lent {
-            Lent::Numbers(numbers) => CellRef::Int(*at(numbers, position)),
-            Lent::Nullable(numbers) => CellRef::of_number(*at(numbers, position)),
-            Lent::Values(values) => CellRef::of(at(values, position)),
-            Lent::Mixed(words, beside) => lend_word(*at(words, position), beside),
+        match self.cells {
+            CellSlice::Numbers(numbers) => CellRef::Int(*at(numbers, position)),
+            CellSlice::Nullable(numbers) => CellRef::of_number(*at(numbers, position)),
+            CellSlice::Values(values) => CellRef::of(at(values, position)),
+            CellSlice::Tagged(words, overflow) => lend_word(*at(words, position), overflow),
         }
     }
 }

@@ -3,7 +3,7 @@ use Rattle.std.proofs.lemmas.List.{take-map}
 use Rattle.gq_row.specs.declared.value.Value.TheVariants.{Int}
 use Rattle.gq_cells.specs.Cells.{cells_of, number_cell}
 use Rattle.gq_cells.specs.declared.cells.Cells.TheInside.{Inside}
-use Rattle.gq_cells.proofs.cells.Cells.truncate.Goals.{in-Numbers, in-Nullable, in-Values, in-Mixed}
+use Rattle.gq_cells.proofs.cells.Cells.truncate.Goals.{in-Numbers, in-Nullable, in-Values, in-Tagged}
 use Rattle.gq_cells.proofs.cells.Cells.truncate.Goals as goal
 
 pub returns : goal.returns
@@ -22,8 +22,8 @@ returns c = elim c.match-self.branch [
       ap (λ (s : Inside). cells_of s.stored) w.self-inside-is
       ∙ w.truncate-in-Values.ensures.items
       ∙ ap (take c.args.cells) (ap cells_of (sym w.in-Values.is) ∙ c.self.view_is)
-  | in-Mixed w ↦
+  | in-Tagged w ↦
       ap (λ (s : Inside). cells_of s.stored) w.self-inside-is
-      ∙ w.truncate-in-Mixed.ensures
-      ∙ ap (take c.args.cells) (ap cells_of (sym w.in-Mixed.is) ∙ c.self.view_is)
+      ∙ w.truncate-in-Tagged.ensures
+      ∙ ap (take c.args.cells) (ap cells_of (sym w.in-Tagged.is) ∙ c.self.view_is)
 ]

@@ -1,4 +1,4 @@
-//! Numbers in eight bytes each, and texts beside them.
+//! Numbers in eight bytes each, and texts out of line.
 ghost use Rattle.std.specs.Prelude.{◌≡◌, ◌<◌, ◌^◌, ◌++◌, ◌∷◌, ◌-ℤ◌, [], ℕ, pos, IfOk, IfNone, IfSome, IsOk, OnOk, OnErr, length, map, take, slice_index_or};
 ghost use Rattle.gq_row.specs.declared.value.Value.TheVariants.{Null};
 ghost use Rattle.gq_row.specs.Order.{compare_keys};
@@ -16,41 +16,40 @@ use std::alloc::{AllocError, Global};
 use std::cmp::Ordering;
 use std::marker::Model;
 
-/// Values one behind the other, seen as their list. Each has a word. That of a number is the number, 2^62 added, so that
-/// it is no negative one; any other value stands beside the words, and so does a number that is too large for this. Its
-/// word is its place there, 2^63 added.
+/// A list of values, each with a tagged word: below 2^63 an integer biased by 2^62, else an index into
+/// `overflow`, biased by 2^63. That has all other values, and the numbers that are too large for a word.
 #[derive(Drop)]
-pub(crate) struct Mixed {
+pub(crate) struct TaggedCells {
     words: Vec<u64>,
-    beside: Vec<Value>,
+    overflow: Vec<Value>,
 }
 
 // What is added to a number.
 const ZERO: i64 = 1 << 62;
 
 // What is added to a place.
-const BESIDE: u64 = 1 << 63;
+const OVERFLOW: u64 = 1 << 63;
 
-impl Model for Mixed {
+impl Model for TaggedCells {
     ghost use Rattle.std.specs.Prelude.{List, All, length, map};
     ghost use Rattle.gq_row.specs.declared.value.Value.{Value as Cell};
     ghost use Rattle.gq_cells.specs.Words.{IsWord, word_value};
 
     ghost Value = { List Cell };
 
-    ghost view = { λ m. map (word_value m.beside.items) m.words.items };
+    ghost view = { λ m. map (word_value m.overflow.items) m.words.items };
 
-    ghost invariant = { λ m. All (IsWord (length m.beside.items)) m.words.items };
+    ghost invariant = { λ m. All (IsWord (length m.overflow.items)) m.words.items };
 }
 
-impl Mixed {
+impl TaggedCells {
     // No value. It takes no memory.
-    pub(crate) fn new(alloc: Global) -> Mixed
+    pub(crate) fn new(alloc: Global) -> TaggedCells
         ensures { result ≡ [] }
     {
-        Mixed {
+        TaggedCells {
             words: Vec::new(alloc),
-            beside: Vec::new(alloc),
+            overflow: Vec::new(alloc),
         }
     }
 
@@ -67,19 +66,19 @@ impl Mixed {
         requires { position < length self.now }
         ensures { value_of result ≡ slice_index_or self.now position Null }
     {
-        lend_word(self.words[position], self.beside.as_slice())
+        lend_word(self.words[position], self.overflow.as_slice())
     }
 
-    // Makes room for so many values more, of which as many stand beside the words as of those that are there.
+    // Makes room for this number of values more, with the share of `overflow` that the present ones have.
     pub(crate) fn reserve(&mut self, values: usize) -> Result<(), AllocError>
         ensures { self.new ≡ self.old }
     {
         self.words.reserve(values)?;
-        let share = values.saturating_mul(self.beside.len()) / self.words.len().max(1);
-        self.beside.reserve(share)
+        let share = values.saturating_mul(self.overflow.len()) / self.words.len().max(1);
+        self.overflow.reserve(share)
     }
 
-    // Puts a value behind the others. A text moves out of the place that is lent.
+    // Appends a value. A text moves out of its place.
     #[inline(always)]
     pub(crate) fn push(&mut self, value: &mut Value) -> Result<(), AllocError>
         ensures pushed { OnOk result (self.new ≡ self.old ++ value.old ∷ []) }
@@ -91,9 +90,9 @@ impl Mixed {
             self.words.push(word)?;
             return Ok(());
         }
-        let place = self.beside.len() as u64;
-        push_value(&mut self.beside, value)?;
-        self.words.push(BESIDE + place)?;
+        let place = self.overflow.len() as u64;
+        push_value(&mut self.overflow, value)?;
+        self.words.push(OVERFLOW + place)?;
         Ok(())
     }
 
@@ -125,13 +124,13 @@ impl Mixed {
         Ok(values)
     }
 
-    // The words of a part, and what stands beside all words.
+    // The words of a part, and the overflow of all.
     #[inline(always)]
     pub(crate) fn lend(&self, part: Span) -> (&[u64], &[Value])
         requires { IsPart self.now part }
         ensures { map (word_value result.1.now) result.0.now ≡ row_at self.now part }
     {
-        (&self.words[part.start..part.end], self.beside.as_slice())
+        (&self.words[part.start..part.end], self.overflow.as_slice())
     }
 
     // The order of two parts.
@@ -141,14 +140,14 @@ impl Mixed {
     {
         let words = &self.words[a.start..a.end];
         let others = &self.words[b.start..b.end];
-        let beside = self.beside.as_slice();
-        match compare_words(words, others, beside, true) {
-            Ordering::Equal => compare_words(words, others, beside, false),
+        let overflow = self.overflow.as_slice();
+        match compare_words(words, others, overflow, true) {
+            Ordering::Equal => compare_words(words, others, overflow, false),
             told => told,
         }
     }
 
-    // Leaves out all values but the first, so many. What stood beside their words stays there.
+    // Keeps the first `values`. Nothing leaves `overflow`.
     pub(crate) fn truncate(&mut self, values: usize)
         ensures { self.new ≡ take values self.old }
     {
@@ -168,15 +167,15 @@ fn word_of(n: i64) -> Option<u64>
     }
 }
 
-// The value of a word, lent.
+// A reference to the value of a word.
 #[inline(always)]
-pub(crate) fn lend_word(word: u64, beside: &[Value]) -> CellRef<'_>
-    ensures { value_of result ≡ word_value beside.now word }
+pub(crate) fn lend_word(word: u64, overflow: &[Value]) -> CellRef<'_>
+    ensures { value_of result ≡ word_value overflow.now word }
 {
-    if word < BESIDE {
+    if word < OVERFLOW {
         return CellRef::Int(word as i64 - ZERO);
     }
-    match beside.get((word - BESIDE) as usize) {
+    match overflow.get((word - OVERFLOW) as usize) {
         Some(value) => CellRef::of(value),
         None => CellRef::Null,
     }
@@ -184,15 +183,15 @@ pub(crate) fn lend_word(word: u64, beside: &[Value]) -> CellRef<'_>
 
 // The order of the values of words, from the left, a list before each longer one that begins with it: by their folds
 // alone, or by their bytes too.
-fn compare_words(a: &[u64], b: &[u64], beside: &[Value], by_folds: bool) -> Ordering
+fn compare_words(a: &[u64], b: &[u64], overflow: &[Value], by_folds: bool) -> Ordering
     ensures { result ≡ slice_cmp (told_by by_folds)
-        (map (word_value beside.now) a.now) (map (word_value beside.now) b.now) }
+        (map (word_value overflow.now) a.now) (map (word_value overflow.now) b.now) }
 {
     let (mut left, mut right) = (a, b);
     'words: loop {
         match (left.split_first(), right.split_first()) {
             (Some((x, more)), Some((y, others))) => {
-                match compare_word(*x, *y, beside, by_folds) {
+                match compare_word(*x, *y, overflow, by_folds) {
                     Ordering::Equal => {}
                     told => return told,
                 }
@@ -206,12 +205,12 @@ fn compare_words(a: &[u64], b: &[u64], beside: &[Value], by_folds: bool) -> Orde
     }
 }
 
-fn compare_word(x: u64, y: u64, beside: &[Value], by_folds: bool) -> Ordering
-    ensures { result ≡ told_by by_folds (word_value beside.now x) (word_value beside.now y) }
+fn compare_word(x: u64, y: u64, overflow: &[Value], by_folds: bool) -> Ordering
+    ensures { result ≡ told_by by_folds (word_value overflow.now x) (word_value overflow.now y) }
 {
     let (own_x, own_y) = (own_value(x), own_value(y));
-    let x = value_of_word(x, beside, &own_x);
-    let y = value_of_word(y, beside, &own_y);
+    let x = value_of_word(x, overflow, &own_x);
+    let y = value_of_word(y, overflow, &own_y);
     if by_folds {
         compare_folded(x, y)
     } else {
@@ -223,7 +222,7 @@ fn compare_word(x: u64, y: u64, beside: &[Value], by_folds: bool) -> Ordering
 fn own_value(word: u64) -> Value
     ensures { result ≡ word_value [] word }
 {
-    if word < BESIDE {
+    if word < OVERFLOW {
         Value::Int(word as i64 - ZERO)
     } else {
         Value::Null
@@ -231,14 +230,14 @@ fn own_value(word: u64) -> Value
 }
 
 // The value of a word, where this is what it tells by itself.
-fn value_of_word<'a>(word: u64, beside: &'a [Value], own: &'a Value) -> &'a Value
+fn value_of_word<'a>(word: u64, overflow: &'a [Value], own: &'a Value) -> &'a Value
     requires { own.now ≡ word_value [] word }
-    ensures { result.now ≡ word_value beside.now word }
+    ensures { result.now ≡ word_value overflow.now word }
 {
-    if word < BESIDE {
+    if word < OVERFLOW {
         return own;
     }
-    match beside.get((word - BESIDE) as usize) {
+    match overflow.get((word - OVERFLOW) as usize) {
         Some(value) => value,
         None => own,
     }

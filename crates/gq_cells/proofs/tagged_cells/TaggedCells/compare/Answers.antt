@@ -3,24 +3,24 @@ use Rattle.std.specs.Cmp.Lexicographic.{slice_cmp}
 use Rattle.gq_row.specs.Order.{compare_values, folded_order}
 use Rattle.gq_cells.specs.Lists.{row_at}
 use Rattle.gq_cells.specs.Words.{word_value}
-use Rattle.gq_cells.proofs.MixedLemmas.{words_at}
+use Rattle.gq_cells.proofs.TaggedCellLemmas.{words_at}
 use Rattle.gq_cells.proofs.OrderLemmas.{keys_by_folds, keys_by_values}
-use Rattle.gq_cells.proofs.mixed.Mixed.compare.Goals as goal
+use Rattle.gq_cells.proofs.tagged_cells.TaggedCells.compare.Goals as goal
 
 pub returns-in-Equal : goal.returns-in-Equal
 returns-in-Equal c =
-    let beside = c.as_slice-beside.result.now in
+    let overflow = c.as_slice-overflow.result.now in
     let all = c.args.self.now in
-    let left = words_at beside c.deref.result.now all c.args.a ((λ i. map (word_value (c.as_slice-beside.ensures.value i)) (c.deref.ensures.value i)) ∙ c.self.view_is) in
-    let right = words_at beside c.deref-2.result.now all c.args.b ((λ i. map (word_value (c.as_slice-beside.ensures.value i)) (c.deref-2.ensures.value i)) ∙ c.self.view_is) in
+    let left = words_at overflow c.deref.result.now all c.args.a ((λ i. map (word_value (c.as_slice-overflow.ensures.value i)) (c.deref.ensures.value i)) ∙ c.self.view_is) in
+    let right = words_at overflow c.deref-2.result.now all c.args.b ((λ i. map (word_value (c.as_slice-overflow.ensures.value i)) (c.deref-2.ensures.value i)) ∙ c.self.view_is) in
     let tie : slice_cmp folded_order (row_at all c.args.a) (row_at all c.args.b) ≡ Equal = (λ i. slice_cmp folded_order (sym left i) (sym right i)) ∙ sym c.compare_words.ensures ∙ c.in-Equal.is in
     c.compare_words-in-Equal.ensures ∙ (λ i. slice_cmp compare_values (left i) (right i)) ∙ keys_by_values (row_at all c.args.a) (row_at all c.args.b) tie
 
 pub returns-in_default : goal.returns-in_default
 returns-in_default c =
-    let beside = c.as_slice-beside.result.now in
+    let overflow = c.as_slice-overflow.result.now in
     let all = c.args.self.now in
-    let left = words_at beside c.deref.result.now all c.args.a ((λ i. map (word_value (c.as_slice-beside.ensures.value i)) (c.deref.ensures.value i)) ∙ c.self.view_is) in
-    let right = words_at beside c.deref-2.result.now all c.args.b ((λ i. map (word_value (c.as_slice-beside.ensures.value i)) (c.deref-2.ensures.value i)) ∙ c.self.view_is) in
+    let left = words_at overflow c.deref.result.now all c.args.a ((λ i. map (word_value (c.as_slice-overflow.ensures.value i)) (c.deref.ensures.value i)) ∙ c.self.view_is) in
+    let right = words_at overflow c.deref-2.result.now all c.args.b ((λ i. map (word_value (c.as_slice-overflow.ensures.value i)) (c.deref-2.ensures.value i)) ∙ c.self.view_is) in
     let told = c.compare_words.ensures ∙ (λ i. slice_cmp folded_order (left i) (right i)) in
     told ∙ keys_by_folds (row_at all c.args.a) (row_at all c.args.b) (λ tie. c.in_default.not-Equal (told ∙ tie))
