@@ -6,7 +6,7 @@ use Rattle.gq_spill.specs.Runs.{Runs}
 use Rattle.gq_group.specs.Access.{RunSet, either, Apart, LeavesOthers, KeepsOwn, HasCause, GroupCause}
 use Rattle.gq_group.specs.Counting.{CountedInRun}
 use Rattle.gq_group.specs.Groups.{Group}
-use Rattle.gq_group.specs.Phases.{blamed_as}
+use Rattle.gq_group.specs.Phases.{as_damaged}
 use Rattle.gq_group.specs.Partitions.{Gone}
 use Rattle.gq_group.specs.RunSources.{only, same_number, equal_number}
 use Rattle.gq_group.specs.Work.{Spills, SpillsTwice}
@@ -116,11 +116,11 @@ keeps-back k r s kept = record {
 
 -- ---- causes
 
-pub cause-blamed : (e : Refusal) (old new : Runs) → GroupCause e old new → (e ≡ SumRange → IsTrue old.honest → ⊥) → HasCause (blamed_as e) old new
-cause-blamed SumRange old new cause none = λ h. none refl h
-cause-blamed Memory old new cause none = tt
-cause-blamed StoreFault old new cause none = cause
-cause-blamed Damaged old new cause none = cause
+pub cause-damaged : (e : Refusal) (old new : Runs) → GroupCause e old new → (e ≡ SumRange → IsTrue old.honest → ⊥) → HasCause (as_damaged e) old new
+cause-damaged SumRange old new cause none = λ h. none refl h
+cause-damaged Memory old new cause none = tt
+cause-damaged StoreFault old new cause none = cause
+cause-damaged Damaged old new cause none = cause
 
 pub cause-later : (e : Refusal) (a b : RunSet) (r s t : Runs) → LeavesOthers a b r s → HasCause e s t → HasCause e r t
 cause-later SumRange a b r s t step h = h

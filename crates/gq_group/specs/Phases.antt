@@ -22,11 +22,11 @@ abbrev pub counts_of : ℕ → Spec
 counts_of columns = record { by = range_with_len 0 columns; aggs = (Count, columns) ∷ [] }
 
 -- no count is out of range, so a refusal for a sum comes of a store that did not read back what was written
-abbrev pub blamed_as : Refusal → Refusal
-blamed_as SumRange = Damaged
-blamed_as Memory = Memory
-blamed_as StoreFault = StoreFault
-blamed_as Damaged = Damaged
+abbrev pub as_damaged : Refusal → Refusal
+as_damaged SumRange = Damaged
+as_damaged Memory = Memory
+as_damaged StoreFault = StoreFault
+as_damaged Damaged = Damaged
 
 -- ---- the run between the two
 

@@ -7,7 +7,7 @@ ghost use Rattle.gq_group.specs.Access.{Apart, either, LeavesOthers, HasCause};
 ghost use Rattle.gq_group.specs.Counting.{CountedInRun};
 ghost use Rattle.gq_group.specs.Distinct.{PushesDistinct, with_column, all_have};
 ghost use Rattle.gq_group.specs.Groups.{Group, keys_of, Pushes, OneWidth};
-ghost use Rattle.gq_group.specs.Phases.{pairs_of, counts_of, blamed_as, CanWrite};
+ghost use Rattle.gq_group.specs.Phases.{pairs_of, counts_of, CanWrite};
 ghost use Rattle.gq_group.specs.RunSources.{only};
 ghost use Rattle.gq_group.specs.Work.{Spills, SpillsTwice};
 
@@ -44,18 +44,6 @@ fn counts_spec(alloc: Global, columns: usize) -> Result<GroupSpec, AllocError>
     }
     let aggs = vec![in alloc; (AggKind::Count, columns)]?;
     Ok(GroupSpec::new(by, aggs))
-}
-
-// No count is out of range: a store that does not read back what was written is to blame.
-fn blamed(refusal: Refusal) -> Refusal
-    ensures { result ≡ blamed_as refusal }
-{
-    match refusal {
-        Refusal::SumRange => Refusal::Damaged,
-        Refusal::Memory => Refusal::Memory,
-        Refusal::StoreFault => Refusal::StoreFault,
-        Refusal::Damaged => Refusal::Damaged,
-    }
 }
 
 // What both phases took, and the run between them. No count is told past 64 bits.
@@ -135,7 +123,7 @@ fn count_pairs<H: KeyHash<Key> + Copy, S: RunStore, K: GroupSink<S>>(
     };
     match group(alloc, hasher, &spec, &mut source, sink, store, budget) {
         Ok(spent) => Ok(spent),
-        Err(refusal) => Err(blamed(refusal)),
+        Err(refusal) => Err(refusal.as_damaged()),
     }
 }
 
@@ -178,7 +166,7 @@ fn count_in_run<H: KeyHash<Key> + Copy, S: RunStore, R: RowSource<S>, K: GroupSi
     let mut keys = keys;
     let first = match group(alloc, hasher, &spec, source, &mut keys, store, budget) {
         Ok(first) => first,
-        Err(refusal) => return Err(blamed(refusal)),
+        Err(refusal) => return Err(refusal.as_damaged()),
     };
     let mark = keys.finish();
     if mark.records > first.rows_read {

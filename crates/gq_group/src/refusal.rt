@@ -1,6 +1,7 @@
 //! Why rows are not grouped.
 ghost use Rattle.std.specs.Prelude.{◌≡◌};
 ghost use Rattle.gq_group.specs.Access.{refused_as};
+ghost use Rattle.gq_group.specs.Phases.{as_damaged};
 
 use gq_spill::SpillRefusal;
 use thiserror::Error;
@@ -23,7 +24,20 @@ pub enum Refusal {
 }
 
 impl Refusal {
-    // What the refusal of a run's writer or reader is told as.
+    /// The refusal where no sum can be out of range: only a store that doesn't read back what was
+    /// written makes it seem so.
+    pub fn as_damaged(self) -> Refusal
+        ensures { result ≡ as_damaged self }
+    {
+        match self {
+            Refusal::SumRange => Refusal::Damaged,
+            Refusal::Memory => Refusal::Memory,
+            Refusal::StoreFault => Refusal::StoreFault,
+            Refusal::Damaged => Refusal::Damaged,
+        }
+    }
+
+    // The refusal of a run's writer or reader, as one of a grouping.
     pub(crate) fn of(why: SpillRefusal) -> Refusal
         ensures { result ≡ refused_as why }
     {

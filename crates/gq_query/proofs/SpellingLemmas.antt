@@ -27,7 +27,7 @@ use Rattle.gq_spill.specs.Runs.{Runs}
 use Rattle.gq_group.specs.Access.{GroupCause, HasCause}
 use Rattle.gq_group.specs.declared.refusal.Refusal.{Refusal}
 use Rattle.gq_group.specs.declared.refusal.Refusal.TheVariants.{SumRange, Memory, StoreFault, Damaged}
-use Rattle.gq_group.specs.Phases.{blamed_as}
+use Rattle.gq_group.specs.Phases.{as_damaged}
 use Rattle.gq_group.specs.Groups.{Group, keys_of, column_of, answered}
 use Rattle.gq_select.specs.Asking.{all_of, kind_at, is_valid_for}
 use Rattle.gq_select.specs.declared.output_column.OutputColumn.{OutputColumn}
@@ -278,11 +278,11 @@ all_may columns shown (c ∷ by) may h =
 
 -- ---- a store is to blame where a least value is told as out of range
 
-pub blamed_cause : (why : Refusal) (old new : Runs) → GroupCause why old new → (why ≡ SumRange → IsTrue old.honest → ⊥) → HasCause (blamed_as why) old new
-blamed_cause SumRange old new cause never = never refl
-blamed_cause Memory old new cause never = cause
-blamed_cause StoreFault old new cause never = cause
-blamed_cause Damaged old new cause never = cause
+pub damaged_cause : (why : Refusal) (old new : Runs) → GroupCause why old new → (why ≡ SumRange → IsTrue old.honest → ⊥) → HasCause (as_damaged why) old new
+damaged_cause SumRange old new cause never = never refl
+damaged_cause Memory old new cause never = cause
+damaged_cause StoreFault old new cause never = cause
+damaged_cause Damaged old new cause never = cause
 
 pub never_none : (by : List ℕ) (rows : List (List Value)) → 0 < length by → answer by [] rows ≡ None → ⊥
 never_none by rows some none = let e : None ≡ Some (distinct_keys by rows) = sym none ∙ distinct_answer by rows some in cc

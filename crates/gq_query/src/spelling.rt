@@ -8,7 +8,6 @@ ghost use Rattle.std.specs.Prelude.{◌≡◌, ◌<◌, ◌++◌, All, IsTrue, I
 ghost use Rattle.std.specs.List.{list_all};
 ghost use Rattle.gq_row.specs.Fitting.{fits_columns};
 ghost use Rattle.gq_group.specs.Access.{LeavesOthers, HasCause, GroupCause};
-ghost use Rattle.gq_group.specs.Phases.{blamed_as};
 ghost use Rattle.gq_select.specs.Asking.{is_valid_for};
 ghost use Rattle.gq_query.specs.Answers.{answer, distinct_keys};
 ghost use Rattle.gq_query.specs.Keeping.{HasColumns, kept_rows};
@@ -54,18 +53,6 @@ fn with_least(
     }
     all.extend_from_slice(shown)?;
     Ok(all)
-}
-
-// No least value is out of range: a store that does not read back what was written is to blame.
-fn blamed(refusal: Refusal) -> Refusal
-    ensures { result ≡ blamed_as refusal }
-{
-    match refusal {
-        Refusal::SumRange => Refusal::Damaged,
-        Refusal::Memory => Refusal::Memory,
-        Refusal::StoreFault => Refusal::StoreFault,
-        Refusal::Damaged => Refusal::Damaged,
-    }
 }
 
 impl<'a, H: KeyHash<Key> + Copy> Query<'a, H> {
@@ -207,7 +194,8 @@ impl<'a, H: KeyHash<Key> + Copy> Query<'a, H> {
     {
         match self.rows_spelled(&[], store) {
             Ok((rows, _)) => Ok(rows),
-            Err(why) => Err(blamed(why)),
+            // No minimum is out of range.
+            Err(why) => Err(why.as_damaged()),
         }
     }
 }

@@ -10,7 +10,7 @@ use Rattle.gq_group.specs.declared.refusal.Refusal.TheVariants.{Memory, Damaged}
 use Rattle.gq_group.proofs.AccessLemmas.{apart-later, keeps-apart, leaves-refl}
 use Rattle.gq_group.proofs.FirstLemmas.{Pairing}
 use Rattle.gq_group.proofs.PairLemmas.{pairs_fit, pairs_range, between, left_between, few_between, as_many_keys, both_pushed, both_counted}
-use Rattle.gq_group.proofs.PhaseLemmas.{counted-refused, cause-blamed, cause-later, cause-memory, leaves-phases, apart-both, apart-either, apart-grown, apart-one, either-grows, made_twice, ok_anyway, if_ok_both, same_run, taken_twice}
+use Rattle.gq_group.proofs.PhaseLemmas.{counted-refused, cause-damaged, cause-later, cause-memory, leaves-phases, apart-both, apart-either, apart-grown, apart-one, either-grows, made_twice, ok_anyway, if_ok_both, same_run, taken_twice}
 use Rattle.gq_group.proofs.ReadLemmas.{apart-flip}
 use Rattle.gq_group.proofs.distinct.count_in_run.Goals as goal
 
@@ -33,11 +33,11 @@ returns-in-Err g c =
     let n = c.args.keys.writer.mark.id.number in
     let m = c.group.new.sink.writer.mark.id.number in
     let told = c.in-Err.ensures in
-    counted-refused c.args.by.now c.args.column c.args.budget.entries n _ _ _ a b k k _ _ _ _ r s _ c.blamed.result refl
+    counted-refused c.args.by.now c.args.column c.args.budget.entries n _ _ _ a b k k _ _ _ _ r s _ c.as_damaged.result refl
     (leaves-phases n m m a b k k r s s told.grows_sink refl told.others (leaves-refl (either (only m) k) s))
     (apart-grown (only n) (only m) b k told.apart told.grows_sink c.requires.apart_sink) (either-grows a b k k told.grows_source (λ run h. h))
-    (subst (λ (e : Refusal). HasCause e r s) (sym c.blamed.ensures)
-    (cause-blamed c.in-Err.refusal r s told.cause (λ is h.
+    (subst (λ (e : Refusal). HasCause e r s) (sym c.as_damaged.ensures)
+    (cause-damaged c.in-Err.refusal r s told.cause (λ is h.
     let known = g.met.R.RowSource.has_rows c.args.source.now r c.requires.source h in
     let over : out_of_range c.in-Ok.spec known.0 ≡ true = told.overflow h (ap Err is) known.0 known.1 in
     true≢false (sym over ∙ ap (λ (it : Spec). out_of_range it known.0) c.in-Ok.ensures ∙ pairs_range c.args.by.now c.args.column known.0))))

@@ -10,7 +10,7 @@ use Rattle.gq_group.specs.Groups.{Spec, Group, Pushes, all_fit, out_of_range, ke
 use Rattle.gq_group.specs.declared.refusal.Refusal.{Refusal}
 use Rattle.gq_group.proofs.OpenLemmas.{one_width}
 use Rattle.gq_group.proofs.PairLemmas.{counts_fit, counts_range}
-use Rattle.gq_group.proofs.PhaseLemmas.{cause-blamed, leaves-one, apart-run}
+use Rattle.gq_group.proofs.PhaseLemmas.{cause-damaged, leaves-one, apart-run}
 use Rattle.gq_group.proofs.distinct.count_pairs.Goals as goal
 
 pub group-requires-clause-rows : goal.group-requires-clause-rows
@@ -34,8 +34,8 @@ returns-clause-cause g c =
     let runs = g.S.RunStore.runs in
     let r = runs c.args.store.now in
     let s = runs c.group.new.store in
-    subst (λ (e : Refusal). HasCause e r s) (sym c.blamed.ensures)
-    (cause-blamed c.in-Err.refusal r s c.in-Err.ensures.cause (λ is h.
+    subst (λ (e : Refusal). HasCause e r s) (sym c.as_damaged.ensures)
+    (cause-damaged c.in-Err.refusal r s c.in-Err.ensures.cause (λ is h.
     let known = c.requires.pairs h in
     let given = subst (λ (it : Reading). Left it r known.0) (sym c.open.ensures) known.1 in
     let over : out_of_range c.in-Ok.spec known.0 ≡ true = c.in-Err.ensures.overflow h (ap Err is) known.0 given in
