@@ -65,7 +65,7 @@ impl Rows {
         (self.cells, self.spans)
     }
 
-    /// Makes room for so many rows of so many cells each.
+    /// Makes room for this number of rows more, of `width` cells each.
     pub fn reserve(&mut self, rows: usize, width: usize) -> Result<(), AllocError>
         ensures { self.new ≡ self.old }
     {

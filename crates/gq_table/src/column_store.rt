@@ -42,7 +42,7 @@ impl ColumnStore {
         }
     }
 
-    /// Makes room for so many rows more, where there is one already.
+    /// Makes room for this number of rows more, if there is one already.
     pub fn reserve(&mut self, rows: usize) -> Result<(), AllocError>
         ensures { self.new ≡ self.old }
     {
@@ -188,7 +188,7 @@ fn no_cells(alloc: Global, columns: usize) -> Result<Vec<Cells>, AllocError>
     Ok(made)
 }
 
-// Makes room for so many cells more in each column.
+// Makes room for this number of cells more in each column.
 fn reserve_cells(columns: &mut [Cells], cells: usize) -> Result<(), AllocError>
     ensures { columns.new ≡ columns.old }
 {

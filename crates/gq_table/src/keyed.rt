@@ -41,7 +41,7 @@ impl<H: KeyHash<Key>> KeyedRows<H> {
         self.rows.len()
     }
 
-    // Makes room for so many rows in all.
+    // Makes room for this number of rows in total.
     pub(crate) fn reserve(&mut self, rows: usize) -> Result<(), AllocError>
         ensures { self.new ≡ self.old }
     {

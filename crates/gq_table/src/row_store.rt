@@ -44,7 +44,7 @@ impl RowStore {
         }
     }
 
-    /// Makes room for so many rows more, where there is one already.
+    /// Makes room for this number of rows more, if there is one already.
     pub fn reserve(&mut self, rows: usize) -> Result<(), AllocError>
         ensures { self.new ≡ self.old }
     {

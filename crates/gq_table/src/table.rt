@@ -92,9 +92,8 @@ impl<H: KeyHash<Key> + Copy> Table<H> {
         }
     }
 
-    /// Makes room for so many rows in all, as far as there is a row already that says how long they are:
-    /// a table that expects many asks for memory once. Only speed rests on it: the table is what it was, also where it
-    /// is refused for want of memory.
+    /// Makes room for this number of rows in total, if there is a row already that says how long they are: a
+    /// table that expects many asks for memory once. The table stays as it was, also if memory is refused.
     pub fn reserve(&mut self, rows: usize) -> Result<(), AllocError>
         ensures { self.new ≡ self.old }
     {

@@ -104,8 +104,8 @@ impl<K: Keyed, V, H: KeyHash<K>> FlatMap<K, V, H> {
         &self.table
     }
 
-    /// Makes room for `n` entries, by the least capacity that has it. Where the room is there
-    /// already it does nothing, and succeeds.
+    /// Makes room for `n` entries in total, those that are there included, by the least capacity that
+    /// has it. If the room is there already it does nothing, and succeeds.
     ///
     /// It refuses with `Limit` where the capacity would pass 2^28, before it asks for memory, and
     /// else with `Memory`. The map is then as it was.

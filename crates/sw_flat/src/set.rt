@@ -106,8 +106,8 @@ impl<K: Keyed, H: KeyHash<K>> FlatSet<K, H> {
         self.map.table()
     }
 
-    /// Makes room for `n` keys, by the least capacity that has it. Where the room is there already
-    /// it does nothing, and succeeds.
+    /// Makes room for `n` keys in total, those that are there included, by the least capacity that
+    /// has it. If the room is there already it does nothing, and succeeds.
     ///
     /// It refuses with `Limit` where the capacity would pass 2^28, before it asks for memory, and
     /// else with `Memory`. The set is then as it was.

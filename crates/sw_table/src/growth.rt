@@ -18,8 +18,8 @@ use sw_ctrl::WIDTH;
 use sw_probe::{KeyHash, Keyed};
 
 impl<K: Keyed, V, H: KeyHash<K>> Table<K, V, H> {
-    /// Makes room for `n` entries, by the least capacity that has it. Where the room is there
-    /// already it does nothing, and succeeds.
+    /// Makes room for `n` entries in total, those that are there included, by the least capacity that
+    /// has it. If the room is there already it does nothing, and succeeds.
     ///
     /// It refuses with `Limit` where the capacity would pass 2^28, before it asks for memory, and
     /// else with `Memory`. The table is then as it was.

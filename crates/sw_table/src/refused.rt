@@ -1,7 +1,7 @@
 //! What a refused call tells.
 use thiserror::Error;
 
-/// Why a table takes no more.
+/// Why an insertion or a `reserve` is refused.
 #[derive(Clone, Copy, PartialEq, Eq, Debug, Error)]
 pub enum Why {
     /// The allocator refused.
@@ -12,7 +12,7 @@ pub enum Why {
     Limit,
 }
 
-/// A pair that was not placed, and why.
+/// The error of an insertion: the pair that was not placed, and why.
 #[derive(Debug, Drop, Error)]
 #[error("the entry was not placed: {why}")]
 pub struct Refused<K, V> {
