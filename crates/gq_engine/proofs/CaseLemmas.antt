@@ -9,7 +9,7 @@ use Rattle.gq_row.specs.declared.schema.Kind.TheVariants as kind
 use Rattle.gq_row.specs.declared.schema.Column.{Column}
 use Rattle.gq_row.specs.Fitting.{fits_columns, goes_in, stored, stored_in}
 use Rattle.gq_row.specs.Folding.{folded, has_case}
-use Rattle.gq_row.specs.Headings.{Heading}
+use Rattle.gq_row.specs.Schemas.{PlainSchema}
 use Rattle.gq_row.proofs.FoldLemmas.{folded_plain}
 use Rattle.gq_load.specs.Payloads.{kind_at}
 use Rattle.gq_engine.specs.Casing.{keeps_case, StoresAsGiven}
@@ -74,8 +74,8 @@ all_folded (v ∷ vs) h =
     let parts = and_parts (has_case v) (list_all has_case vs) h in
     λ i. folded_plain v parts.0 i ∷ all_folded vs parts.1 i
 
-key_plain : (heading : Heading) (values : List Value) → KeepCase heading.columns → IsTrue (list_all has_case values) → key_named heading values ≡ values
-key_plain heading values h g = ap (map folded) (key_stored heading.columns heading.key values h) ∙ all_folded values g
+key_plain : (schema : PlainSchema) (values : List Value) → KeepCase schema.columns → IsTrue (list_all has_case values) → key_named schema values ≡ values
+key_plain schema values h g = ap (map folded) (key_stored schema.columns schema.key values h) ∙ all_folded values g
 
 pub stores_as_given : StoresAsGiven
 stores_as_given = record { row = row_plain; key = key_plain }

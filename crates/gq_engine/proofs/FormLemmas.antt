@@ -27,7 +27,7 @@ module _ (db : Database) (name : List ℕ) where
   pub show_none : table_at db name ≡ None → show_table db name ≡ Err (unnumbered NoTable)
   show_none h = misses NoTable (table_at db name) _ h
 
-  pub show_gives : (table : PlainTable) → table_at db name ≡ Some table → show_table db name ≡ Ok (db, reply.Rows (column_names table.heading.columns) (rows_shown table))
+  pub show_gives : (table : PlainTable) → table_at db name ≡ Some table → show_table db name ≡ Ok (db, reply.Rows (column_names table.schema.columns) (rows_shown table))
   show_gives table h = finds NoTable (table_at db name) table _ h
 
 module _ (limits : Bounds) (db : Database) (name : List ℕ) where
@@ -47,27 +47,27 @@ module _ (short : Short) (limits : Bounds) (db : Database) (name : List ℕ) whe
     load_untold carried why lost h =
         passes Memory (not (is_lost carried)) _ (ap not lost) ∙ finds NoTable (table_at db name) table _ found ∙ stops (bytes_told carried) why _ h
 
-    pub load_told : (carried : Payload) (bytes : Bytes) (why : Refused) → is_lost carried ≡ false → bytes_told carried ≡ Ok bytes → rows_told short limits table.heading bytes ≡ Err why → load_table short limits db name carried ≡ Err why
+    pub load_told : (carried : Payload) (bytes : Bytes) (why : Refused) → is_lost carried ≡ false → bytes_told carried ≡ Ok bytes → rows_told short limits table.schema bytes ≡ Err why → load_table short limits db name carried ≡ Err why
     load_told carried bytes why lost h k =
-        passes Memory (not (is_lost carried)) _ (ap not lost) ∙ finds NoTable (table_at db name) table _ found ∙ gives (bytes_told carried) bytes _ h ∙ stops (rows_told short limits table.heading bytes) why _ k
+        passes Memory (not (is_lost carried)) _ (ap not lost) ∙ finds NoTable (table_at db name) table _ found ∙ gives (bytes_told carried) bytes _ h ∙ stops (rows_told short limits table.schema bytes) why _ k
 
-    pub load_faulted : (carried : Payload) (bytes : Bytes) (why : Refused) → is_lost carried ≡ false → bytes_told carried ≡ Ok bytes → (why ≡ unnumbered Memory) ⊎ (rows_told short limits table.heading bytes ≡ Err why)
+    pub load_faulted : (carried : Payload) (bytes : Bytes) (why : Refused) → is_lost carried ≡ false → bytes_told carried ≡ Ok bytes → (why ≡ unnumbered Memory) ⊎ (rows_told short limits table.schema bytes ≡ Err why)
         → (why ≡ unnumbered Memory) ⊎ (load_table short limits db name carried ≡ Err why)
     load_faulted carried bytes why lost h (inl e) = inl e
     load_faulted carried bytes why lost h (inr e) = inr (load_told carried bytes why lost h e)
 
-    pub load_faulty : (bytes : Bytes) (why : Refused) → rows_told short limits table.heading bytes ≡ Err why → load_table short limits db name (payload.Bytes bytes) ≡ Err why
-    load_faulty bytes why h = finds NoTable (table_at db name) table _ found ∙ stops (rows_told short limits table.heading bytes) why _ h
+    pub load_faulty : (bytes : Bytes) (why : Refused) → rows_told short limits table.schema bytes ≡ Err why → load_table short limits db name (payload.Bytes bytes) ≡ Err why
+    load_faulty bytes why h = finds NoTable (table_at db name) table _ found ∙ stops (rows_told short limits table.schema bytes) why _ h
 
-    pub load_refused : (bytes : Bytes) (rows : List (List Value)) (why : Refused) → rows_told short limits table.heading bytes ≡ Ok rows → with_rows limits db name rows ≡ Err why
+    pub load_refused : (bytes : Bytes) (rows : List (List Value)) (why : Refused) → rows_told short limits table.schema bytes ≡ Ok rows → with_rows limits db name rows ≡ Err why
         → load_table short limits db name (payload.Bytes bytes) ≡ Err why
     load_refused bytes rows why h k =
-        finds NoTable (table_at db name) table _ found ∙ gives (rows_told short limits table.heading bytes) rows _ h ∙ stops (with_rows limits db name rows) why _ k
+        finds NoTable (table_at db name) table _ found ∙ gives (rows_told short limits table.schema bytes) rows _ h ∙ stops (with_rows limits db name rows) why _ k
 
-    pub load_puts : (bytes : Bytes) (rows : List (List Value)) (new : Database) → rows_told short limits table.heading bytes ≡ Ok rows → with_rows limits db name rows ≡ Ok new
+    pub load_puts : (bytes : Bytes) (rows : List (List Value)) (new : Database) → rows_told short limits table.schema bytes ≡ Ok rows → with_rows limits db name rows ≡ Ok new
         → load_table short limits db name (payload.Bytes bytes) ≡ Ok (new, reply.Done (length rows))
     load_puts bytes rows new h k =
-        finds NoTable (table_at db name) table _ found ∙ gives (rows_told short limits table.heading bytes) rows _ h ∙ gives (with_rows limits db name rows) new _ k
+        finds NoTable (table_at db name) table _ found ∙ gives (rows_told short limits table.schema bytes) rows _ h ∙ gives (with_rows limits db name rows) new _ k
 
 -- without the table that stands at a place
 pub dropped_at : (db : Database) (name : List ℕ) (i : ℕ) → StandsAt db name i → IsTrue (names_differ db) → without_table db name ≡ remove db i

@@ -84,34 +84,34 @@ module _ (db : Database) (name : Bytes) (clauses : GroupClauses) where
     group_alone why h = finds NoTable (table_at db name) table _ found ∙ stops (other_in db clauses.exists) why _ h
 
     module _ (other : Option PlainTable) (there : other_in db clauses.exists ≡ Ok other) where
-      pub group_unplanned : (why : Refused) → group_plan table.heading.columns (other_columns other) clauses ≡ Err why → group db name clauses ≡ Err why
+      pub group_unplanned : (why : Refused) → group_plan table.schema.columns (other_columns other) clauses ≡ Err why → group db name clauses ≡ Err why
       group_unplanned why h =
-          finds NoTable (table_at db name) table _ found ∙ gives (other_in db clauses.exists) other _ there ∙ stops (group_plan table.heading.columns (other_columns other) clauses) why _ h
+          finds NoTable (table_at db name) table _ found ∙ gives (other_in db clauses.exists) other _ there ∙ stops (group_plan table.schema.columns (other_columns other) clauses) why _ h
 
-      pub group_planned : (plan : GroupPlan) → group_plan table.heading.columns (other_columns other) clauses ≡ Ok plan
+      pub group_planned : (plan : GroupPlan) → group_plan table.schema.columns (other_columns other) clauses ≡ Ok plan
           → group db name clauses ≡ (some_or SumRange (rows_planned plan table other) >>= λ rows. Ok (db, reply.Rows (group_header clauses.by clauses.shown) rows))
       group_planned plan told =
-          finds NoTable (table_at db name) table _ found ∙ gives (other_in db clauses.exists) other _ there ∙ gives (group_plan table.heading.columns (other_columns other) clauses) plan _ told
+          finds NoTable (table_at db name) table _ found ∙ gives (other_in db clauses.exists) other _ there ∙ gives (group_plan table.schema.columns (other_columns other) clauses) plan _ told
 
-      pub asked_planned : (plan : GroupPlan) → group_plan table.heading.columns (other_columns other) clauses ≡ Ok plan → rows_asked db name clauses ≡ Ok (grouping_sets plan.rollup plan.by, rows_about plan table other)
+      pub asked_planned : (plan : GroupPlan) → group_plan table.schema.columns (other_columns other) clauses ≡ Ok plan → rows_asked db name clauses ≡ Ok (grouping_sets plan.rollup plan.by, rows_about plan table other)
       asked_planned plan told =
-          finds NoTable (table_at db name) table _ found ∙ gives (other_in db clauses.exists) other _ there ∙ gives (group_plan table.heading.columns (other_columns other) clauses) plan _ told
+          finds NoTable (table_at db name) table _ found ∙ gives (other_in db clauses.exists) other _ there ∙ gives (group_plan table.schema.columns (other_columns other) clauses) plan _ told
 
 module _ (db : Database) (name : Bytes) (on : List Bytes) (tests : List Test) where
   pub distinct_none : table_at db name ≡ None → distinct db name on tests ≡ Err (unnumbered NoTable)
   distinct_none h = misses NoTable (table_at db name) _ h
 
   module _ (table : PlainTable) (found : table_at db name ≡ Some table) where
-    distinct_unplanned : (why : Refused) → distinct_plan table.heading.columns on tests ≡ Err why → distinct db name on tests ≡ Err why
-    distinct_unplanned why h = finds NoTable (table_at db name) table _ found ∙ stops (distinct_plan table.heading.columns on tests) why _ h
+    distinct_unplanned : (why : Refused) → distinct_plan table.schema.columns on tests ≡ Err why → distinct db name on tests ≡ Err why
+    distinct_unplanned why h = finds NoTable (table_at db name) table _ found ∙ stops (distinct_plan table.schema.columns on tests) why _ h
 
-    pub distinct_comes : (why : Refused) → (why ≡ unnumbered Memory) ⊎ (distinct_plan table.heading.columns on tests ≡ Err why) → Comes (distinct db name on tests) (Err why) db db
+    pub distinct_comes : (why : Refused) → (why ≡ unnumbered Memory) ⊎ (distinct_plan table.schema.columns on tests ≡ Err why) → Comes (distinct db name on tests) (Err why) db db
     distinct_comes why (inl e) = (same_tables db, inl e)
     distinct_comes why (inr e) = (same_tables db, inr (distinct_unplanned why e))
 
-    pub distinct_planned : (plan : DistinctPlan) → distinct_plan table.heading.columns on tests ≡ Ok plan
+    pub distinct_planned : (plan : DistinctPlan) → distinct_plan table.schema.columns on tests ≡ Ok plan
         → distinct db name on tests ≡ (some_or SumRange (Some (keys_planned plan table)) >>= λ rows. Ok (db, reply.Rows on rows))
-    distinct_planned plan told = finds NoTable (table_at db name) table _ found ∙ gives (distinct_plan table.heading.columns on tests) plan _ told
+    distinct_planned plan told = finds NoTable (table_at db name) table _ found ∙ gives (distinct_plan table.schema.columns on tests) plan _ told
 
   -- a line names a column
   pub some_on : is_command (Distinct name on tests) ≡ true → 0 < length on

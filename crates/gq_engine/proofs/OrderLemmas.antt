@@ -6,7 +6,7 @@ use Rattle.std.proofs.lemmas.List.Sorted.{IsPermutation-refl, IsPermutation-sym,
 use Rattle.gq_row.specs.declared.value.Value.{Value}
 use Rattle.gq_row.specs.declared.schema.Column.{Column}
 use Rattle.gq_row.specs.declared.limits.Bounds.{Bounds}
-use Rattle.gq_row.specs.Headings.{Heading, positions_of}
+use Rattle.gq_row.specs.Schemas.{PlainSchema, positions_of}
 use Rattle.gq_row.specs.Order.{same_key}
 use Rattle.gq_row.specs.Rows.{cell, key_of}
 use Rattle.gq_row.specs.Tables.{PlainTable, keys_differ, put, put_all, delete, has_row}
@@ -53,8 +53,8 @@ use Rattle.gq_engine.specs.Orders.{StepsAlike, RunsAlike}
 abbrev Rows : Type 0
 Rows = List (List Value)
 
-abbrev table : Heading → Rows → PlainTable
-table h rows = record { heading = h; rows = rows }
+abbrev table : PlainSchema → Rows → PlainTable
+table h rows = record { schema = h; rows = rows }
 
 -- rows put into the same rows in another order
 put_all-same_rows : (key : List ℕ) (xs ys new : Rows) → IsTrue (keys_differ key xs) → IsPermutation xs ys → IsPermutation (put_all key xs new) (put_all key ys new)
@@ -74,9 +74,9 @@ has_row-same_rows key xs ys k moved = list_any-IsPermutation (λ row. same_key (
 
 -- two tables that differ only in the order of rows, or no table twice
 pub record AlikeTables (s t : PlainTable) : Type 0 where
-  pub heading : s.heading ≡ t.heading
+  pub schema : s.schema ≡ t.schema
   pub rows : IsPermutation s.rows t.rows
-  pub keyed : IsTrue (keys_differ s.heading.key s.rows)
+  pub keyed : IsTrue (keys_differ s.schema.key s.rows)
 
 abbrev Alike : Option PlainTable → Option PlainTable → Type 0
 Alike None None = Unit {0}
@@ -96,10 +96,10 @@ tables_alike [] (y ∷ b) name k same = absurd same
 tables_alike (x ∷ a) [] name k same = absurd same
 tables_alike (x ∷ a) (y ∷ b) name k same =
     let P : List ℕ → Type 0 = λ n. Alike (table_at (x ∷ a) name) (cond (bytes_eq n name) (Some y.1) (table_at b name)) in
-    subst P same.0 (Alike-cond (bytes_eq x.0 name) x.1 y.1 (table_at a name) (table_at b name) (record { heading = same.1; rows = same.2; keyed = k.0 }) (tables_alike a b name k.1 same.3))
+    subst P same.0 (Alike-cond (bytes_eq x.0 name) x.1 y.1 (table_at a name) (table_at b name) (record { schema = same.1; rows = same.2; keyed = k.0 }) (tables_alike a b name k.1 same.3))
 
 pub changed_alike : (a b : Database) (name : List ℕ) (s t : PlainTable) → SameTables a b → AlikeTables s t → SameTables (with_table a name s) (with_table b name t)
-changed_alike [] [] name s t same h = (refl, h.heading, h.rows, tt)
+changed_alike [] [] name s t same h = (refl, h.schema, h.rows, tt)
 changed_alike [] (y ∷ b) name s t same h = absurd same
 changed_alike (x ∷ a) [] name s t same h = absurd same
 changed_alike (x ∷ a) (y ∷ b) name s t same h =
@@ -107,10 +107,10 @@ changed_alike (x ∷ a) (y ∷ b) name s t same h =
     subst P same.0 (chosen (bytes_eq x.0 name) (changed_alike a b name s t same.3 h))
   where
     chosen : (c : Bool) → SameTables (with_table a name s) (with_table b name t) → SameTables (cond c ((x.0, s) ∷ a) (x ∷ with_table a name s)) (cond c ((y.0, t) ∷ b) (y ∷ with_table b name t))
-    chosen true rest = (same.0, h.heading, h.rows, same.3)
+    chosen true rest = (same.0, h.schema, h.rows, same.3)
     chosen false rest = (same.0, same.1, same.2, rest)
 
-pub changed_keyed : (a : Database) (name : List ℕ) (s : PlainTable) → IsKeyed a → IsTrue (keys_differ s.heading.key s.rows) → IsKeyed (with_table a name s)
+pub changed_keyed : (a : Database) (name : List ℕ) (s : PlainTable) → IsKeyed a → IsTrue (keys_differ s.schema.key s.rows) → IsKeyed (with_table a name s)
 changed_keyed [] name s k h = (h, tt)
 changed_keyed (x ∷ a) name s k h = chosen (bytes_eq x.0 name) (changed_keyed a name s k.1 h)
   where
@@ -124,7 +124,7 @@ added_alike [] (y ∷ b) entry same = absurd same
 added_alike (x ∷ a) [] entry same = absurd same
 added_alike (x ∷ a) (y ∷ b) entry same = (same.0, same.1, same.2, added_alike a b entry same.3)
 
-pub added_keyed : (a : Database) (entry : List ℕ × PlainTable) → IsKeyed a → IsTrue (keys_differ entry.1.heading.key entry.1.rows) → IsKeyed (a ++ entry ∷ [])
+pub added_keyed : (a : Database) (entry : List ℕ × PlainTable) → IsKeyed a → IsTrue (keys_differ entry.1.schema.key entry.1.rows) → IsKeyed (a ++ entry ∷ [])
 added_keyed [] entry k h = (h, tt)
 added_keyed (x ∷ a) entry k h = (k.0, added_keyed a entry k.1 h)
 
@@ -211,46 +211,46 @@ alike_some (Some s) (Some t) h = refl
 -- a row is put alike
 put_alike : (limits : Bounds) (s t : PlainTable) (row : List Value) → AlikeTables s t → AlikeBy (λ xs ys. AlikeTables (record s { rows = xs }) (record t { rows = ys })) (put_within limits s row) (put_within limits t row)
 put_alike limits s t row h =
-    then_alike Always Put (true_or TypeMismatch (fits_columns s.heading.columns row)) (true_or TypeMismatch (fits_columns t.heading.columns row)) _ _
-    (test_alike TypeMismatch _ _ (ap (λ (g : Heading). fits_columns g.columns row) h.heading))
+    then_alike Always Put (true_or TypeMismatch (fits_columns s.schema.columns row)) (true_or TypeMismatch (fits_columns t.schema.columns row)) _ _
+    (test_alike TypeMismatch _ _ (ap (λ (g : PlainSchema). fits_columns g.columns row) h.schema))
     (λ _ _ _. then_alike Always Put (true_or NullKey (not (has_null_key s row))) (true_or NullKey (not (has_null_key t row))) _ _
-    (test_alike NullKey _ _ (ap (λ (g : Heading). not (list_any (λ column. is_null (cell row column)) g.key)) h.heading))
+    (test_alike NullKey _ _ (ap (λ (g : PlainSchema). not (list_any (λ column. is_null (cell row column)) g.key)) h.schema))
     (λ _ _ _. then_alike Always Put (true_or Limit (nat_le (length (rows_with s row)) limits.rows)) (true_or Limit (nat_le (length (rows_with t row)) limits.rows)) _ _
     (test_alike Limit _ _ (ap (λ n. nat_le n limits.rows) (sym (length_permutation _ _ moved))))
-    (λ _ _ _. record { heading = h.heading; rows = moved; keyed = keys_differ-put s.heading.key s.rows row h.keyed })))
+    (λ _ _ _. record { schema = h.schema; rows = moved; keyed = keys_differ-put s.schema.key s.rows row h.keyed })))
   where
     Put : Rows → Rows → Type 0
     Put xs ys = AlikeTables (record s { rows = xs }) (record t { rows = ys })
 
     moved : IsPermutation (rows_with s row) (rows_with t row)
-    moved = subst (λ (g : Heading). IsPermutation (put s.heading.key s.rows row) (put g.key t.rows row)) h.heading (put-same_rows s.heading.key s.rows t.rows row h.keyed h.rows)
+    moved = subst (λ (g : PlainSchema). IsPermutation (put s.schema.key s.rows row) (put g.key t.rows row)) h.schema (put-same_rows s.schema.key s.rows t.rows row h.keyed h.rows)
 
 -- and so is what the columns store of one
 store_alike : (limits : Bounds) (s t : PlainTable) (row : List Value) → AlikeTables s t
-    → AlikeBy (λ xs ys. AlikeTables (record s { rows = xs }) (record t { rows = ys })) (put_within limits s (stored_in s.heading.columns row)) (put_within limits t (stored_in t.heading.columns row))
+    → AlikeBy (λ xs ys. AlikeTables (record s { rows = xs }) (record t { rows = ys })) (put_within limits s (stored_in s.schema.columns row)) (put_within limits t (stored_in t.schema.columns row))
 store_alike limits s t row h =
-    let P : Heading → Type 0 = λ g. AlikeBy (λ xs ys. AlikeTables (record s { rows = xs }) (record t { rows = ys })) (put_within limits s (stored_in s.heading.columns row)) (put_within limits t (stored_in g.columns row)) in
-    subst P h.heading (put_alike limits s t (stored_in s.heading.columns row) h)
+    let P : PlainSchema → Type 0 = λ g. AlikeBy (λ xs ys. AlikeTables (record s { rows = xs }) (record t { rows = ys })) (put_within limits s (stored_in s.schema.columns row)) (put_within limits t (stored_in g.columns row)) in
+    subst P h.schema (put_alike limits s t (stored_in s.schema.columns row) h)
 
 -- rows are put alike
 put_all_alike : (limits : Bounds) (s t : PlainTable) (new : Rows) → AlikeTables s t → AlikeBy (λ xs ys. AlikeTables (record s { rows = xs }) (record t { rows = ys })) (put_all_within limits s new) (put_all_within limits t new)
 put_all_alike limits s t new h =
-    then_alike Always (λ xs ys. AlikeTables (record s { rows = xs }) (record t { rows = ys })) (true_or Limit (nat_le (length (put_all s.heading.key s.rows new)) limits.rows)) (true_or Limit (nat_le (length (put_all t.heading.key t.rows new)) limits.rows)) _ _
+    then_alike Always (λ xs ys. AlikeTables (record s { rows = xs }) (record t { rows = ys })) (true_or Limit (nat_le (length (put_all s.schema.key s.rows new)) limits.rows)) (true_or Limit (nat_le (length (put_all t.schema.key t.rows new)) limits.rows)) _ _
     (test_alike Limit _ _ (ap (λ n. nat_le n limits.rows) (sym (length_permutation _ _ moved))))
-    (λ _ _ _. record { heading = h.heading; rows = moved; keyed = keys_differ-put_all s.heading.key s.rows new h.keyed })
+    (λ _ _ _. record { schema = h.schema; rows = moved; keyed = keys_differ-put_all s.schema.key s.rows new h.keyed })
   where
-    moved : IsPermutation (put_all s.heading.key s.rows new) (put_all t.heading.key t.rows new)
-    moved = subst (λ (g : Heading). IsPermutation (put_all s.heading.key s.rows new) (put_all g.key t.rows new)) h.heading (put_all-same_rows s.heading.key s.rows t.rows new h.keyed h.rows)
+    moved : IsPermutation (put_all s.schema.key s.rows new) (put_all t.schema.key t.rows new)
+    moved = subst (λ (g : PlainSchema). IsPermutation (put_all s.schema.key s.rows new) (put_all g.key t.rows new)) h.schema (put_all-same_rows s.schema.key s.rows t.rows new h.keyed h.rows)
 
 -- the row of the key that values name is taken away alike
 delete_alike : (s t : PlainTable) (values : List Value) → AlikeTables s t
-    → AlikeTables (record s { rows = delete s.heading.key s.rows (key_named s.heading values) }) (record t { rows = delete t.heading.key t.rows (key_named t.heading values) })
+    → AlikeTables (record s { rows = delete s.schema.key s.rows (key_named s.schema values) }) (record t { rows = delete t.schema.key t.rows (key_named t.schema values) })
 delete_alike s t values h =
-    let key = key_named s.heading values in
+    let key = key_named s.schema values in
     record {
-      heading = h.heading;
-      rows = subst (λ (g : Heading). IsPermutation (delete s.heading.key s.rows key) (delete g.key t.rows (key_named g values))) h.heading (delete-same_rows s.heading.key s.rows t.rows key h.rows);
-      keyed = keys_differ-delete s.heading.key s.rows key h.keyed;
+      schema = h.schema;
+      rows = subst (λ (g : PlainSchema). IsPermutation (delete s.schema.key s.rows key) (delete g.key t.rows (key_named g values))) h.schema (delete-same_rows s.schema.key s.rows t.rows key h.rows);
+      keyed = keys_differ-delete s.schema.key s.rows key h.keyed;
     }
 
 -- the columns and the rows of a table, if there is one
@@ -258,7 +258,7 @@ others_columns : (o p : Option PlainTable) → Alike o p → other_columns o ≡
 others_columns None None h = refl
 others_columns None (Some t) h = absurd h
 others_columns (Some s) None h = absurd h
-others_columns (Some s) (Some t) h = ap (λ (g : Heading). g.columns) h.heading
+others_columns (Some s) (Some t) h = ap (λ (g : PlainSchema). g.columns) h.schema
 
 others_rows : (o p : Option PlainTable) → Alike o p → IsPermutation (other_rows o) (other_rows p)
 others_rows None None h = IsPermutation-refl []
@@ -307,7 +307,7 @@ module _ (limits : Bounds) (a b : Database) (k : IsKeyed a) (same : SameTables a
   upsert_alike name row =
       then_alike AlikeTablesOf Alikes (with_row limits a name row) (with_row limits b name row) _ _
       (then_alike AlikeTables AlikeTablesOf (table_in a name) (table_in b name) _ _ (table_alike name)
-      (λ s t h. then_alike (λ xs ys. AlikeTables (record s { rows = xs }) (record t { rows = ys })) AlikeTablesOf (put_within limits s (stored_in s.heading.columns row)) (put_within limits t (stored_in t.heading.columns row)) _ _ (store_alike limits s t row h)
+      (λ s t h. then_alike (λ xs ys. AlikeTables (record s { rows = xs }) (record t { rows = ys })) AlikeTablesOf (put_within limits s (stored_in s.schema.columns row)) (put_within limits t (stored_in t.schema.columns row)) _ _ (store_alike limits s t row h)
       (λ xs ys m. record { same = changed_alike a b name (record s { rows = xs }) (record t { rows = ys }) same m; keyed = changed_keyed a name (record s { rows = xs }) k m.keyed })))
       (λ x y m. record { reply = refl; same = m.same; keyed = m.keyed })
 
@@ -322,8 +322,8 @@ module _ (limits : Bounds) (a b : Database) (k : IsKeyed a) (same : SameTables a
       then_alike Always Alikes (true_or Memory (not (is_lost payload))) (true_or Memory (not (is_lost payload))) _ _ (test_alike Memory _ _ refl)
       (λ _ _ _. then_alike AlikeTables Alikes (table_in a name) (table_in b name) _ _ (table_alike name)
       (λ s t h. then_alike (λ (x y : Bytes). x ≡ y) Alikes (bytes_told payload) (bytes_told payload) _ _ (same_alike (bytes_told payload) (bytes_told payload) refl)
-      (λ x y e. then_alike (λ (xs ys : Rows). xs ≡ ys) Alikes (rows_told short.Refused limits s.heading x) (rows_told short.Refused limits t.heading y) _ _
-      (same_alike (rows_told short.Refused limits s.heading x) (rows_told short.Refused limits t.heading y) (ap (λ (g : Heading). rows_told short.Refused limits g x) h.heading ∙ ap (rows_told short.Refused limits t.heading) e))
+      (λ x y e. then_alike (λ (xs ys : Rows). xs ≡ ys) Alikes (rows_told short.Refused limits s.schema x) (rows_told short.Refused limits t.schema y) _ _
+      (same_alike (rows_told short.Refused limits s.schema x) (rows_told short.Refused limits t.schema y) (ap (λ (g : PlainSchema). rows_told short.Refused limits g x) h.schema ∙ ap (rows_told short.Refused limits t.schema) e))
       (λ xs ys f. put xs ys f))))
     where
       put : (xs ys : Rows) → xs ≡ ys → AlikeBy Alikes (with_rows limits a name xs >>= λ new. Ok (new, reply.Done (length xs))) (with_rows limits b name ys >>= λ new. Ok (new, reply.Done (length ys)))
@@ -335,30 +335,30 @@ module _ (limits : Bounds) (a b : Database) (k : IsKeyed a) (same : SameTables a
   deleted_alike : (name : List ℕ) (values : List Value) → AlikeBy Alikes (delete_row a name values) (delete_row b name values)
   deleted_alike name values =
       then_alike AlikeTables Alikes (table_in a name) (table_in b name) _ _ (table_alike name)
-      (λ s t h. then_alike Always Alikes (true_or NoKey (some s.heading.key)) (true_or NoKey (some t.heading.key)) _ _
-      (test_alike NoKey _ _ (ap (λ (g : Heading). some g.key) h.heading))
-      (λ _ _ _. then_alike Always Alikes (true_or TypeMismatch (fits s.heading)) (true_or TypeMismatch (fits t.heading)) _ _ (test_alike TypeMismatch _ _ (ap fits h.heading))
-      (λ _ _ _. then_alike Always Alikes (true_or NullKey (whole s.heading)) (true_or NullKey (whole t.heading)) _ _ (test_alike NullKey _ _ (ap whole h.heading))
+      (λ s t h. then_alike Always Alikes (true_or NoKey (some s.schema.key)) (true_or NoKey (some t.schema.key)) _ _
+      (test_alike NoKey _ _ (ap (λ (g : PlainSchema). some g.key) h.schema))
+      (λ _ _ _. then_alike Always Alikes (true_or TypeMismatch (fits s.schema)) (true_or TypeMismatch (fits t.schema)) _ _ (test_alike TypeMismatch _ _ (ap fits h.schema))
+      (λ _ _ _. then_alike Always Alikes (true_or NullKey (whole s.schema)) (true_or NullKey (whole t.schema)) _ _ (test_alike NullKey _ _ (ap whole h.schema))
       (λ _ _ _. deleted s t h))))
     where
-      fits : Heading → Bool
+      fits : PlainSchema → Bool
       fits g = fits_key g.columns g.key (stored_key g.columns g.key values)
 
-      whole : Heading → Bool
+      whole : PlainSchema → Bool
       whole g = not (list_any is_null (stored_key g.columns g.key values))
 
       left : PlainTable → PlainTable
-      left s = record s { rows = delete s.heading.key s.rows (key_named s.heading values) }
+      left s = record s { rows = delete s.schema.key s.rows (key_named s.schema values) }
 
       count : PlainTable → Reply
-      count s = reply.Done (if has_row s.heading.key s.rows (key_named s.heading values) then 1 else 0)
+      count s = reply.Done (if has_row s.schema.key s.rows (key_named s.schema values) then 1 else 0)
 
       deleted : (s t : PlainTable) → AlikeTables s t → Alikes (with_table a name (left s), count s) (with_table b name (left t), count t)
       deleted s t h =
           let m = delete_alike s t values h in
           record {
             reply = ap (λ (b : Bool). reply.Done (if b then 1 else 0))
-                (has_row-same_rows s.heading.key s.rows t.rows (key_named s.heading values) h.rows ∙ ap (λ (g : Heading). has_row g.key t.rows (key_named g values)) h.heading);
+                (has_row-same_rows s.schema.key s.rows t.rows (key_named s.schema values) h.rows ∙ ap (λ (g : PlainSchema). has_row g.key t.rows (key_named g values)) h.schema);
             same = changed_alike a b name (left s) (left t) same m;
             keyed = changed_keyed a name (left s) k m.keyed;
           }
@@ -367,8 +367,8 @@ module _ (limits : Bounds) (a b : Database) (k : IsKeyed a) (same : SameTables a
   show_alike name =
       then_alike AlikeTables Alikes (table_in a name) (table_in b name) _ _ (table_alike name)
       (λ s t h. record {
-        reply = ap (λ (g : Heading). reply.Rows (column_names g.columns) (rows_shown s)) h.heading
-            ∙ ap (reply.Rows (column_names t.heading.columns)) (order_is_unseen.listed s t h.heading h.keyed h.rows);
+        reply = ap (λ (g : PlainSchema). reply.Rows (column_names g.columns) (rows_shown s)) h.schema
+            ∙ ap (reply.Rows (column_names t.schema.columns)) (order_is_unseen.listed s t h.schema h.keyed h.rows);
         same = same;
         keyed = k;
       })
@@ -381,8 +381,8 @@ module _ (limits : Bounds) (a b : Database) (k : IsKeyed a) (same : SameTables a
   group_alike name clauses =
       then_alike AlikeTables Alikes (table_in a name) (table_in b name) _ _ (table_alike name)
       (λ s t h. then_alike Alike Alikes (other_in a clauses.exists) (other_in b clauses.exists) _ _ (other_alike clauses.exists)
-      (λ u v o. then_alike (λ (c d : GroupPlan). c ≡ d) Alikes (group_plan s.heading.columns (other_columns u) clauses) (group_plan t.heading.columns (other_columns v) clauses) _ _
-      (same_alike _ _ (ap (λ (g : Heading). group_plan g.columns (other_columns u) clauses) h.heading ∙ ap (λ (l : List Column). group_plan t.heading.columns l clauses) (others_columns u v o)))
+      (λ u v o. then_alike (λ (c d : GroupPlan). c ≡ d) Alikes (group_plan s.schema.columns (other_columns u) clauses) (group_plan t.schema.columns (other_columns v) clauses) _ _
+      (same_alike _ _ (ap (λ (g : PlainSchema). group_plan g.columns (other_columns u) clauses) h.schema ∙ ap (λ (l : List Column). group_plan t.schema.columns l clauses) (others_columns u v o)))
       (λ c d e. then_alike (λ (xs ys : Rows). xs ≡ ys) Alikes (some_or SumRange (rows_planned c s u)) (some_or SumRange (rows_planned d t v)) _ _
       (some_alike SumRange _ _ (order_is_unseen.grouped c.rollup c.by c.shown c.having.tests c.condition.tests c.matching (other_rows u) (other_rows v) s.rows t.rows (others_rows u v o) h.rows
       ∙ ap (λ (k : GroupPlan). rows_planned k t v) e))
@@ -391,8 +391,8 @@ module _ (limits : Bounds) (a b : Database) (k : IsKeyed a) (same : SameTables a
   distinct_alike : (name : List ℕ) (on : List Bytes) (tests : List Test) → AlikeBy Alikes (distinct a name on tests) (distinct b name on tests)
   distinct_alike name on tests =
       then_alike AlikeTables Alikes (table_in a name) (table_in b name) _ _ (table_alike name)
-      (λ s t h. then_alike (λ (c d : DistinctPlan). c ≡ d) Alikes (distinct_plan s.heading.columns on tests) (distinct_plan t.heading.columns on tests) _ _
-      (same_alike _ _ (ap (λ (g : Heading). distinct_plan g.columns on tests) h.heading))
+      (λ s t h. then_alike (λ (c d : DistinctPlan). c ≡ d) Alikes (distinct_plan s.schema.columns on tests) (distinct_plan t.schema.columns on tests) _ _
+      (same_alike _ _ (ap (λ (g : PlainSchema). distinct_plan g.columns on tests) h.schema))
       (λ c d e. record {
         reply = ap (reply.Rows on)
             (order_is_unseen.told_apart c.on c.condition.tests None [] [] s.rows t.rows (IsPermutation-refl []) h.rows
@@ -528,7 +528,7 @@ pub answered_exactly : (setting : Setting) (old : Database) (it : Item) (answer 
 answered_exactly setting old it answer new h = record { last = new; legal = h; same = same_tables new }
 
 -- another table at a place
-pub keyed_set : (db : Database) (i : ℕ) (name : List ℕ) (s : PlainTable) → IsKeyed db → IsTrue (keys_differ s.heading.key s.rows) → IsKeyed (set db i (name, s))
+pub keyed_set : (db : Database) (i : ℕ) (name : List ℕ) (s : PlainTable) → IsKeyed db → IsTrue (keys_differ s.schema.key s.rows) → IsKeyed (set db i (name, s))
 keyed_set [] i name s k h = tt
 keyed_set (x ∷ db) zero name s k h = (h, k.1)
 keyed_set (x ∷ db) (suc i) name s k h = (k.0, keyed_set db i name s k.1 h)

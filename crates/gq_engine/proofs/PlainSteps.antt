@@ -4,7 +4,7 @@ use Rattle.std.specs.Prelude.{nat_lt, nat_le, is_some, Result, Ok, Err}
 use Rattle.gq_row.specs.declared.value.Value.{Value}
 use Rattle.gq_row.specs.declared.schema.Column.{Column}
 use Rattle.gq_row.specs.declared.limits.Bounds.{Bounds}
-use Rattle.gq_row.specs.Headings.{positions_of}
+use Rattle.gq_row.specs.Schemas.{positions_of}
 use Rattle.gq_row.specs.Tables.{PlainTable, put_all}
 use Rattle.gq_load.specs.declared.short_records.Short.TheVariants as short
 use Rattle.gq_load.specs.Payloads.{load}
@@ -61,7 +61,7 @@ faulty done = is_store_fault done.1
 
 put_refuses : (limits : Bounds) (table : PlainTable) (row : List Value) → Refuses never (put_within limits table row)
 put_refuses limits table row =
-    then_refuses never never (true_or TypeMismatch (fits_columns table.heading.columns row)) _ (test_refuses TypeMismatch _ refl)
+    then_refuses never never (true_or TypeMismatch (fits_columns table.schema.columns row)) _ (test_refuses TypeMismatch _ refl)
     (λ _. then_refuses never never (true_or NullKey (not (has_null_key table row))) _ (test_refuses NullKey _ refl)
     (λ _. then_refuses never never (true_or Limit (nat_le (length (rows_with table row)) limits.rows)) _ (test_refuses Limit _ refl) (λ _. refl)))
 
@@ -95,7 +95,7 @@ module _ (limits : Bounds) (db : Database) where
   upsert_refuses name row =
       then_refuses never faulty (with_row limits db name row) _
       (then_refuses never never (table_in db name) _ (some_refuses NoTable _ refl)
-      (λ table. then_refuses never never (put_within limits table (stored_in table.heading.columns row)) _ (put_refuses limits table (stored_in table.heading.columns row)) (λ _. refl)))
+      (λ table. then_refuses never never (put_within limits table (stored_in table.schema.columns row)) _ (put_refuses limits table (stored_in table.schema.columns row)) (λ _. refl)))
       (λ _. refl)
 
   drop_refuses : (name : List ℕ) → Refuses faulty (drop_table db name)
@@ -106,19 +106,19 @@ module _ (limits : Bounds) (db : Database) where
       then_refuses never faulty (true_or Memory (not (is_lost payload))) _ (test_refuses Memory _ refl)
       (λ _. then_refuses never faulty (table_in db name) _ (some_refuses NoTable _ refl)
       (λ table. then_refuses never faulty (bytes_told payload) _ (payload_refuses payload)
-      (λ bytes. then_refuses never faulty (rows_told short.Refused limits table.heading bytes) _ (rows_refuse (load short.Refused table.heading limits bytes))
+      (λ bytes. then_refuses never faulty (rows_told short.Refused limits table.schema bytes) _ (rows_refuse (load short.Refused table.schema limits bytes))
       (λ rows. then_refuses never faulty (with_rows limits db name rows) _
       (then_refuses never never (table_in db name) _ (some_refuses NoTable _ refl)
       (λ there. then_refuses never never (put_all_within limits there rows) _
-      (then_refuses never never (true_or Limit (nat_le (length (put_all there.heading.key there.rows rows)) limits.rows)) _ (test_refuses Limit _ refl) (λ _. refl)) (λ _. refl)))
+      (then_refuses never never (true_or Limit (nat_le (length (put_all there.schema.key there.rows rows)) limits.rows)) _ (test_refuses Limit _ refl) (λ _. refl)) (λ _. refl)))
       (λ _. refl)))))
 
   delete_refuses : (name : List ℕ) (values : List Value) → Refuses faulty (delete_row db name values)
   delete_refuses name values =
       then_refuses never faulty (table_in db name) _ (some_refuses NoTable _ refl)
-      (λ table. then_refuses never faulty (true_or NoKey (some table.heading.key)) _ (test_refuses NoKey _ refl)
-      (λ _. then_refuses never faulty (true_or TypeMismatch (fits_key table.heading.columns table.heading.key (stored_key table.heading.columns table.heading.key values))) _ (test_refuses TypeMismatch _ refl)
-      (λ _. then_refuses never faulty (true_or NullKey (not (list_any is_null (stored_key table.heading.columns table.heading.key values)))) _ (test_refuses NullKey _ refl) (λ _. refl))))
+      (λ table. then_refuses never faulty (true_or NoKey (some table.schema.key)) _ (test_refuses NoKey _ refl)
+      (λ _. then_refuses never faulty (true_or TypeMismatch (fits_key table.schema.columns table.schema.key (stored_key table.schema.columns table.schema.key values))) _ (test_refuses TypeMismatch _ refl)
+      (λ _. then_refuses never faulty (true_or NullKey (not (list_any is_null (stored_key table.schema.columns table.schema.key values)))) _ (test_refuses NullKey _ refl) (λ _. refl))))
 
   show_refuses : (name : List ℕ) → Refuses faulty (show_table db name)
   show_refuses name = then_refuses never faulty (table_in db name) _ (some_refuses NoTable _ refl) (λ _. refl)
@@ -150,7 +150,7 @@ module _ (limits : Bounds) (db : Database) where
   group_refuses name clauses =
       then_refuses never faulty (table_in db name) _ (some_refuses NoTable _ refl)
       (λ table. then_refuses never faulty (other_in db clauses.exists) _ (other_refuses clauses.exists)
-      (λ other. then_refuses never faulty (group_plan table.heading.columns (other_columns other) clauses) _ (group_plan_refuses table.heading.columns (other_columns other) clauses)
+      (λ other. then_refuses never faulty (group_plan table.schema.columns (other_columns other) clauses) _ (group_plan_refuses table.schema.columns (other_columns other) clauses)
       (λ plan. then_refuses never faulty (some_or SumRange (rows_planned plan table other)) _ (some_refuses SumRange _ refl) (λ _. refl))))
 
   distinct_plan_refuses : (columns : List Column) (on : List Bytes) (tests : List Test) → Refuses never (distinct_plan columns on tests)
@@ -163,7 +163,7 @@ module _ (limits : Bounds) (db : Database) where
   distinct_refuses : (name : List ℕ) (on : List Bytes) (tests : List Test) → Refuses faulty (distinct db name on tests)
   distinct_refuses name on tests =
       then_refuses never faulty (table_in db name) _ (some_refuses NoTable _ refl)
-      (λ table. then_refuses never faulty (distinct_plan table.heading.columns on tests) _ (distinct_plan_refuses table.heading.columns on tests) (λ _. refl))
+      (λ table. then_refuses never faulty (distinct_plan table.schema.columns on tests) _ (distinct_plan_refuses table.schema.columns on tests) (λ _. refl))
 
   command_refuses : (c : Command) → Refuses faulty (outcome limits db c)
   command_refuses (Create name columns key) = create_refuses name columns key

@@ -5,7 +5,7 @@ use Rattle.std.proofs.lemmas.List.{get_or_default}
 use Rattle.std.proofs.lemmas.List.Sorted.{IsPermutation-refl, IsPermutation-sym, IsPermutation-trans, length_permutation}
 use Rattle.gq_row.specs.declared.value.Value.{Value}
 use Rattle.gq_row.specs.declared.limits.Bounds.{Bounds}
-use Rattle.gq_row.specs.Headings.{Heading}
+use Rattle.gq_row.specs.Schemas.{PlainSchema}
 use Rattle.gq_row.specs.Tables.{PlainTable, put, put_all, keys_differ}
 use Rattle.gq_row.proofs.MovedLemmas.{keys_differ-permutation, put-same_rows}
 use Rattle.gq_load.specs.declared.load_refusal.LoadRefusal.{LoadRefusal}
@@ -48,14 +48,14 @@ put_all-push key old [] row = refl
 put_all-push key old (first ∷ front) row = put_all-push key (put key old first) front row
 
 -- so far these rows were read and put, and those are left
-pub record SoFar (heading : Heading) (staged : PlainTable) (count : ℕ) (left all : Option (Result Rows LoadRefusal)) : Type 0 where
+pub record SoFar (schema : PlainSchema) (staged : PlainTable) (count : ℕ) (left all : Option (Result Rows LoadRefusal)) : Type 0 where
   pub front : Rows
   pub told : Joined front left all
   pub counted : count ≡ length front
-  pub same : staged.heading ≡ heading
-  pub put : IsPermutation (put_all heading.key [] front) staged.rows
+  pub same : staged.schema ≡ schema
+  pub put : IsPermutation (put_all schema.key [] front) staged.rows
 
-pub begun : (staged : PlainTable) (all : Option (Result Rows LoadRefusal)) → staged.rows ≡ [] → SoFar staged.heading staged 0 all all
+pub begun : (staged : PlainTable) (all : Option (Result Rows LoadRefusal)) → staged.rows ≡ [] → SoFar staged.schema staged 0 all all
 begun staged all none = record {
   front = [];
   told = joined_none all;
@@ -64,24 +64,24 @@ begun staged all none = record {
   put = subst (IsPermutation []) (sym none) (IsPermutation-refl []);
 }
 
-pub onward : (heading : Heading) (staged new : PlainTable) (count : ℕ) (left others all : Option (Result Rows LoadRefusal)) (row : List Value) → SoFar heading staged count left all → BeginWith left row others → IsPut staged row new
-    → SoFar heading new (count + 1) others all
-onward heading staged new count left others all row h e p = record {
+pub onward : (schema : PlainSchema) (staged new : PlainTable) (count : ℕ) (left others all : Option (Result Rows LoadRefusal)) (row : List Value) → SoFar schema staged count left all → BeginWith left row others → IsPut staged row new
+    → SoFar schema new (count + 1) others all
+onward schema staged new count left others all row h e p = record {
   front = h.front ++ row ∷ [];
   told = joined_more h.front row all left others h.told e;
   counted = omega (arith, h.counted, length-append h.front (row ∷ []));
-  same = p.heading ∙ h.same;
-  put = subst (λ l. IsPermutation l new.rows) (sym (put_all-push heading.key [] h.front row))
-      (IsPermutation-trans _ _ _ (put-same_rows heading.key (put_all heading.key [] h.front) staged.rows row (keys_differ-put_all heading.key [] h.front (no_rows_differ heading.key)) h.put)
-      (subst (λ (g : Heading). IsPermutation (put g.key staged.rows row) new.rows) h.same p.rows));
+  same = p.schema ∙ h.same;
+  put = subst (λ l. IsPermutation l new.rows) (sym (put_all-push schema.key [] h.front row))
+      (IsPermutation-trans _ _ _ (put-same_rows schema.key (put_all schema.key [] h.front) staged.rows row (keys_differ-put_all schema.key [] h.front (no_rows_differ schema.key)) h.put)
+      (subst (λ (g : PlainSchema). IsPermutation (put g.key staged.rows row) new.rows) h.same p.rows));
 }
 
 told_rows : (all : Option (Result Rows LoadRefusal)) (rows : Rows) → IfSome all (λ read. read ≡ Ok rows) → IfSome (option_map refused_by all) (λ given. given ≡ Ok rows)
 told_rows None rows h = tt
 told_rows (Some read) rows h = ap refused_by h
 
-pub ended : (heading : Heading) (staged : PlainTable) (count : ℕ) (left all : Option (Result Rows LoadRefusal)) → SoFar heading staged count left all → IfSome left (λ read. read ≡ Ok []) → HasStaged (option_map refused_by all) heading staged count
-ended heading staged count left all h e = record {
+pub ended : (schema : PlainSchema) (staged : PlainTable) (count : ℕ) (left all : Option (Result Rows LoadRefusal)) → SoFar schema staged count left all → IfSome left (λ read. read ≡ Ok []) → HasStaged (option_map refused_by all) schema staged count
+ended schema staged count left all h e = record {
   rows = h.front;
   told = told_rows all h.front (joined_end h.front all left h.told e);
   counted = h.counted;
@@ -96,25 +96,25 @@ fault_told all (row_fault.Refused why) (inl m) = inl (ap fault_refusal m)
 fault_told None (row_fault.Refused why) (inr h) = inr tt
 fault_told (Some read) (row_fault.Refused why) (inr h) = inr (ap refused_by h)
 
-pub failed : (heading : Heading) (staged : PlainTable) (count : ℕ) (left all : Option (Result Rows LoadRefusal)) (why : RowFault) → SoFar heading staged count left all → IsFaultOf left why → IsTold (option_map refused_by all) (csv_told why)
-failed heading staged count left all why h e = fault_told all why (joined_bad h.front all left why h.told e)
+pub failed : (schema : PlainSchema) (staged : PlainTable) (count : ℕ) (left all : Option (Result Rows LoadRefusal)) (why : RowFault) → SoFar schema staged count left all → IsFaultOf left why → IsTold (option_map refused_by all) (csv_told why)
+failed schema staged count left all why h e = fault_told all why (joined_bad h.front all left why h.told e)
 
 -- the rows of a text, by what its reader has yet to give
-pub staged_of : (short : Short) (limits : Bounds) (heading : Heading) (text : Option Bytes) (all : Option (Result Rows LoadRefusal)) (staged : PlainTable) (count : ℕ)
-    → IfSome text (λ bytes. all ≡ Some (load short heading limits bytes)) → HasStaged (option_map refused_by all) heading staged count → HasStaged (option_map (rows_told short limits heading) text) heading staged count
-staged_of short limits heading None all staged count e h = record { rows = h.rows; told = tt; counted = h.counted; same = h.same; put = h.put }
-staged_of short limits heading (Some bytes) all staged count e h = subst (λ o. HasStaged (option_map refused_by o) heading staged count) e h
+pub staged_of : (short : Short) (limits : Bounds) (schema : PlainSchema) (text : Option Bytes) (all : Option (Result Rows LoadRefusal)) (staged : PlainTable) (count : ℕ)
+    → IfSome text (λ bytes. all ≡ Some (load short schema limits bytes)) → HasStaged (option_map refused_by all) schema staged count → HasStaged (option_map (rows_told short limits schema) text) schema staged count
+staged_of short limits schema None all staged count e h = record { rows = h.rows; told = tt; counted = h.counted; same = h.same; put = h.put }
+staged_of short limits schema (Some bytes) all staged count e h = subst (λ o. HasStaged (option_map refused_by o) schema staged count) e h
 
-pub told_of : (short : Short) (limits : Bounds) (heading : Heading) (text : Option Bytes) (all : Option (Result Rows LoadRefusal)) (why : CsvFault)
-    → IfSome text (λ bytes. all ≡ Some (load short heading limits bytes)) → IsTold (option_map refused_by all) why → IsTold (option_map (rows_told short limits heading) text) why
-told_of short limits heading text all csv_fault.Read e h = tt
-told_of short limits heading text all (csv_fault.Refused why) e (inl m) = inl m
-told_of short limits heading None all (csv_fault.Refused why) e (inr h) = inr tt
-told_of short limits heading (Some bytes) all (csv_fault.Refused why) e (inr h) = inr (subst (λ o. IfSome (option_map refused_by o) (λ given. given ≡ Err why)) e h)
+pub told_of : (short : Short) (limits : Bounds) (schema : PlainSchema) (text : Option Bytes) (all : Option (Result Rows LoadRefusal)) (why : CsvFault)
+    → IfSome text (λ bytes. all ≡ Some (load short schema limits bytes)) → IsTold (option_map refused_by all) why → IsTold (option_map (rows_told short limits schema) text) why
+told_of short limits schema text all csv_fault.Read e h = tt
+told_of short limits schema text all (csv_fault.Refused why) e (inl m) = inl m
+told_of short limits schema None all (csv_fault.Refused why) e (inr h) = inr tt
+told_of short limits schema (Some bytes) all (csv_fault.Refused why) e (inr h) = inr (subst (λ o. IfSome (option_map refused_by o) (λ given. given ≡ Err why)) e h)
 
-pub begin_told : (short : Short) (limits : Bounds) (heading : Heading) (text : Option Bytes) (why : RowFault) → IsFaultOf (option_map (load short heading limits) text) why → IsTold (option_map (rows_told short limits heading) text) (csv_told why)
-begin_told short limits heading None why h = fault_told None why h
-begin_told short limits heading (Some bytes) why h = fault_told (Some (load short heading limits bytes)) why h
+pub begin_told : (short : Short) (limits : Bounds) (schema : PlainSchema) (text : Option Bytes) (why : RowFault) → IsFaultOf (option_map (load short schema limits) text) why → IsTold (option_map (rows_told short limits schema) text) (csv_told why)
+begin_told short limits schema None why h = fault_told None why h
+begin_told short limits schema (Some bytes) why h = fault_told (Some (load short schema limits bytes)) why h
 
 -- bytes in memory are refused, or there was no memory
 pub in_memory : {A : Type 0} (read : Result A Refused) (why : CsvFault) → IsTold (Some read) why → (refused_in why ≡ unnumbered Memory) ⊎ (read ≡ Err (refused_in why))
@@ -123,35 +123,35 @@ in_memory read csv_fault.Read h = inl refl
 
 -- ---- all at once
 
-module _ (limits : Bounds) (db : Database) (name : List ℕ) (table : PlainTable) (found : table_at db name ≡ Some table) (differ : IsTrue (keys_differ table.heading.key table.rows)) (rows s : Rows)
-    (put : IsPermutation (put_all table.heading.key [] rows) s) where
-  moved : IsPermutation (put_all table.heading.key table.rows s) (put_all table.heading.key table.rows rows)
+module _ (limits : Bounds) (db : Database) (name : List ℕ) (table : PlainTable) (found : table_at db name ≡ Some table) (differ : IsTrue (keys_differ table.schema.key table.rows)) (rows s : Rows)
+    (put : IsPermutation (put_all table.schema.key [] rows) s) where
+  moved : IsPermutation (put_all table.schema.key table.rows s) (put_all table.schema.key table.rows rows)
   moved =
-      let key = table.heading.key in
+      let key = table.schema.key in
       loaded_again key table.rows rows s differ (keys_differ-permutation key (put_all key [] rows) s put (keys_differ-put_all key [] rows (no_rows_differ key))) put
 
-  as_many : length (put_all table.heading.key table.rows s) ≡ length (put_all table.heading.key table.rows rows)
+  as_many : length (put_all table.schema.key table.rows s) ≡ length (put_all table.schema.key table.rows rows)
   as_many = let e = length_permutation _ _ moved in omega arith
 
-  within : (b : Bool) (new : Rows) → nat_le (length (put_all table.heading.key table.rows new)) limits.rows ≡ b
-      → put_all_within limits table new ≡ (true_or Limit b >>= λ few. Ok (put_all table.heading.key table.rows new))
-  within b new e = ap (λ x. true_or Limit x >>= λ few. Ok (put_all table.heading.key table.rows new)) e
+  within : (b : Bool) (new : Rows) → nat_le (length (put_all table.schema.key table.rows new)) limits.rows ≡ b
+      → put_all_within limits table new ≡ (true_or Limit b >>= λ few. Ok (put_all table.schema.key table.rows new))
+  within b new e = ap (λ x. true_or Limit x >>= λ few. Ok (put_all table.schema.key table.rows new)) e
 
   pub loaded_rows : {X : Type 0} (result : Result X Refused) (new : Database) → Changes (with_rows limits db name s) result db new → Changes (with_rows limits db name rows) result db new
-  loaded_rows result new h = chosen (nat_le (length (put_all table.heading.key table.rows s)) limits.rows) refl (ap (λ n. nat_le n limits.rows) (sym as_many)) result h
+  loaded_rows result new h = chosen (nat_le (length (put_all table.schema.key table.rows s)) limits.rows) refl (ap (λ n. nat_le n limits.rows) (sym as_many)) result h
     where
-      chosen : {X : Type 0} (b : Bool) → nat_le (length (put_all table.heading.key table.rows s)) limits.rows ≡ b
-          → nat_le (length (put_all table.heading.key table.rows rows)) limits.rows ≡ nat_le (length (put_all table.heading.key table.rows s)) limits.rows
+      chosen : {X : Type 0} (b : Bool) → nat_le (length (put_all table.schema.key table.rows s)) limits.rows ≡ b
+          → nat_le (length (put_all table.schema.key table.rows rows)) limits.rows ≡ nat_le (length (put_all table.schema.key table.rows s)) limits.rows
           → (result : Result X Refused) → Changes (with_rows limits db name s) result db new → Changes (with_rows limits db name rows) result db new
       chosen true e f (Ok x) h =
-          let there = rows_put limits db name s (put_all table.heading.key table.rows s) table found (within true s e) in
-          let here = rows_put limits db name rows (put_all table.heading.key table.rows rows) table found (within true rows (f ∙ e)) in
-          let last : h.0 ≡ with_table db name (record table { rows = put_all table.heading.key table.rows s }) = ok_is _ _ (sym h.1 ∙ there) in (
-            with_table db name (record table { rows = put_all table.heading.key table.rows rows }),
+          let there = rows_put limits db name s (put_all table.schema.key table.rows s) table found (within true s e) in
+          let here = rows_put limits db name rows (put_all table.schema.key table.rows rows) table found (within true rows (f ∙ e)) in
+          let last : h.0 ≡ with_table db name (record table { rows = put_all table.schema.key table.rows s }) = ok_is _ _ (sym h.1 ∙ there) in (
+            with_table db name (record table { rows = put_all table.schema.key table.rows rows }),
             here,
             tables_trans _ _ _
-                (changed_alike db db name (record table { rows = put_all table.heading.key table.rows rows }) (record table { rows = put_all table.heading.key table.rows s }) (same_tables db)
-                (record { heading = refl; rows = IsPermutation-sym _ _ moved; keyed = keys_differ-put_all table.heading.key table.rows rows differ }))
+                (changed_alike db db name (record table { rows = put_all table.schema.key table.rows rows }) (record table { rows = put_all table.schema.key table.rows s }) (same_tables db)
+                (record { schema = refl; rows = IsPermutation-sym _ _ moved; keyed = keys_differ-put_all table.schema.key table.rows rows differ }))
                 (subst (λ (d : Database). SameTables d new) last h.2),
           )
         where
@@ -162,7 +162,7 @@ module _ (limits : Bounds) (db : Database) (name : List ℕ) (table : PlainTable
           left : (why ≡ unnumbered Memory) ⊎ (with_rows limits db name s ≡ Err why) → (why ≡ unnumbered Memory) ⊎ (with_rows limits db name rows ≡ Err why)
           left (inl m) = inl m
           left (inr k) =
-              let there = rows_put limits db name s (put_all table.heading.key table.rows s) table found (within true s e) in
+              let there = rows_put limits db name s (put_all table.schema.key table.rows s) table found (within true s e) in
               let both = sym k ∙ there in
               let none : ⊥ = cc in
               absurd none
@@ -181,18 +181,18 @@ module _ (limits : Bounds) (db : Database) (name : List ℕ) (table : PlainTable
               inr (here ∙ sym there ∙ k)
 
 -- each table of a database has rows of different keys
-pub keyed_at : (db : Database) (name : List ℕ) (table : PlainTable) → IsKeyed db → table_at db name ≡ Some table → IsTrue (keys_differ table.heading.key table.rows)
+pub keyed_at : (db : Database) (name : List ℕ) (table : PlainTable) → IsKeyed db → table_at db name ≡ Some table → IsTrue (keys_differ table.schema.key table.rows)
 keyed_at [] name table k e = let none : ⊥ = cc in absurd none
 keyed_at (entry ∷ db) name table k e = step (bytes_eq entry.0 name) e (keyed_at db name table k.1)
   where
-    step : (b : Bool) → cond b (Some entry.1) (table_at db name) ≡ Some table → (table_at db name ≡ Some table → IsTrue (keys_differ table.heading.key table.rows)) → IsTrue (keys_differ table.heading.key table.rows)
-    step true e rest = let same : entry.1 ≡ table = cc in subst (λ (t : PlainTable). IsTrue (keys_differ t.heading.key t.rows)) same k.0
+    step : (b : Bool) → cond b (Some entry.1) (table_at db name) ≡ Some table → (table_at db name ≡ Some table → IsTrue (keys_differ table.schema.key table.rows)) → IsTrue (keys_differ table.schema.key table.rows)
+    step true e rest = let same : entry.1 ≡ table = cc in subst (λ (t : PlainTable). IsTrue (keys_differ t.schema.key t.rows)) same k.0
     step false e rest = rest e
 
 -- a load of what was staged is the load of the payload
 module _ (short : Short) (limits : Bounds) (db : Database) (name : List ℕ) (table : PlainTable) (found : table_at db name ≡ Some table) (keyed : IsKeyed db) where
   -- the rows that were staged were put, whatever the bytes
-  module _ (read : Option (Result Rows Refused)) (staged : PlainTable) (count : ℕ) (h : HasStaged read table.heading staged count) where
+  module _ (read : Option (Result Rows Refused)) (staged : PlainTable) (count : ℕ) (h : HasStaged read table.schema staged count) where
     as_all : {X : Type 0} (result : Result X Refused) (new : Database) → Changes (with_rows limits db name staged.rows) result db new → Changes (with_rows limits db name h.rows) result db new
     as_all result new changes = loaded_rows limits db name table found (keyed_at db name table keyed found) h.rows staged.rows h.put result new changes
 
@@ -201,17 +201,17 @@ module _ (short : Short) (limits : Bounds) (db : Database) (name : List ℕ) (ta
         let g = as_all (Ok x) new changes in
         record { rows = h.rows; counted = h.counted; last = g.0; done = g.1; same = g.2 }
 
-  module _ (carried : Payload) (bytes : Bytes) (lost : is_lost carried ≡ false) (told : bytes_told carried ≡ Ok bytes) (staged : PlainTable) (count : ℕ) (h : HasStaged (Some (rows_told short limits table.heading bytes)) table.heading staged count) where
+  module _ (carried : Payload) (bytes : Bytes) (lost : is_lost carried ≡ false) (told : bytes_told carried ≡ Ok bytes) (staged : PlainTable) (count : ℕ) (h : HasStaged (Some (rows_told short limits table.schema bytes)) table.schema staged count) where
     load_as : load_table short limits db name carried ≡ (with_rows limits db name h.rows >>= λ new. Ok (new, reply.Done (length h.rows)))
     load_as =
         passes Memory (not (is_lost carried)) _ (ap not lost)
         ∙ finds NoTable (table_at db name) table _ found
         ∙ gives (bytes_told carried) bytes _ told
-        ∙ gives (rows_told short limits table.heading bytes) h.rows _ h.told
+        ∙ gives (rows_told short limits table.schema bytes) h.rows _ h.told
 
     pub staged_done : {X : Type 0} (x : X) (new : Database) → Changes (with_rows limits db name staged.rows) (Ok x) db new → Comes (load_table short limits db name carried) (Ok (reply.Done count)) db new
     staged_done x new changes =
-        let g = as_all (Some (rows_told short limits table.heading bytes)) staged count h (Ok x) new changes in
+        let g = as_all (Some (rows_told short limits table.schema bytes)) staged count h (Ok x) new changes in
         record {
           last = g.0;
           done = load_as ∙ gives (with_rows limits db name h.rows) g.0 _ g.1 ∙ ap (λ n. Ok (g.0, reply.Done n)) (sym h.counted);
@@ -221,7 +221,7 @@ module _ (short : Short) (limits : Bounds) (db : Database) (name : List ℕ) (ta
 
     pub staged_refused : (X : Type 0) (why : Refused) (new : Database) → Changes {X = X} (with_rows limits db name staged.rows) (Err why) db new → Comes (load_table short limits db name carried) (Err why) db new
     staged_refused X why new changes =
-        let g = as_all (Some (rows_told short limits table.heading bytes)) staged count h {X = X} (Err why) new changes in
+        let g = as_all (Some (rows_told short limits table.schema bytes)) staged count h {X = X} (Err why) new changes in
         (g.0, left g.1)
       where
         left : (why ≡ unnumbered Memory) ⊎ (with_rows limits db name h.rows ≡ Err why) → (why ≡ unnumbered Memory) ⊎ (load_table short limits db name carried ≡ Err why)
@@ -236,7 +236,7 @@ module _ (short : Short) (limits : Bounds) (db : Database) (name : List ℕ) whe
   text_unfound (Some bytes) none = inr (load_none short limits db name (payload.Bytes bytes) refl none)
 
   module _ (table : PlainTable) (found : table_at db name ≡ Some table) where
-    pub text_told : (text : Option Bytes) (why : CsvFault) → IsTold (option_map (rows_told short limits table.heading) text) why → IsTold (option_map (λ bytes. load_table short limits db name (payload.Bytes bytes)) text) why
+    pub text_told : (text : Option Bytes) (why : CsvFault) → IsTold (option_map (rows_told short limits table.schema) text) why → IsTold (option_map (λ bytes. load_table short limits db name (payload.Bytes bytes)) text) why
     text_told text csv_fault.Read h = tt
     text_told text (csv_fault.Refused why) (inl m) = inl m
     text_told None (csv_fault.Refused why) (inr h) = inr tt
@@ -253,7 +253,7 @@ module _ (short : Short) (limits : Bounds) (db : Database) (name : List ℕ) whe
         → IfSome text (λ bytes. HasLoaded (load_table short limits db name (payload.Bytes bytes)) (Ok count) db new)
     text_loaded own x new changes = by_text text own.staged
       where
-        by_text : (text : Option Bytes) → HasStaged (option_map (rows_told short limits own.table.heading) text) own.table.heading staged count → IfSome text (λ bytes. HasLoaded (load_table short limits db name (payload.Bytes bytes)) (Ok count) db new)
+        by_text : (text : Option Bytes) → HasStaged (option_map (rows_told short limits own.table.schema) text) own.table.schema staged count → IfSome text (λ bytes. HasLoaded (load_table short limits db name (payload.Bytes bytes)) (Ok count) db new)
         by_text None h = tt
         by_text (Some bytes) h = staged_done short limits db name own.table own.found keyed (payload.Bytes bytes) bytes refl refl staged count h x new changes
 
@@ -261,15 +261,15 @@ module _ (short : Short) (limits : Bounds) (db : Database) (name : List ℕ) whe
         → IfSome text (λ bytes. HasLoaded (load_table short limits db name (payload.Bytes bytes)) (Err (csv_fault.Refused why)) db new)
     text_refused own X why new changes = by_text text own.staged
       where
-        by_text : (text : Option Bytes) → HasStaged (option_map (rows_told short limits own.table.heading) text) own.table.heading staged count → IfSome text (λ bytes. HasLoaded (load_table short limits db name (payload.Bytes bytes)) (Err (csv_fault.Refused why)) db new)
+        by_text : (text : Option Bytes) → HasStaged (option_map (rows_told short limits own.table.schema) text) own.table.schema staged count → IfSome text (λ bytes. HasLoaded (load_table short limits db name (payload.Bytes bytes)) (Err (csv_fault.Refused why)) db new)
         by_text None h = tt
         by_text (Some bytes) h = staged_refused short limits db name own.table own.found keyed (payload.Bytes bytes) bytes refl refl staged count h X why new changes
 
 -- the table at the place of a name is the one of that name
-pub stands_heading : (db : Database) (name : List ℕ) (i : ℕ) (at : List ℕ × PlainTable) (h : Heading) → StandsAt db name i → at ≡ get_or db i at → IfSome (table_at db name) (λ table. h ≡ table.heading) → h ≡ at.1.heading
-stands_heading db name i at h s is asked =
+pub stands_schema : (db : Database) (name : List ℕ) (i : ℕ) (at : List ℕ × PlainTable) (h : PlainSchema) → StandsAt db name i → at ≡ get_or db i at → IfSome (table_at db name) (λ table. h ≡ table.schema) → h ≡ at.1.schema
+stands_schema db name i at h s is asked =
     let same : at ≡ s.entry = is ∙ get_or_default db i at s.entry s.within ∙ sym s.here in
-    subst (λ (e : List ℕ × PlainTable). h ≡ e.1.heading) (sym same) (subst (λ o. IfSome o (λ (table : PlainTable). h ≡ table.heading)) s.table asked)
+    subst (λ (e : List ℕ × PlainTable). h ≡ e.1.schema) (sym same) (subst (λ o. IfSome o (λ (table : PlainTable). h ≡ table.schema)) s.table asked)
 
 -- what is so where there is no error
 pub on_ok : {X E : Type 0} {P : Type 0} (r : Result X E) → is_err r ≡ false → OnOk r P → P

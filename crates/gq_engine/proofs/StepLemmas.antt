@@ -3,7 +3,7 @@ use Rattle.std.proofs.Common.{◌≡◌, inl, inr, ℕ, true, false, not, List, 
 use Rattle.std.specs.Prelude.{nat_lt, is_some, Ok, Err}
 use Rattle.gq_row.specs.declared.schema.Column.{Column}
 use Rattle.gq_row.specs.declared.limits.Bounds.{Bounds}
-use Rattle.gq_row.specs.Headings.{positions_of}
+use Rattle.gq_row.specs.Schemas.{positions_of}
 use Rattle.gq_reply.specs.declared.refusal.Refusal.{Refusal}
 use Rattle.gq_reply.specs.declared.refusal.Refusal.TheVariants.{Limit, Memory, TableExists, NoColumn}
 use Rattle.gq_reply.specs.declared.refusal.Refused.{Refused}
@@ -41,5 +41,5 @@ module _ (limits : Bounds) (db : Database) (name : List ℕ) (columns : List Col
   create_full positions h p f = passes TableExists (not (is_some (table_at db name))) _ (ap not h) ∙ finds NoColumn (positions_of columns key) positions _ p ∙ fails Limit (nat_lt (length db) limits.tables) _ f
 
   pub create_adds : (positions : List ℕ) → is_some (table_at db name) ≡ false → positions_of columns key ≡ Some positions → nat_lt (length db) limits.tables ≡ true
-      → create limits db name columns key ≡ Ok (db ++ (name, record { heading = record { columns = columns; key = positions }; rows = [] }) ∷ [], reply.Done 0)
+      → create limits db name columns key ≡ Ok (db ++ (name, record { schema = record { columns = columns; key = positions }; rows = [] }) ∷ [], reply.Done 0)
   create_adds positions h p f = passes TableExists (not (is_some (table_at db name))) _ (ap not h) ∙ finds NoColumn (positions_of columns key) positions _ p ∙ passes Limit (nat_lt (length db) limits.tables) _ f

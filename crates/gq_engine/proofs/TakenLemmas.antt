@@ -55,14 +55,14 @@ agrees true false false few rows e = ap (λ b. true_or Limit b >>= λ _. Ok rows
 
 row-agrees : (bounds : Bounds) (table : PlainTable) (row : List Value) → Agrees (put_within bounds table row) (rows_with table row) (row_refusal bounds table row)
 row-agrees bounds table row =
-    agrees (fits_columns table.heading.columns row) (has_null table.heading.key row) (nat_lt bounds.rows (length (rows_with table row))) (nat_le (length (rows_with table row)) bounds.rows) (rows_with table row)
+    agrees (fits_columns table.schema.columns row) (has_null table.schema.key row) (nat_lt bounds.rows (length (rows_with table row))) (nat_le (length (rows_with table row)) bounds.rows) (rows_with table row)
     (few-many (length (rows_with table row)) bounds.rows)
 
 pub put-taken : (bounds : Bounds) (old new : PlainTable) (row : List Value) → IsPut old row new → row_refusal bounds old row ≡ None → HasRows (put_within bounds old row) old new
 put-taken bounds old new row h none = record {
   given = rows_with old row;
   done = subst (Agrees (put_within bounds old row) (rows_with old row)) none (row-agrees bounds old row);
-  heading = h.heading;
+  schema = h.schema;
   same = h.rows;
 }
 
@@ -72,7 +72,7 @@ put-refused bounds old row why (inl e) = inr (subst (Agrees (put_within bounds o
 put-refused bounds old row why (inr e) = inl (ap (λ w. unnumbered (table_refusal w)) e.0)
 
 -- tables at a place that differ only in the order of rows
-same_at : (db : Database) (i : ℕ) (name : List ℕ) (s t : PlainTable) → s.heading ≡ t.heading → IsPermutation s.rows t.rows → SameTables (set db i (name, s)) (set db i (name, t))
+same_at : (db : Database) (i : ℕ) (name : List ℕ) (s t : PlainTable) → s.schema ≡ t.schema → IsPermutation s.rows t.rows → SameTables (set db i (name, s)) (set db i (name, t))
 same_at [] i name s t h moved = tt
 same_at (x ∷ db) zero name s t h moved = (refl, h, moved, same_tables db)
 same_at (x ∷ db) (suc i) name s t h moved = (refl, refl, IsPermutation-refl x.1.rows, same_at db i name s t h moved)
@@ -88,7 +88,7 @@ took steps db name i at (Ok x) new s is h =
       with_table db name table,
       finds NoTable (table_at db name) at.1 _ found ∙ ap (λ r. r >>= λ rows. Ok (with_table db name (record at.1 { rows = rows }))) h.done,
       subst (λ (d : Database). SameTables d (set db i (at.0, new))) (sym (s.changed table ∙ ap (λ (e : List ℕ × PlainTable). set db i (e.0, table)) (sym same)))
-          (same_at db i at.0 table new (sym h.heading) h.same),
+          (same_at db i at.0 table new (sym h.schema) h.same),
     )
 took steps db name i at (Err why) new s is h =
     let kept : set db i (at.0, new) ≡ db = ap (λ (t : PlainTable). set db i (at.0, t)) h.0 ∙ (ap (set db i) is ∙ set-get_or db i at) in
@@ -102,11 +102,11 @@ took steps db name i at (Err why) new s is h =
         inr (finds NoTable (table_at db name) at.1 _ found ∙ ap (λ r. r >>= λ rows. Ok (with_table db name (record at.1 { rows = rows }))) e)
 
 -- rows that a table took, or left
-load-agrees : (bounds : Bounds) (table : PlainTable) (rows : Rows) → Agrees (put_all_within bounds table rows) (put_all table.heading.key table.rows rows) (load_refusal bounds table rows)
+load-agrees : (bounds : Bounds) (table : PlainTable) (rows : Rows) → Agrees (put_all_within bounds table rows) (put_all table.schema.key table.rows rows) (load_refusal bounds table rows)
 load-agrees bounds table rows = chosen (nat_lt bounds.rows (length all)) (nat_le (length all) bounds.rows) (few-many (length all) bounds.rows)
   where
     all : Rows
-    all = put_all table.heading.key table.rows rows
+    all = put_all table.schema.key table.rows rows
 
     chosen : (many few : Bool) → few ≡ not many → Agrees (true_or Limit few >>= λ _. Ok all) all (cond many (Some untaken.Limit) None)
     chosen true few e = ap (λ b. true_or Limit b >>= λ _. Ok all) e
@@ -114,15 +114,15 @@ load-agrees bounds table rows = chosen (nat_lt bounds.rows (length all)) (nat_le
 
 pub load-taken : (bounds : Bounds) (old new : PlainTable) (rows : Rows) → IsLoaded old rows new → load_refusal bounds old rows ≡ None → HasRows (put_all_within bounds old rows) old new
 load-taken bounds old new rows h none = record {
-  given = put_all old.heading.key old.rows rows;
-  done = subst (Agrees (put_all_within bounds old rows) (put_all old.heading.key old.rows rows)) none (load-agrees bounds old rows);
-  heading = h.heading;
+  given = put_all old.schema.key old.rows rows;
+  done = subst (Agrees (put_all_within bounds old rows) (put_all old.schema.key old.rows rows)) none (load-agrees bounds old rows);
+  schema = h.schema;
   same = h.rows;
 }
 
 pub load-refused : (bounds : Bounds) (old : PlainTable) (rows : Rows) (why : TableRefusal) → WhyNotLoaded bounds old rows why
     → (unnumbered (table_refusal why) ≡ unnumbered Memory) ⊎ (put_all_within bounds old rows ≡ Err (unnumbered (table_refusal why)))
-load-refused bounds old rows why (inl e) = inr (subst (Agrees (put_all_within bounds old rows) (put_all old.heading.key old.rows rows)) e (load-agrees bounds old rows))
+load-refused bounds old rows why (inl e) = inr (subst (Agrees (put_all_within bounds old rows) (put_all old.schema.key old.rows rows)) e (load-agrees bounds old rows))
 load-refused bounds old rows why (inr e) = inl (ap (λ w. unnumbered (table_refusal w)) e)
 
 -- the steps of a delete are those that test the key, and then the delete
@@ -136,14 +136,14 @@ tested true true true done = refl
 -- the table that a delete leaves, and the answer
 abbrev delete_from : Database → List ℕ → List Value → PlainTable → Outcome
 delete_from db name key table =
-    Ok (with_table db name (record table { rows = delete table.heading.key table.rows key }), reply.Done (cond (has_row table.heading.key table.rows key) 1 0))
+    Ok (with_table db name (record table { rows = delete table.schema.key table.rows key }), reply.Done (cond (has_row table.schema.key table.rows key) 1 0))
 
 delete-tests : (db : Database) (name : List ℕ) (values : List Value) (table : PlainTable) → table_at db name ≡ Some table
-    → delete_row db name values ≡ (key_within table.heading (stored_key table.heading.columns table.heading.key values) >>= λ _. delete_from db name (key_named table.heading values) table)
+    → delete_row db name values ≡ (key_within table.schema (stored_key table.schema.columns table.schema.key values) >>= λ _. delete_from db name (key_named table.schema values) table)
 delete-tests db name values table found =
-    let stored = stored_key table.heading.columns table.heading.key values in
+    let stored = stored_key table.schema.columns table.schema.key values in
     finds NoTable (table_at db name) table _ found
-    ∙ tested (some table.heading.key) (fits_key table.heading.columns table.heading.key stored) (not (list_any is_null stored)) (delete_from db name (key_named table.heading values) table)
+    ∙ tested (some table.schema.key) (fits_key table.schema.columns table.schema.key stored) (not (list_any is_null stored)) (delete_from db name (key_named table.schema values) table)
 
 -- the table of a name without the row of the key that values name, or as it was
 pub took_out : (db : Database) (name : List ℕ) (i : ℕ) (at : List ℕ × PlainTable) (values : List Value) (result : Result Bool Refused) (new : PlainTable)
@@ -151,18 +151,18 @@ pub took_out : (db : Database) (name : List ℕ) (i : ℕ) (at : List ℕ × Pla
 took_out db name i at values (Ok found) new s is h =
     let same : at ≡ s.entry = is ∙ get_or_default db i at s.entry s.within ∙ sym s.here in
     let there : table_at db name ≡ Some at.1 = s.table ∙ ap (λ (e : List ℕ × PlainTable). Some e.1) (sym same) in
-    let key = key_named at.1.heading values in
-    let table : PlainTable = record at.1 { rows = delete at.1.heading.key at.1.rows key } in (
+    let key = key_named at.1.schema values in
+    let table : PlainTable = record at.1 { rows = delete at.1.schema.key at.1.rows key } in (
       with_table db name table,
       delete-tests db name values at.1 there ∙ ap (λ r. r >>= λ _. delete_from db name key at.1) h.0 ∙ ap (λ b. Ok (with_table db name table, deleted b)) (sym h.2),
       subst (λ (d : Database). SameTables d (set db i (at.0, new))) (sym (s.changed table ∙ ap (λ (e : List ℕ × PlainTable). set db i (e.0, table)) (sym same)))
-          (same_at db i at.0 table new (sym h.1.heading) h.1.rows),
+          (same_at db i at.0 table new (sym h.1.schema) h.1.rows),
     )
 took_out db name i at values (Err why) new s is h =
     let same : at ≡ s.entry = is ∙ get_or_default db i at s.entry s.within ∙ sym s.here in
     let there : table_at db name ≡ Some at.1 = s.table ∙ ap (λ (e : List ℕ × PlainTable). Some e.1) (sym same) in
     let kept : set db i (at.0, new) ≡ db = ap (λ (t : PlainTable). set db i (at.0, t)) h.0 ∙ (ap (set db i) is ∙ set-get_or db i at) in
-    (subst (SameTables db) (sym kept) (same_tables db), delete-tests db name values at.1 there ∙ ap (λ r. r >>= λ _. delete_from db name (key_named at.1.heading values) at.1) h.1)
+    (subst (SameTables db) (sym kept) (same_tables db), delete-tests db name values at.1 there ∙ ap (λ r. r >>= λ _. delete_from db name (key_named at.1.schema values) at.1) h.1)
 
 -- without the table at a place the names still differ, and so do keys
 pub removed_stands : (db : Database) (name : List ℕ) (i : ℕ) (new : Database) → StandsAt db name i → IsTrue (names_differ db) × IsKeyed db → new ≡ remove db i → IsTrue (names_differ new) × IsKeyed new

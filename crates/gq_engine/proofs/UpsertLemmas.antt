@@ -91,35 +91,35 @@ with_twice (entry ∷ db) name s t = here (bytes_eq entry.0 name) refl (with_twi
 -- ---- upserts one after the other
 
 -- a row that a table takes is put by its literals
-upserted : (limits : Bounds) (db : Database) (name : Bytes) (table : PlainTable) (row : List Value) → table_at db name ≡ Some table → fits_columns table.heading.columns row ≡ true → not (has_null table.heading.key row) ≡ true
+upserted : (limits : Bounds) (db : Database) (name : Bytes) (table : PlainTable) (row : List Value) → table_at db name ≡ Some table → fits_columns table.schema.columns row ≡ true → not (has_null table.schema.key row) ≡ true
     → length (rows_with table row) ≤ limits.rows → step limits db (item.Command (Upsert name (map literal_of row))) ≡ (with_table db name (record table { rows = rows_with table row }), reply.Done 1)
 upserted limits db name table row found fits keyed few = ap (settle db) (gives (with_row limits db name (map literal_of row)) (with_table db name (record table { rows = rows_with table row })) _ put_it)
   where
     put_it : with_row limits db name (map literal_of row) ≡ Ok (with_table db name (record table { rows = rows_with table row }))
     put_it = finds NoTable (table_at db name) table _ found
-        ∙ ap (λ (r : List Value). put_within limits table r >>= λ rows. Ok (with_table db name (record table { rows = rows }))) (literals_stored table.heading.columns row fits)
+        ∙ ap (λ (r : List Value). put_within limits table r >>= λ rows. Ok (with_table db name (record table { rows = rows }))) (literals_stored table.schema.columns row fits)
         ∙ gives (put_within limits table row) (rows_with table row) _
-        (passes TypeMismatch (fits_columns table.heading.columns row) _ fits ∙ passes NullKey (not (has_null_key table row)) _ keyed ∙ passes Limit (nat_le (length (rows_with table row)) limits.rows) _ (le-leb (length (rows_with table row)) limits.rows few))
+        (passes TypeMismatch (fits_columns table.schema.columns row) _ fits ∙ passes NullKey (not (has_null_key table row)) _ keyed ∙ passes Limit (nat_le (length (rows_with table row)) limits.rows) _ (le-leb (length (rows_with table row)) limits.rows few))
 
 -- what upserts of rows that fit come to
 pub record Upserted (limits : Bounds) (db : Database) (name : Bytes) (table : PlainTable) (rows : Rows) : Type 0 where
-  pub same : after_all limits db (upserts name rows) ≡ with_table db name (record table { rows = put_all table.heading.key table.rows rows })
+  pub same : after_all limits db (upserts name rows) ≡ with_table db name (record table { rows = put_all table.schema.key table.rows rows })
   pub accepted : replies_to limits db (upserts name rows) ≡ map (λ row. reply.Done 1) rows
 
-all_upserted : (limits : Bounds) (db : Database) (name : Bytes) (table : PlainTable) (rows : Rows) → table_at db name ≡ Some table → list_all (fits_columns table.heading.columns) rows ≡ true
-    → list_all (λ row. not (has_null table.heading.key row)) rows ≡ true → length (put_all table.heading.key table.rows rows) ≤ limits.rows → Upserted limits db name table rows
+all_upserted : (limits : Bounds) (db : Database) (name : Bytes) (table : PlainTable) (rows : Rows) → table_at db name ≡ Some table → list_all (fits_columns table.schema.columns) rows ≡ true
+    → list_all (λ row. not (has_null table.schema.key row)) rows ≡ true → length (put_all table.schema.key table.rows rows) ≤ limits.rows → Upserted limits db name table rows
 all_upserted limits db name table [] found fits keyed few = record { same = sym (with_same db name table found); accepted = refl }
 all_upserted limits db name table (row ∷ rows) found fits keyed few =
     let after : PlainTable = record table { rows = rows_with table row } in
     let between : Database = with_table db name after in
-    let fit = and_parts (fits_columns table.heading.columns row) (list_all (fits_columns table.heading.columns) rows) fits in
-    let key = and_parts (not (has_null table.heading.key row)) (list_all (λ row. not (has_null table.heading.key row)) rows) keyed in
-    let less = grows_all table.heading.key (rows_with table row) rows in
+    let fit = and_parts (fits_columns table.schema.columns row) (list_all (fits_columns table.schema.columns) rows) fits in
+    let key = and_parts (not (has_null table.schema.key row)) (list_all (λ row. not (has_null table.schema.key row)) rows) keyed in
+    let less = grows_all table.schema.key (rows_with table row) rows in
     let first : step limits db (item.Command (Upsert name (map literal_of row))) ≡ (between, reply.Done 1) = upserted limits db name table row found fit.0 key.0 (omega arith) in
     let rest = all_upserted limits between name after rows (changed db name after) fit.1 key.1 few in
     record {
       same = ap (λ (p : Database × Reply). after_all limits p.0 (upserts name rows)) first ∙ rest.same
-          ∙ with_twice db name after (record table { rows = put_all table.heading.key table.rows (row ∷ rows) });
+          ∙ with_twice db name after (record table { rows = put_all table.schema.key table.rows (row ∷ rows) });
       accepted = ap (λ (p : Database × Reply). p.1 ∷ replies_to limits p.0 (upserts name rows)) first ∙ ap (λ l. reply.Done 1 ∷ l) rest.accepted;
     }
 
@@ -132,17 +132,17 @@ module _ (limits : Bounds) (db new : Database) (name bytes : Bytes) (count : ℕ
   refuted : (why : Refused) → load_table short.Refused limits db name (payload.Bytes bytes) ≡ Err why → ⊥
   refuted why e = refused_not_done db new why count (load_table short.Refused limits db name (payload.Bytes bytes)) e done
 
-  by_rows : (table : PlainTable) (rows : Rows) → table_at db name ≡ Some table → load short.Refused table.heading limits bytes ≡ Ok rows → (few : Bool) → nat_le (length (put_all table.heading.key table.rows rows)) limits.rows ≡ few
+  by_rows : (table : PlainTable) (rows : Rows) → table_at db name ≡ Some table → load short.Refused table.schema limits bytes ≡ Ok rows → (few : Bool) → nat_le (length (put_all table.schema.key table.rows rows)) limits.rows ≡ few
       → UpsertsOf limits db name bytes count new
   by_rows table rows found given false e =
       absurd (refuted (unnumbered Limit) (load_refused short.Refused limits db name table found bytes rows (unnumbered Limit) (ap refused_by given)
-      (rows_refused limits db name rows table (unnumbered Limit) found (fails Limit (nat_le (length (put_all table.heading.key table.rows rows)) limits.rows) _ e))))
+      (rows_refused limits db name rows table (unnumbered Limit) found (fails Limit (nat_le (length (put_all table.schema.key table.rows rows)) limits.rows) _ e))))
   by_rows table rows found given true e =
-      let fit : AreFit table.heading limits rows = loaded_fit short.Refused table.heading limits bytes rows given in
+      let fit : AreFit table.schema limits rows = loaded_fit short.Refused table.schema limits bytes rows given in
       let all = all_upserted limits db name table rows found fit.fitting fit.keyed (leb-true _ _ e) in
-      let puts : load_table short.Refused limits db name (payload.Bytes bytes) ≡ Ok (with_table db name (record table { rows = put_all table.heading.key table.rows rows }), reply.Done (length rows)) =
+      let puts : load_table short.Refused limits db name (payload.Bytes bytes) ≡ Ok (with_table db name (record table { rows = put_all table.schema.key table.rows rows }), reply.Done (length rows)) =
       load_puts short.Refused limits db name table found bytes rows _ (ap refused_by given)
-      (rows_put limits db name rows (put_all table.heading.key table.rows rows) table found (passes Limit (nat_le (length (put_all table.heading.key table.rows rows)) limits.rows) _ e)) in
+      (rows_put limits db name rows (put_all table.schema.key table.rows rows) table found (passes Limit (nat_le (length (put_all table.schema.key table.rows rows)) limits.rows) _ e)) in
       let same = sym (ap (settle db) puts) ∙ done in
       record {
         table = table;
@@ -154,13 +154,13 @@ module _ (limits : Bounds) (db new : Database) (name bytes : Bytes) (count : ℕ
         accepted = all.accepted;
       }
 
-  by_payload : (table : PlainTable) (r : Result Rows LoadRefusal) → table_at db name ≡ Some table → load short.Refused table.heading limits bytes ≡ r → UpsertsOf limits db name bytes count new
-  by_payload table (Ok rows) found given = by_rows table rows found given (nat_le (length (put_all table.heading.key table.rows rows)) limits.rows) refl
+  by_payload : (table : PlainTable) (r : Result Rows LoadRefusal) → table_at db name ≡ Some table → load short.Refused table.schema limits bytes ≡ r → UpsertsOf limits db name bytes count new
+  by_payload table (Ok rows) found given = by_rows table rows found given (nat_le (length (put_all table.schema.key table.rows rows)) limits.rows) refl
   by_payload table (Err fault) found given = absurd (refuted (fault_refusal fault) (load_faulty short.Refused limits db name table found bytes (fault_refusal fault) (ap refused_by given)))
 
   by_table : (o : Option PlainTable) → table_at db name ≡ o → UpsertsOf limits db name bytes count new
   by_table None found = absurd (refuted (unnumbered NoTable) (load_none short.Refused limits db name (payload.Bytes bytes) refl found))
-  by_table (Some table) found = by_payload table (load short.Refused table.heading limits bytes) found refl
+  by_table (Some table) found = by_payload table (load short.Refused table.schema limits bytes) found refl
 
 pub load_is_upserts : LoadIsUpserts
 load_is_upserts limits db new name bytes count done = by_table limits db new name bytes count done (table_at db name) refl

@@ -6,7 +6,7 @@ use Rattle.gq_row.specs.declared.value.Value.TheVariants.{Null, Int, Text, NoCas
 use Rattle.gq_row.specs.declared.schema.Column.{Column}
 use Rattle.gq_row.specs.declared.schema.Kind.TheVariants as kind
 use Rattle.gq_row.specs.declared.limits.Bounds.{Bounds}
-use Rattle.gq_row.specs.Headings.{Heading}
+use Rattle.gq_row.specs.Schemas.{PlainSchema}
 use Rattle.gq_row.specs.Limits.{GREATEST}
 use Rattle.gq_group.specs.declared.grouping.Spent.{Spent}
 use Rattle.gq_group.specs.Groups.{keys_of}
@@ -331,7 +331,7 @@ abbrev load_s : Payload → Command
 load_s carried = Load (codes "s") carried
 
 -- s (id int, city text, key (id))
-abbrev s : Heading
+abbrev s : PlainSchema
 s = record { columns = number (codes "id") ∷ column (codes "city") ∷ []; key = 0 ∷ [] }
 
 abbrev city : ℕ → List ℕ → List Value

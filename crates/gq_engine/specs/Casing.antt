@@ -7,7 +7,7 @@ use Rattle.gq_row.specs.declared.schema.Kind.TheVariants as kind
 use Rattle.gq_row.specs.declared.schema.Column.{Column}
 use Rattle.gq_row.specs.Fitting.{stored_in}
 use Rattle.gq_row.specs.Folding.{has_case}
-use Rattle.gq_row.specs.Headings.{Heading}
+use Rattle.gq_row.specs.Schemas.{PlainSchema}
 use Rattle.gq_engine.specs.Steps.{key_named}
 
 -- whether case tells values of a kind apart: of each but texts without case
@@ -19,4 +19,4 @@ keeps_case kind.NoCase = false
 -- where no column is of texts without case, an upsert puts the values that it is given, and a delete names the key by its values
 pub record StoresAsGiven : Type 0 where
   pub row : (columns : List Column) (values : List Value) → IsTrue (list_all (λ (column : Column). keeps_case column.kind) columns) → stored_in columns values ≡ values
-  pub key : (heading : Heading) (values : List Value) → IsTrue (list_all (λ (column : Column). keeps_case column.kind) heading.columns) → IsTrue (list_all has_case values) → key_named heading values ≡ values
+  pub key : (schema : PlainSchema) (values : List Value) → IsTrue (list_all (λ (column : Column). keeps_case column.kind) schema.columns) → IsTrue (list_all has_case values) → key_named schema values ≡ values

@@ -2,7 +2,7 @@
 use Rattle.std.specs.Prelude.{◌≡◌, ◌⊎◌, ℕ, Bool, true, false, List, Option, Some, IfSome, Result, Ok, Err}
 use Rattle.gq_row.specs.declared.value.Value.{Value}
 use Rattle.gq_row.specs.declared.limits.Bounds.{Bounds}
-use Rattle.gq_row.specs.Headings.{Heading}
+use Rattle.gq_row.specs.Schemas.{PlainSchema}
 use Rattle.gq_load.specs.declared.load_refusal.LoadRefusal.{LoadRefusal}
 use Rattle.gq_load.specs.declared.load_refusal.LoadRefusal.TheVariants as fault
 use Rattle.gq_load.specs.declared.row_fault.RowFault.{RowFault}
@@ -47,13 +47,13 @@ fault_refusal (fault.BadText number) = numbered refusal.BadText number
 fault_refusal fault.Limit = unnumbered refusal.Limit
 fault_refusal fault.Memory = unnumbered refusal.Memory
 
--- the rows of a payload for a table of this heading, or the refusal for its first fault
+-- the rows of a payload for a table of this schema, or the refusal for its first fault
 abbrev pub refused_by : Result (List (List Value)) LoadRefusal → Result (List (List Value)) Refused
 refused_by (Ok rows) = Ok rows
 refused_by (Err fault) = Err (fault_refusal fault)
 
-abbrev pub rows_told : Short → Bounds → Heading → Bytes → Result (List (List Value)) Refused
-rows_told short limits heading bytes = refused_by (load short heading limits bytes)
+abbrev pub rows_told : Short → Bounds → PlainSchema → Bytes → Result (List (List Value)) Refused
+rows_told short limits schema bytes = refused_by (load short schema limits bytes)
 
 -- the fault of a CSV text, by that of its rows
 abbrev pub csv_told : RowFault → CsvFault

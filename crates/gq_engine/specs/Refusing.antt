@@ -5,7 +5,7 @@ use Rattle.gq_row.specs.declared.value.Value.{Value}
 use Rattle.gq_row.specs.declared.schema.Column.{Column}
 use Rattle.gq_row.specs.declared.limits.Bounds.{Bounds}
 use Rattle.gq_row.specs.Fitting.{fits_columns, goes_in, has_null, is_null, stored}
-use Rattle.gq_row.specs.Headings.{Heading}
+use Rattle.gq_row.specs.Schemas.{PlainSchema}
 use Rattle.gq_row.specs.Tables.{PlainTable, put, put_all}
 use Rattle.gq_load.specs.Payloads.{kind_at}
 use Rattle.gq_command.specs.Commands.{some}
@@ -20,16 +20,16 @@ use Rattle.gq_reply.specs.Outcomes.{◌>>=◌, true_or}
 
 -- whether a row has null in a key column
 abbrev pub has_null_key : PlainTable → List Value → Bool
-has_null_key table row = has_null table.heading.key row
+has_null_key table row = has_null table.schema.key row
 
 -- the rows of a table after a row was put
 abbrev pub rows_with : PlainTable → List Value → List (List Value)
-rows_with table row = put table.heading.key table.rows row
+rows_with table row = put table.schema.key table.rows row
 
 -- those rows, where the table takes the row
 abbrev pub put_within : Bounds → PlainTable → List Value → Result (List (List Value)) Refused
 put_within limits table row = do
-  fitting ← true_or TypeMismatch (fits_columns table.heading.columns row)
+  fitting ← true_or TypeMismatch (fits_columns table.schema.columns row)
   keyed ← true_or NullKey (not (has_null_key table row))
   few ← true_or Limit (nat_le (length (rows_with table row)) limits.rows)
   Ok (rows_with table row)
@@ -37,8 +37,8 @@ put_within limits table row = do
 -- the rows of a table after rows were put, one after the other, where they are few enough
 abbrev pub put_all_within : Bounds → PlainTable → List (List Value) → Result (List (List Value)) Refused
 put_all_within limits table new = do
-  few ← true_or Limit (nat_le (length (put_all table.heading.key table.rows new)) limits.rows)
-  Ok (put_all table.heading.key table.rows new)
+  few ← true_or Limit (nat_le (length (put_all table.schema.key table.rows new)) limits.rows)
+  Ok (put_all table.schema.key table.rows new)
 
 -- values in the order of a key, each as its column stores it
 abbrev pub stored_key : List Column → List ℕ → List Value → List Value
@@ -54,10 +54,10 @@ fits_key columns (position ∷ positions) [] = false
 fits_key columns (position ∷ positions) (value ∷ values) = goes_in (kind_at columns position) value && fits_key columns positions values
 
 -- nothing where values are a key of the table, or why they are none
-abbrev pub key_within : Heading → List Value → Result (Unit {0}) Refused
-key_within heading key = do
-  keyed ← true_or NoKey (some heading.key)
-  fitting ← true_or TypeMismatch (fits_key heading.columns heading.key key)
+abbrev pub key_within : PlainSchema → List Value → Result (Unit {0}) Refused
+key_within schema key = do
+  keyed ← true_or NoKey (some schema.key)
+  fitting ← true_or TypeMismatch (fits_key schema.columns schema.key key)
   true_or NullKey (not (list_any is_null key))
 
 -- a table's refusal, as that of a command

@@ -77,7 +77,7 @@ abbrev pub SameTables : Database → Database → Type 0
 SameTables [] [] = Unit {0}
 SameTables [] (b ∷ bs) = ⊥
 SameTables (a ∷ rest) [] = ⊥
-SameTables (a ∷ rest) (b ∷ bs) = (a.0 ≡ b.0) × (a.1.heading ≡ b.1.heading) × IsPermutation a.1.rows b.1.rows × SameTables rest bs
+SameTables (a ∷ rest) (b ∷ bs) = (a.0 ≡ b.0) × (a.1.schema ≡ b.1.schema) × IsPermutation a.1.rows b.1.rows × SameTables rest bs
 
 -- an item was answered legally from the database old, up to the order of rows within tables
 pub record AnsweredAlike (setting : Setting) (old : Database) (it : Item) (answer : Reply) (new : Database) : Type 0 where

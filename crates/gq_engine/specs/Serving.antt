@@ -83,7 +83,7 @@ Settles answer steps (Err why) old new = SameTables old new × (steps ≡ Err wh
 pub record HasRows (steps : Result (List (List Value)) Refused) (old new : PlainTable) : Type 0 where
   pub given : List (List Value)
   pub done : steps ≡ Ok given
-  pub heading : new.heading ≡ old.heading
+  pub schema : new.schema ≡ old.schema
   pub same : IsPermutation given new.rows
 
 -- what a change of one table did: what its steps come to, or they are refused, or there was no memory; the last two leave the table
@@ -94,8 +94,8 @@ Takes steps (Err why) old new = (new ≡ old) × ((why ≡ unnumbered Memory) �
 -- what a delete from one table did: the row of the key that values name is away, and whether there was one is told; or it is refused and the table left
 abbrev pub Deletes : List Value → Result Bool Refused → PlainTable → PlainTable → Type 0
 Deletes values (Ok found) old new =
-    (key_within old.heading (stored_key old.heading.columns old.heading.key values) ≡ Ok tt) × IsDeleted old (key_named old.heading values) new × (found ≡ has_row old.heading.key old.rows (key_named old.heading values))
-Deletes values (Err why) old new = (new ≡ old) × (key_within old.heading (stored_key old.heading.columns old.heading.key values) ≡ Err why)
+    (key_within old.schema (stored_key old.schema.columns old.schema.key values) ≡ Ok tt) × IsDeleted old (key_named old.schema values) new × (found ≡ has_row old.schema.key old.rows (key_named old.schema values))
+Deletes values (Err why) old new = (new ≡ old) × (key_within old.schema (stored_key old.schema.columns old.schema.key values) ≡ Err why)
 
 -- the reply to a delete
 abbrev pub deleted : Bool → Reply

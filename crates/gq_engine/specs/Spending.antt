@@ -21,7 +21,7 @@ abbrev pub rows_asked : Database → List ℕ → GroupClauses → Result (List 
 rows_asked db name clauses = do
   table ← table_in db name
   other ← other_in db clauses.exists
-  plan ← group_plan table.heading.columns (other_columns other) clauses
+  plan ← group_plan table.schema.columns (other_columns other) clauses
   Ok (grouping_sets plan.rollup plan.by, rows_about plan table other)
 
 -- What was spent rose by the work of grouping the rows that a `group` is about by each of its grouping sets.

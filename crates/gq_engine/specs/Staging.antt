@@ -2,7 +2,7 @@
 use Rattle.std.specs.Prelude.{◌≡◌, ℕ, false, List, [], length, Option, Some, IfSome, option_map, Result, Ok, Err, IsPermutation}
 use Rattle.gq_row.specs.declared.value.Value.{Value}
 use Rattle.gq_row.specs.declared.limits.Bounds.{Bounds}
-use Rattle.gq_row.specs.Headings.{Heading}
+use Rattle.gq_row.specs.Schemas.{PlainSchema}
 use Rattle.gq_row.specs.Tables.{PlainTable, put_all}
 use Rattle.gq_load.specs.declared.short_records.Short.{Short}
 use Rattle.gq_load.specs.declared.short_records.Short.TheVariants as short
@@ -18,13 +18,13 @@ use Rattle.gq_engine.specs.Runs.{SameTables}
 use Rattle.gq_engine.specs.Serving.{Comes}
 use Rattle.gq_engine.specs.Steps.{Outcome, with_rows}
 
--- a table of this heading has rows as if each were put, and this is their number; where it is known what reading gives, they are those rows
-pub record HasStaged (read : Option (Result (List (List Value)) Refused)) (heading : Heading) (staged : PlainTable) (count : ℕ) : Type 0 where
+-- a table of this schema has rows as if each were put, and this is their number; where it is known what reading gives, they are those rows
+pub record HasStaged (read : Option (Result (List (List Value)) Refused)) (schema : PlainSchema) (staged : PlainTable) (count : ℕ) : Type 0 where
   pub rows : List (List Value)
   pub told : IfSome read (λ given. given ≡ Ok rows)
   pub counted : count ≡ length rows
-  pub same : staged.heading ≡ heading
-  pub put : IsPermutation (put_all heading.key [] rows) staged.rows
+  pub same : staged.schema ≡ schema
+  pub put : IsPermutation (put_all schema.key [] rows) staged.rows
 
 -- a table has the rows that a payload gives for the table of a name, as if each were put, and this is their number
 pub record IsStagedFor (limits : Bounds) (db : Database) (name : List ℕ) (payload : Payload) (own : PlainTable) (count : ℕ) : Type 0 where
@@ -33,13 +33,13 @@ pub record IsStagedFor (limits : Bounds) (db : Database) (name : List ℕ) (payl
   pub found : table_at db name ≡ Some table
   pub carried : is_lost payload ≡ false
   pub told : bytes_told payload ≡ Ok bytes
-  pub staged : HasStaged (Some (rows_told short.Refused limits table.heading bytes)) table.heading own count
+  pub staged : HasStaged (Some (rows_told short.Refused limits table.schema bytes)) table.schema own count
 
 -- the same of a CSV text, whose bytes may be known
 pub record IsStagedFrom (flag : Short) (limits : Bounds) (db : Database) (name : List ℕ) (text : Option Bytes) (own : PlainTable) (count : ℕ) : Type 0 where
   pub table : PlainTable
   pub found : table_at db name ≡ Some table
-  pub staged : HasStaged (option_map (rows_told flag limits table.heading) text) table.heading own count
+  pub staged : HasStaged (option_map (rows_told flag limits table.schema) text) table.schema own count
 
 -- rows, of this number, were put into the table of a name, and that is all
 pub record HasPut (limits : Bounds) (old : Database) (name : List ℕ) (count : ℕ) (new : Database) : Type 0 where

@@ -6,7 +6,7 @@ use Rattle.gq_row.specs.declared.schema.Column.{Column}
 use Rattle.gq_row.specs.declared.limits.Bounds.{Bounds}
 use Rattle.gq_row.specs.Fitting.{is_null, stored_in}
 use Rattle.gq_row.specs.Folding.{folded}
-use Rattle.gq_row.specs.Headings.{Heading, positions_of}
+use Rattle.gq_row.specs.Schemas.{PlainSchema, positions_of}
 use Rattle.gq_row.specs.Tables.{PlainTable, delete, has_row}
 use Rattle.gq_load.specs.declared.short_records.Short.{Short}
 use Rattle.gq_load.specs.declared.short_records.Short.TheVariants as short
@@ -53,7 +53,7 @@ create limits db name columns key = do
   absent ← true_or TableExists (not (is_some (table_at db name)))
   positions ← some_or NoColumn (positions_of columns key)
   room ← true_or Limit (nat_lt (length db) limits.tables)
-  Ok (db ++ (name, record { heading = record { columns = columns; key = positions }; rows = [] }) ∷ [], reply.Done 0)
+  Ok (db ++ (name, record { schema = record { columns = columns; key = positions }; rows = [] }) ∷ [], reply.Done 0)
 
 -- a table is taken out
 abbrev pub drop_table : Database → List ℕ → Outcome
@@ -65,7 +65,7 @@ drop_table db name = do
 abbrev pub with_row : Bounds → Database → List ℕ → List Value → Result Database Refused
 with_row limits db name row = do
   table ← table_in db name
-  rows ← put_within limits table (stored_in table.heading.columns row)
+  rows ← put_within limits table (stored_in table.schema.columns row)
   Ok (with_table db name (record table { rows = rows }))
 
 abbrev pub upsert : Bounds → Database → List ℕ → List Value → Outcome
@@ -86,30 +86,30 @@ load_table short limits db name payload = do
   there ← true_or Memory (not (is_lost payload))
   table ← table_in db name
   bytes ← bytes_told payload
-  rows ← rows_told short limits table.heading bytes
+  rows ← rows_told short limits table.schema bytes
   new ← with_rows limits db name rows
   Ok (new, reply.Done (length rows))
 
 -- the key that values name: the folds of what its columns store of them
-abbrev pub key_named : Heading → List Value → List Value
-key_named heading values = map folded (stored_key heading.columns heading.key values)
+abbrev pub key_named : PlainSchema → List Value → List Value
+key_named schema values = map folded (stored_key schema.columns schema.key values)
 
 -- the row of the key that values name is taken away, if there is one
 abbrev pub delete_row : Database → List ℕ → List Value → Outcome
 delete_row db name values = do
   table ← table_in db name
-  let stored = stored_key table.heading.columns table.heading.key values
-  keyed ← true_or NoKey (some table.heading.key)
-  fitting ← true_or TypeMismatch (fits_key table.heading.columns table.heading.key stored)
+  let stored = stored_key table.schema.columns table.schema.key values
+  keyed ← true_or NoKey (some table.schema.key)
+  fitting ← true_or TypeMismatch (fits_key table.schema.columns table.schema.key stored)
   whole ← true_or NullKey (not (list_any is_null stored))
-  let key = key_named table.heading values
-  Ok (with_table db name (record table { rows = delete table.heading.key table.rows key }), reply.Done (if has_row table.heading.key table.rows key then 1 else 0))
+  let key = key_named table.schema values
+  Ok (with_table db name (record table { rows = delete table.schema.key table.rows key }), reply.Done (if has_row table.schema.key table.rows key then 1 else 0))
 
 -- all rows are shown
 abbrev pub show_table : Database → List ℕ → Outcome
 show_table db name = do
   table ← table_in db name
-  Ok (db, reply.Rows (column_names table.heading.columns) (rows_shown table))
+  Ok (db, reply.Rows (column_names table.schema.columns) (rows_shown table))
 
 -- the table that an `exists` names, if there is one
 abbrev pub other_in : Database → Option Exists → Result (Option PlainTable) Refused
@@ -122,7 +122,7 @@ other_in db (Some exists) = do
 pub record Asks (db : Database) (name : List ℕ) (clauses : GroupClauses) (table : PlainTable) (other : Option PlainTable) (plan : GroupPlan) : Type 0 where
   pub found : table_at db name ≡ Some table
   pub there : other_in db clauses.exists ≡ Ok other
-  pub told : group_plan table.heading.columns (other_columns other) clauses ≡ Ok plan
+  pub told : group_plan table.schema.columns (other_columns other) clauses ≡ Ok plan
 
 -- the rows that a `group` is about by its plan: those of its table that the condition keeps and that have the match among the rows of the other
 abbrev pub rows_about : GroupPlan → PlainTable → Option PlainTable → List (List Value)
@@ -137,7 +137,7 @@ abbrev pub group : Database → List ℕ → GroupClauses → Outcome
 group db name clauses = do
   table ← table_in db name
   other ← other_in db clauses.exists
-  plan ← group_plan table.heading.columns (other_columns other) clauses
+  plan ← group_plan table.schema.columns (other_columns other) clauses
   rows ← some_or SumRange (rows_planned plan table other)
   Ok (db, reply.Rows (group_header clauses.by clauses.shown) rows)
 
@@ -149,7 +149,7 @@ keys_planned plan table = distinct_keys plan.on (rows_kept plan.condition.tests 
 abbrev pub distinct : Database → List ℕ → List Bytes → List Test → Outcome
 distinct db name on tests = do
   table ← table_in db name
-  plan ← distinct_plan table.heading.columns on tests
+  plan ← distinct_plan table.schema.columns on tests
   Ok (db, reply.Rows on (keys_planned plan table))
 
 -- a command

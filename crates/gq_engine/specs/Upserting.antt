@@ -32,7 +32,7 @@ pub record UpsertsOf (limits : Bounds) (db : Database) (name bytes : Bytes) (cou
   pub table : PlainTable
   pub found : table_at db name ≡ Some table
   pub rows : List (List Value)
-  pub given : load short.Refused table.heading limits bytes ≡ Ok rows
+  pub given : load short.Refused table.schema limits bytes ≡ Ok rows
   pub counted : length rows ≡ count
   pub same : after_all limits db (upserts name rows) ≡ new
   pub accepted : replies_to limits db (upserts name rows) ≡ map (λ row. reply.Done 1) rows

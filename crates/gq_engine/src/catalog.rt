@@ -82,7 +82,7 @@ impl<H: KeyHash<Key> + Copy> Catalog<H> {
     /// the other: all or none.
     pub fn load(&mut self, name: &str, staged: Table<H>, limits: &Limits) -> Result<(), Refused>
         requires { IfSome (table_at self.old name.now)
-            (λ table. staged.heading ≡ table.heading) }
+            (λ table. staged.schema ≡ table.schema) }
         ensures { Changes (with_rows limits.now.bounds self.old name.now staged.rows)
             result self.old self.new }
     {
@@ -121,7 +121,7 @@ impl<H: KeyHash<Key> + Copy> Catalog<H> {
     pub fn add(&mut self, name: Text, schema: Schema) -> Result<(), AllocError>
         requires { table_at self.old name ≡ None }
         ensures ok { OnOk result
-            (self.new ≡ self.old ++ (name, record { heading = schema; rows = [] }) ∷ []) }
+            (self.new ≡ self.old ++ (name, record { schema = schema; rows = [] }) ∷ []) }
         ensures err { OnErr result (self.new ≡ self.old) }
     {
         let table = Table::new(self.alloc, schema, self.hasher);
@@ -149,7 +149,7 @@ fn put_row<H: KeyHash<Key> + Copy>(
     limits: &Limits,
 ) -> Result<(), Refused>
     ensures takes { Takes (put_within limits.now.bounds table.old
-        (stored_in table.old.heading.columns row)) result table.old table.new }
+        (stored_in table.old.schema.columns row)) result table.old table.new }
     ensures valid { IsValidTable table.new }
 {
     let row = table.schema().store(row);
@@ -168,7 +168,7 @@ fn put_rows<H: KeyHash<Key> + Copy>(
     staged: Table<H>,
     limits: &Limits,
 ) -> Result<(), Refused>
-    requires { staged.heading ≡ table.old.heading }
+    requires { staged.schema ≡ table.old.schema }
     ensures takes { Takes (put_all_within limits.now.bounds table.old staged.rows)
         result table.old table.new }
     ensures valid { IsValidTable table.new }

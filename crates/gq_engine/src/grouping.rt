@@ -44,7 +44,7 @@ fn asked_of<'a, H: KeyHash<Key> + Copy>(
 ) -> Result<Asked<'a, H>, Refused>
     ensures asks { IfOk result (λ asked. Asks catalog.now name.now clauses.now
         asked.table.now (option_copied asked.others) asked.plan) }
-    ensures within { IfOk result (λ asked. IsWithin asked.table.now.heading.columns
+    ensures within { IfOk result (λ asked. IsWithin asked.table.now.schema.columns
         (other_columns (option_copied asked.others)) asked.plan) }
     ensures refused { IfErr result (λ why. (why ≡ unnumbered Memory)
         ⊎ (grouped catalog.now name.now clauses.now ≡ Err why)) }
@@ -121,7 +121,7 @@ fn rows_grouped<H: KeyHash<Key> + Copy, S: RunStore>(
     budget: Budget,
     spent: Spent,
 ) -> Result<(Rows, Spent), Refused>
-    requires { IsWithin asked.now.table.now.heading.columns
+    requires { IsWithin asked.now.table.now.schema.columns
         (other_columns (option_copied asked.now.others)) asked.now.plan }
     ensures rows { GroupsOver (S.runs store.old).honest
         (some_or SumRange (rows_planned asked.now.plan asked.now.table.now
@@ -161,7 +161,7 @@ pub fn rows_different<H: KeyHash<Key> + Copy, S: RunStore>(
     budget: Budget,
 ) -> Result<Rows, Refused>
     requires some { 0 < length plan.now.on }
-    requires on { All (λ column. column < length table.now.heading.columns) plan.now.on }
+    requires on { All (λ column. column < length table.now.schema.columns) plan.now.on }
     ensures rows { GroupsOver (S.runs store.old).honest
         (Ok (keys_planned plan.now table.now)) result }
     ensures faults { (S.runs store.old).failures + faults_in result ≤ (S.runs store.new).failures }

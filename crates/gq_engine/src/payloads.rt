@@ -105,10 +105,10 @@ fn stage<H: KeyHash<Key> + Copy, R: Read + Drop>(
     limits: &Limits,
 ) -> Result<(Table<H>, u64), CsvFault>
     ensures staged { IfOk result (λ staged. HasStaged (option_map
-        (rows_told short limits.now.bounds table.now.heading) (R.remaining text))
-        table.now.heading staged.0 staged.1) }
+        (rows_told short limits.now.bounds table.now.schema) (R.remaining text))
+        table.now.schema staged.0 staged.1) }
     ensures fault { IfErr result (λ fault. IsTold (option_map
-        (rows_told short limits.now.bounds table.now.heading) (R.remaining text)) fault) }
+        (rows_told short limits.now.bounds table.now.schema) (R.remaining text)) fault) }
 {
     // It grows as keys come, as records may share theirs: rows that lie close are found faster.
     let Ok(mut staged) = table.new_like() else {
@@ -146,8 +146,8 @@ fn put_row<H: KeyHash<Key> + Copy>(
     lines: usize,
     limits: &Limits,
 ) -> Result<(), TableRefusal>
-    requires fits { IsTrue (fits_columns staged.old.heading.columns row.old) }
-    requires keyed { has_null staged.old.heading.key row.old ≡ false }
+    requires fits { IsTrue (fits_columns staged.old.schema.columns row.old) }
+    requires keyed { has_null staged.old.schema.key row.old ≡ false }
     ensures put { OnOk result (IsPut staged.old row.old staged.new) }
     ensures refused { IfErr result (WhyNotPut limits.now.bounds staged.old row.old) }
 {
@@ -169,10 +169,10 @@ fn stage_rows<H: KeyHash<Key> + Copy, R: Read + Drop>(
     lines: usize,
     limits: &Limits,
 ) -> Result<u64, CsvFault>
-    requires heading { reader.old.heading ≡ staged.old.heading }
+    requires schema { reader.old.schema ≡ staged.old.schema }
     requires empty { staged.old.rows ≡ [] }
     ensures staged { IfOk result (λ count.
-        HasStaged (option_map refused_by reader.old.rows) staged.old.heading staged.new count) }
+        HasStaged (option_map refused_by reader.old.rows) staged.old.schema staged.new count) }
     ensures fault { IfErr result (λ fault. IsTold (option_map refused_by reader.old.rows) fault) }
 {
     let mut row = Row::new(Vec::new(alloc));

@@ -17,7 +17,7 @@ use sw_probe::KeyHash;
 /// All rows of a table under the names of its columns, refused with `Memory` for want of memory.
 pub fn all_shown<H: KeyHash<Key> + Copy>(alloc: Global, table: &Table<H>) -> Result<Reply, Refused>
     ensures shown { IfOk result (λ reply.
-        reply ≡ Rows (column_names table.now.heading.columns) (rows_shown table.now)) }
+        reply ≡ Rows (column_names table.now.schema.columns) (rows_shown table.now)) }
     ensures refused { IfErr result (λ why. why ≡ unnumbered Memory) }
 {
     let header = names_of(alloc, table.schema().columns())?;

@@ -8,7 +8,7 @@ use Rattle.gq_load.specs.declared.short_records.Short.{Short}
 use Rattle.gq_load.specs.declared.short_records.Short.TheVariants.{Refused, Completed}
 use Rattle.gq_load.specs.Fields.{null_field}
 use Rattle.gq_row.specs.declared.limits.Bounds.{Bounds}
-use Rattle.gq_row.specs.Headings.{Heading}
+use Rattle.gq_row.specs.Schemas.{PlainSchema}
 use Rattle.gq_load.specs.declared.load_refusal.LoadRefusal.{LoadRefusal}
 use Rattle.gq_load.specs.Answers.{◌>>=◌}
 use Rattle.gq_load.specs.Headers.{places_of}
@@ -60,14 +60,14 @@ all_same count (fields ∷ others) h =
     let same : length fields ≡ count = grind (arith, nat_tests, parts.0) in
     rw (whole_same count fields same, all_same count others parts.1) refl
 
-pub even_same : (heading : Heading) (bounds : Bounds) (given : List (List (List ℕ))) → are_even given ≡ true → rows_of Completed heading bounds given ≡ rows_of Refused heading bounds given
+pub even_same : (schema : PlainSchema) (bounds : Bounds) (given : List (List (List ℕ))) → are_even given ≡ true → rows_of Completed schema bounds given ≡ rows_of Refused schema bounds given
 unfolding rows_of
-even_same heading bounds [] h = refl
-even_same heading bounds (names ∷ others) h = by_places (places_of heading.columns names) refl
+even_same schema bounds [] h = refl
+even_same schema bounds (names ∷ others) h = by_places (places_of schema.columns names) refl
   where
-    by_places : (r : Result (List ℕ) LoadRefusal) → places_of heading.columns names ≡ r
-        → (r >>= λ places. data_rows heading bounds.text bounds.rows places (map (completed Completed (length places)) others)) ≡ (r >>= λ places. data_rows heading bounds.text bounds.rows places (map (completed Refused (length places)) others))
+    by_places : (r : Result (List ℕ) LoadRefusal) → places_of schema.columns names ≡ r
+        → (r >>= λ places. data_rows schema bounds.text bounds.rows places (map (completed Completed (length places)) others)) ≡ (r >>= λ places. data_rows schema bounds.text bounds.rows places (map (completed Refused (length places)) others))
     by_places (Err why) e = refl
     by_places (Ok places) e =
-        let many = named_many heading.columns names places e in
-        ap (data_rows heading bounds.text bounds.rows places) (all_same (length places) others (rw many h))
+        let many = named_many schema.columns names places e in
+        ap (data_rows schema bounds.text bounds.rows places) (all_same (length places) others (rw many h))

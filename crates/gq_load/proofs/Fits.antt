@@ -12,7 +12,7 @@ use Rattle.gq_row.specs.declared.schema.Column.{Column}
 use Rattle.gq_row.specs.declared.schema.Kind.{Kind}
 use Rattle.gq_row.specs.declared.schema.Kind.TheVariants as kind
 use Rattle.gq_row.specs.declared.limits.Bounds.{Bounds}
-use Rattle.gq_row.specs.Headings.{Heading}
+use Rattle.gq_row.specs.Schemas.{PlainSchema}
 use Rattle.gq_load.specs.declared.load_refusal.LoadRefusal.{LoadRefusal}
 use Rattle.gq_load.specs.declared.load_refusal.LoadRefusal.TheVariants.{BadText, Limit, FieldCount, NullKey}
 use Rattle.gq_load.specs.declared.short_records.Short.{Short}
@@ -117,45 +117,45 @@ cells_fit most number columns places fields cells h =
     let same : 0 + j ≡ j = omega arith in
     rw same (rw (← kind_is columns j d s) (in_goes columns places a.0 j go)))
 
-pub record IsFit (heading : Heading) (row : List Value) : Type 0 where
-  pub fitting : fits_columns heading.columns row ≡ true
-  pub keyed : has_null heading.key row ≡ false
+pub record IsFit (schema : PlainSchema) (row : List Value) : Type 0 where
+  pub fitting : fits_columns schema.columns row ≡ true
+  pub keyed : has_null schema.key row ≡ false
 
-pub row_fit : (heading : Heading) (most : ℕ) (places : List ℕ) (number : ℕ) (fields : List (List ℕ)) (row : List Value) → row_of heading most places number fields ≡ Ok row → IsFit heading row
+pub row_fit : (schema : PlainSchema) (most : ℕ) (places : List ℕ) (number : ℕ) (fields : List (List ℕ)) (row : List Value) → row_of schema most places number fields ≡ Ok row → IsFit schema row
 unfolding row_of keyed
-row_fit heading most places number fields row h = by_count (eqb (length fields) (length places)) h
+row_fit schema most places number fields row h = by_count (eqb (length fields) (length places)) h
   where
-    by_count : (b : Bool) → cond b (cells_of most number heading.columns places fields >>= λ cells. keyed heading.key number cells) (Err (FieldCount number)) ≡ Ok row → IsFit heading row
+    by_count : (b : Bool) → cond b (cells_of most number schema.columns places fields >>= λ cells. keyed schema.key number cells) (Err (FieldCount number)) ≡ Ok row → IsFit schema row
     by_count true h =
-        let a = bound (cells_of most number heading.columns places fields) _ row h in
-        let b = chosen (has_null heading.key a.0) (NullKey number) (Ok a.0) row a.2 in
-        subst (IsFit heading) (ok_same a.0 row b.1) (record { fitting = cells_fit most number heading.columns places fields a.0 a.1; keyed = b.0 })
+        let a = bound (cells_of most number schema.columns places fields) _ row h in
+        let b = chosen (has_null schema.key a.0) (NullKey number) (Ok a.0) row a.2 in
+        subst (IsFit schema) (ok_same a.0 row b.1) (record { fitting = cells_fit most number schema.columns places fields a.0 a.1; keyed = b.0 })
     by_count false h = let none : ⊥ = cc in absurd none
 
-record AllFit (heading : Heading) (rows : List (List Value)) : Type 0 where
-  fitting : list_all (fits_columns heading.columns) rows ≡ true
-  keyed : list_all (λ row. not (has_null heading.key row)) rows ≡ true
+record AllFit (schema : PlainSchema) (rows : List (List Value)) : Type 0 where
+  fitting : list_all (fits_columns schema.columns) rows ≡ true
+  keyed : list_all (λ row. not (has_null schema.key row)) rows ≡ true
 
-rows_fit : (heading : Heading) (most : ℕ) (places : List ℕ) (number : ℕ) (records : List (List (List ℕ))) (rows : List (List Value)) → rows_from heading most places number records ≡ Ok rows → AllFit heading rows
+rows_fit : (schema : PlainSchema) (most : ℕ) (places : List ℕ) (number : ℕ) (records : List (List (List ℕ))) (rows : List (List Value)) → rows_from schema most places number records ≡ Ok rows → AllFit schema rows
 unfolding rows_from
-rows_fit heading most places number [] rows h = subst (AllFit heading) (ok_same [] rows h) (record { fitting = refl; keyed = refl })
-rows_fit heading most places number (fields ∷ others) rows h =
-    let a = bound (row_of heading most places number fields) _ rows h in
-    let b = bound (rows_from heading most places (number + 1) others) _ rows a.2 in
-    let first = row_fit heading most places number fields a.0 a.1 in
-    let rest = rows_fit heading most places (number + 1) others b.0 b.1 in
-    subst (AllFit heading) (ok_same (a.0 ∷ b.0) rows b.2) (record { fitting = rw (first.fitting, rest.fitting) refl; keyed = rw (first.keyed, rest.keyed) refl })
+rows_fit schema most places number [] rows h = subst (AllFit schema) (ok_same [] rows h) (record { fitting = refl; keyed = refl })
+rows_fit schema most places number (fields ∷ others) rows h =
+    let a = bound (row_of schema most places number fields) _ rows h in
+    let b = bound (rows_from schema most places (number + 1) others) _ rows a.2 in
+    let first = row_fit schema most places number fields a.0 a.1 in
+    let rest = rows_fit schema most places (number + 1) others b.0 b.1 in
+    subst (AllFit schema) (ok_same (a.0 ∷ b.0) rows b.2) (record { fitting = rw (first.fitting, rest.fitting) refl; keyed = rw (first.keyed, rest.keyed) refl })
 
-all_fit : (short : Short) (heading : Heading) (bounds : Bounds) (given : List (List (List ℕ))) (rows : List (List Value)) → rows_of short heading bounds given ≡ Ok rows → AreFit heading bounds rows
+all_fit : (short : Short) (schema : PlainSchema) (bounds : Bounds) (given : List (List (List ℕ))) (rows : List (List Value)) → rows_of short schema bounds given ≡ Ok rows → AreFit schema bounds rows
 unfolding rows_of data_rows
-all_fit short heading bounds [] rows h = let none : ⊥ = cc in absurd none
-all_fit short heading bounds (names ∷ others) rows h =
-    let a = bound (places_of heading.columns names) _ rows h in
-    let b = bound (rows_from heading bounds.text a.0 1 (map (completed short (length a.0)) others)) _ rows a.2 in
+all_fit short schema bounds [] rows h = let none : ⊥ = cc in absurd none
+all_fit short schema bounds (names ∷ others) rows h =
+    let a = bound (places_of schema.columns names) _ rows h in
+    let b = bound (rows_from schema bounds.text a.0 1 (map (completed short (length a.0)) others)) _ rows a.2 in
     let c = chosen (nat_lt bounds.rows (length b.0)) Limit (Ok b.0) rows b.2 in
-    let fit = rows_fit heading bounds.text a.0 1 (map (completed short (length a.0)) others) b.0 b.1 in
-    subst (AreFit heading bounds) (ok_same b.0 rows c.1) (record { fitting = fit.fitting; keyed = fit.keyed; few = ltb-false bounds.rows (length b.0) c.0 })
+    let fit = rows_fit schema bounds.text a.0 1 (map (completed short (length a.0)) others) b.0 b.1 in
+    subst (AreFit schema bounds) (ok_same b.0 rows c.1) (record { fitting = fit.fitting; keyed = fit.keyed; few = ltb-false bounds.rows (length b.0) c.0 })
 
 -- what is loaded may stand in the table
-pub loaded_fit : (short : Short) (heading : Heading) (bounds : Bounds) (bytes : List ℕ) (rows : List (List Value)) → load short heading bounds bytes ≡ Ok rows → AreFit heading bounds rows
-loaded_fit short heading bounds bytes rows h = all_fit short heading bounds (records default_config (strip_bom bytes)) rows h
+pub loaded_fit : (short : Short) (schema : PlainSchema) (bounds : Bounds) (bytes : List ℕ) (rows : List (List Value)) → load short schema bounds bytes ≡ Ok rows → AreFit schema bounds rows
+loaded_fit short schema bounds bytes rows h = all_fit short schema bounds (records default_config (strip_bom bytes)) rows h

@@ -8,7 +8,7 @@ use Rattle.std.proofs.lemmas.Option.{same_Some}
 use Rattle.csv.specs.Reading.{default_config, records, strip_bom}
 use Rattle.gq_row.specs.declared.value.Value.{Value}
 use Rattle.gq_row.specs.declared.limits.Bounds.{Bounds}
-use Rattle.gq_row.specs.Headings.{Heading}
+use Rattle.gq_row.specs.Schemas.{PlainSchema}
 use Rattle.gq_load.specs.declared.load_refusal.LoadRefusal.{LoadRefusal}
 use Rattle.gq_load.specs.declared.load_refusal.LoadRefusal.TheVariants.{Limit}
 use Rattle.gq_load.specs.declared.row_fault.RowFault.{RowFault}
@@ -28,18 +28,18 @@ fault_before : (row : List Value) (r : Result (List (List Value)) LoadRefusal) �
 fault_before row (Ok rows) = refl
 fault_before row (Err e) = refl
 
-module _ (heading : Heading) (text : ℕ) (places : List ℕ) (number : ℕ) where
-  pub fault_more : (fields : List (List ℕ)) (others left : List (List (List ℕ))) (row : List Value) → left ≡ fields ∷ others → row_of heading text places number fields ≡ Ok row
-      → fault_of (rows_from heading text places number left) ≡ fault_of (rows_from heading text places (number + 1) others)
+module _ (schema : PlainSchema) (text : ℕ) (places : List ℕ) (number : ℕ) where
+  pub fault_more : (fields : List (List ℕ)) (others left : List (List (List ℕ))) (row : List Value) → left ≡ fields ∷ others → row_of schema text places number fields ≡ Ok row
+      → fault_of (rows_from schema text places number left) ≡ fault_of (rows_from schema text places (number + 1) others)
   unfolding rows_from
-  fault_more fields others left row e h = rw (e, h) (fault_before row (rows_from heading text places (number + 1) others))
+  fault_more fields others left row e h = rw (e, h) (fault_before row (rows_from schema text places (number + 1) others))
 
-  pub fault_here : (fields : List (List ℕ)) (others left : List (List (List ℕ))) (fault : LoadRefusal) → left ≡ fields ∷ others → row_of heading text places number fields ≡ Err fault
-      → fault_of (rows_from heading text places number left) ≡ Some fault
+  pub fault_here : (fields : List (List ℕ)) (others left : List (List (List ℕ))) (fault : LoadRefusal) → left ≡ fields ∷ others → row_of schema text places number fields ≡ Err fault
+      → fault_of (rows_from schema text places number left) ≡ Some fault
   unfolding rows_from
   fault_here fields others left fault e h = rw (e, h) refl
 
-  pub fault_none : (left : List (List (List ℕ))) → left ≡ [] → fault_of (rows_from heading text places number left) ≡ None
+  pub fault_none : (left : List (List (List ℕ))) → left ≡ [] → fault_of (rows_from schema text places number left) ≡ None
   unfolding rows_from
   fault_none left e = rw e refl
 
@@ -51,19 +51,19 @@ module _ (heading : Heading) (text : ℕ) (places : List ℕ) (number : ℕ) whe
       none : nat_lt most 0 ≡ false
       none = grind (arith, nat_tests)
 
-  pub left_none : (most : ℕ) (left : List (List (List ℕ))) → left ≡ [] → rows_left heading text most places number left ≡ Ok []
+  pub left_none : (most : ℕ) (left : List (List (List ℕ))) → left ≡ [] → rows_left schema text most places number left ≡ Ok []
   unfolding rows_left rows_from
   left_none most left e = rw e (none_of_none most)
 
-  pub left_bad : (most : ℕ) (fields : List (List ℕ)) (others left : List (List (List ℕ))) (fault : LoadRefusal) → left ≡ fields ∷ others → row_of heading text places number fields ≡ Err fault
-      → rows_left heading text most places number left ≡ Err fault
+  pub left_bad : (most : ℕ) (fields : List (List ℕ)) (others left : List (List (List ℕ))) (fault : LoadRefusal) → left ≡ fields ∷ others → row_of schema text places number fields ≡ Err fault
+      → rows_left schema text most places number left ≡ Err fault
   unfolding rows_left rows_from
   left_bad most fields others left fault e h = rw (e, h) refl
 
-  pub left_more : (most fewer : ℕ) (fields : List (List ℕ)) (others left : List (List (List ℕ))) (row : List Value) → most ≡ fewer + 1 → left ≡ fields ∷ others → row_of heading text places number fields ≡ Ok row
-      → rows_left heading text most places number left ≡ row_before row (rows_left heading text fewer places (number + 1) others)
+  pub left_more : (most fewer : ℕ) (fields : List (List ℕ)) (others left : List (List (List ℕ))) (row : List Value) → most ≡ fewer + 1 → left ≡ fields ∷ others → row_of schema text places number fields ≡ Ok row
+      → rows_left schema text most places number left ≡ row_before row (rows_left schema text fewer places (number + 1) others)
   unfolding rows_left rows_from
-  left_more most fewer fields others left row m e h = rw (e, h) (by_rest (rows_from heading text places (number + 1) others))
+  left_more most fewer fields others left row m e h = rw (e, h) (by_rest (rows_from schema text places (number + 1) others))
     where
       one_less : (rows : List (List Value)) → nat_lt most (length (row ∷ rows)) ≡ nat_lt fewer (length rows)
       one_less rows = grind (arith, nat_tests, m)
@@ -77,24 +77,24 @@ module _ (heading : Heading) (text : ℕ) (places : List ℕ) (number : ℕ) whe
       by_rest (Err f) = refl
 
   -- no more rows may come, and one does
-  module _ (most : ℕ) (spent : most ≡ 0) (fields : List (List ℕ)) (others left : List (List (List ℕ))) (row : List Value) (first : left ≡ fields ∷ others) (given : row_of heading text places number fields ≡ Ok row) where
+  module _ (most : ℕ) (spent : most ≡ 0) (fields : List (List ℕ)) (others left : List (List (List ℕ))) (row : List Value) (first : left ≡ fields ∷ others) (given : row_of schema text places number fields ≡ Ok row) where
     over : (rows : List (List Value)) → at_most most (row ∷ rows) ≡ Err Limit
     over rows = ap (λ b. cond b (Err Limit) (Ok (row ∷ rows))) yes
       where
         yes : nat_lt most (length (row ∷ rows)) ≡ true
         yes = grind (arith, nat_tests, spent)
 
-    pub left_over : fault_of (rows_from heading text places (number + 1) others) ≡ None → rows_left heading text most places number left ≡ Err Limit
+    pub left_over : fault_of (rows_from schema text places (number + 1) others) ≡ None → rows_left schema text most places number left ≡ Err Limit
     unfolding rows_left rows_from
-    left_over none = rw (first, given) (by_rest (rows_from heading text places (number + 1) others) none)
+    left_over none = rw (first, given) (by_rest (rows_from schema text places (number + 1) others) none)
       where
         by_rest : (r : Result (List (List Value)) LoadRefusal) → fault_of r ≡ None → ((r >>= λ rows. Ok (row ∷ rows)) >>= at_most most) ≡ Err Limit
         by_rest (Ok rows) e = over rows
         by_rest (Err f) e = let none : ⊥ = cc in absurd none
 
-    pub left_fault : (fault : LoadRefusal) → fault_of (rows_from heading text places (number + 1) others) ≡ Some fault → rows_left heading text most places number left ≡ Err fault
+    pub left_fault : (fault : LoadRefusal) → fault_of (rows_from schema text places (number + 1) others) ≡ Some fault → rows_left schema text most places number left ≡ Err fault
     unfolding rows_left rows_from
-    left_fault fault some = rw (first, given) (by_rest (rows_from heading text places (number + 1) others) some)
+    left_fault fault some = rw (first, given) (by_rest (rows_from schema text places (number + 1) others) some)
       where
         by_rest : (r : Result (List (List Value)) LoadRefusal) → fault_of r ≡ Some fault → ((r >>= λ rows. Ok (row ∷ rows)) >>= at_most most) ≡ Err fault
         by_rest (Ok rows) e = let none : ⊥ = cc in absurd none
@@ -102,58 +102,58 @@ module _ (heading : Heading) (text : ℕ) (places : List ℕ) (number : ℕ) whe
 
   -- ---- the same of records that may be known, by what a read took
 
-  pub end_fault : (left rest : Option Records) (found : Bool) (fields : List (List ℕ)) → found ≡ false → Took left found fields rest → IfSome left (λ records. fault_of (rows_from heading text places number records) ≡ None)
+  pub end_fault : (left rest : Option Records) (found : Bool) (fields : List (List ℕ)) → found ≡ false → Took left found fields rest → IfSome left (λ records. fault_of (rows_from schema text places number records) ≡ None)
   end_fault None rest found fields e h = tt
   end_fault (Some []) rest found fields e h = fault_none [] refl
   end_fault (Some (first ∷ others)) rest found fields e h = absurd (false≢true (sym e ∙ h.0))
 
-  pub end_left : (most : ℕ) (left rest : Option Records) (found : Bool) (fields : List (List ℕ)) → found ≡ false → Took left found fields rest → IfSome (option_map (rows_left heading text most places number) left) (λ read. read ≡ Ok [])
+  pub end_left : (most : ℕ) (left rest : Option Records) (found : Bool) (fields : List (List ℕ)) → found ≡ false → Took left found fields rest → IfSome (option_map (rows_left schema text most places number) left) (λ read. read ≡ Ok [])
   end_left most None rest found fields e h = tt
   end_left most (Some []) rest found fields e h = left_none most [] refl
   end_left most (Some (first ∷ others)) rest found fields e h = absurd (false≢true (sym e ∙ h.0))
 
   module _ (fields : List (List ℕ)) (found : Bool) (yes : found ≡ true) where
-    pub bad_fault : (left rest : Option Records) (fault : LoadRefusal) → Took left found fields rest → row_of heading text places number fields ≡ Err fault → IfSome left (λ records. fault_of (rows_from heading text places number records) ≡ Some fault)
+    pub bad_fault : (left rest : Option Records) (fault : LoadRefusal) → Took left found fields rest → row_of schema text places number fields ≡ Err fault → IfSome left (λ records. fault_of (rows_from schema text places number records) ≡ Some fault)
     bad_fault None rest fault h bad = tt
     bad_fault (Some []) rest fault h bad = absurd (false≢true (sym h ∙ yes))
     bad_fault (Some (first ∷ others)) rest fault h bad = fault_here first others (first ∷ others) fault refl (rw h.1 at bad)
 
-    pub bad_left : (most : ℕ) (left rest : Option Records) (fault : LoadRefusal) → Took left found fields rest → row_of heading text places number fields ≡ Err fault → IfSome (option_map (rows_left heading text most places number) left) (λ read. read ≡ Err fault)
+    pub bad_left : (most : ℕ) (left rest : Option Records) (fault : LoadRefusal) → Took left found fields rest → row_of schema text places number fields ≡ Err fault → IfSome (option_map (rows_left schema text most places number) left) (λ read. read ≡ Err fault)
     bad_left most None rest fault h bad = tt
     bad_left most (Some []) rest fault h bad = absurd (false≢true (sym h ∙ yes))
     bad_left most (Some (first ∷ others)) rest fault h bad = left_bad most first others (first ∷ others) fault refl (rw h.1 at bad)
 
-    module _ (row : List Value) (good : row_of heading text places number fields ≡ Ok row) where
+    module _ (row : List Value) (good : row_of schema text places number fields ≡ Ok row) where
       pub more_fault : (left rest : Option Records) → Took left found fields rest
-          → IfSome left (λ records. option_map (λ others. fault_of (rows_from heading text places (number + 1) others)) rest ≡ Some (fault_of (rows_from heading text places number records)))
+          → IfSome left (λ records. option_map (λ others. fault_of (rows_from schema text places (number + 1) others)) rest ≡ Some (fault_of (rows_from schema text places number records)))
       more_fault None rest h = tt
       more_fault (Some []) rest h = absurd (false≢true (sym h ∙ yes))
       more_fault (Some (first ∷ others)) rest h =
-          ap (option_map (λ others. fault_of (rows_from heading text places (number + 1) others))) h.2
+          ap (option_map (λ others. fault_of (rows_from schema text places (number + 1) others))) h.2
           ∙ ap Some (sym (fault_more first others (first ∷ others) row refl (rw h.1 at good)))
 
       pub more_left : (most fewer : ℕ) → most ≡ fewer + 1 → (left rest : Option Records) → Took left found fields rest
-          → BeginWith (option_map (rows_left heading text most places number) left) row (option_map (rows_left heading text fewer places (number + 1)) rest)
+          → BeginWith (option_map (rows_left schema text most places number) left) row (option_map (rows_left schema text fewer places (number + 1)) rest)
       more_left most fewer m None rest h = tt
       more_left most fewer m (Some []) rest h = absurd (false≢true (sym h ∙ yes))
       more_left most fewer m (Some (first ∷ others)) rest h =
-          ap (λ o. option_map (row_before row) (option_map (rows_left heading text fewer places (number + 1)) o)) h.2
+          ap (λ o. option_map (row_before row) (option_map (rows_left schema text fewer places (number + 1)) o)) h.2
           ∙ ap Some (sym (left_more most fewer first others (first ∷ others) row m refl (rw h.1 at good)))
 
-      pub over_left : (most : ℕ) → most ≡ 0 → (left rest : Option Records) → Took left found fields rest → IfSome rest (λ others. fault_of (rows_from heading text places (number + 1) others) ≡ None)
-          → IfSome (option_map (rows_left heading text most places number) left) (λ read. read ≡ Err Limit)
+      pub over_left : (most : ℕ) → most ≡ 0 → (left rest : Option Records) → Took left found fields rest → IfSome rest (λ others. fault_of (rows_from schema text places (number + 1) others) ≡ None)
+          → IfSome (option_map (rows_left schema text most places number) left) (λ read. read ≡ Err Limit)
       over_left most spent None rest h none = tt
       over_left most spent (Some []) rest h none = absurd (false≢true (sym h ∙ yes))
       over_left most spent (Some (first ∷ others)) rest h none =
-          let here = subst (λ o. IfSome o (λ others. fault_of (rows_from heading text places (number + 1) others) ≡ None)) h.2 none in
+          let here = subst (λ o. IfSome o (λ others. fault_of (rows_from schema text places (number + 1) others) ≡ None)) h.2 none in
           left_over most spent first others (first ∷ others) row refl (rw h.1 at good) here
 
-      pub late_left : (most : ℕ) → most ≡ 0 → (left rest : Option Records) (fault : LoadRefusal) → Took left found fields rest → IfSome rest (λ others. fault_of (rows_from heading text places (number + 1) others) ≡ Some fault)
-          → IfSome (option_map (rows_left heading text most places number) left) (λ read. read ≡ Err fault)
+      pub late_left : (most : ℕ) → most ≡ 0 → (left rest : Option Records) (fault : LoadRefusal) → Took left found fields rest → IfSome rest (λ others. fault_of (rows_from schema text places (number + 1) others) ≡ Some fault)
+          → IfSome (option_map (rows_left schema text most places number) left) (λ read. read ≡ Err fault)
       late_left most spent None rest fault h some = tt
       late_left most spent (Some []) rest fault h some = absurd (false≢true (sym h ∙ yes))
       late_left most spent (Some (first ∷ others)) rest fault h some =
-          let here = subst (λ o. IfSome o (λ others. fault_of (rows_from heading text places (number + 1) others) ≡ Some fault)) h.2 some in
+          let here = subst (λ o. IfSome o (λ others. fault_of (rows_from schema text places (number + 1) others) ≡ Some fault)) h.2 some in
           left_fault most spent first others (first ∷ others) row refl (rw h.1 at good) fault here
 
 -- ---- records as they are read
@@ -166,20 +166,20 @@ took_as_read short count (Some (first ∷ others)) rest found fields h = (h.0, a
 
 -- ---- the rows of a text, whose records are those that are left
 
-module _ (short : Short) (heading : Heading) (bounds : Bounds) where
+module _ (short : Short) (schema : PlainSchema) (bounds : Bounds) where
   pub loaded_faulty : (text : Option (List ℕ)) (left : Option Records) (fault : RowFault) → left ≡ option_map (λ bytes. records default_config (strip_bom bytes)) text
-      → IsFaultOf (option_map (rows_of short heading bounds) left) fault → IsFaultOf (option_map (load short heading bounds) text) fault
+      → IsFaultOf (option_map (rows_of short schema bounds) left) fault → IsFaultOf (option_map (load short schema bounds) text) fault
   loaded_faulty None left fault e h = told_too fault (λ why k. tt) h
-  loaded_faulty (Some bytes) left fault e h = subst (λ o. IsFaultOf (option_map (rows_of short heading bounds) o) fault) e h
+  loaded_faulty (Some bytes) left fault e h = subst (λ o. IsFaultOf (option_map (rows_of short schema bounds) o) fault) e h
 
   pub loaded_rows : (text : Option (List ℕ)) (left rest : Option Records) (places : List ℕ) → left ≡ option_map (λ bytes. records default_config (strip_bom bytes)) text
-      → IfSome left (λ given. option_map (rows_left heading bounds.text bounds.rows places 1) rest ≡ Some (rows_of short heading bounds given))
-      → IfSome text (λ bytes. option_map (rows_left heading bounds.text (bounds.rows - 0) places 1) rest ≡ Some (load short heading bounds bytes))
+      → IfSome left (λ given. option_map (rows_left schema bounds.text bounds.rows places 1) rest ≡ Some (rows_of short schema bounds given))
+      → IfSome text (λ bytes. option_map (rows_left schema bounds.text (bounds.rows - 0) places 1) rest ≡ Some (load short schema bounds bytes))
   loaded_rows None left rest places e h = tt
   loaded_rows (Some bytes) left rest places e h =
       let none_given : bounds.rows ≡ bounds.rows - 0 = omega arith in
-      ap (λ most. option_map (rows_left heading bounds.text most places 1) rest) (sym none_given)
-      ∙ subst (λ o. IfSome o (λ given. option_map (rows_left heading bounds.text bounds.rows places 1) rest ≡ Some (rows_of short heading bounds given))) e h
+      ap (λ most. option_map (rows_left schema bounds.text most places 1) rest) (sym none_given)
+      ∙ subst (λ o. IfSome o (λ given. option_map (rows_left schema bounds.text bounds.rows places 1) rest ≡ Some (rows_of short schema bounds given))) e h
 
 -- ---- rows that came, with those that are left
 

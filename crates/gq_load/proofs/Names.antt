@@ -8,7 +8,7 @@ use Rattle.std.proofs.lemmas.List.FromFn.{get_or-map-range_with_len}
 use Rattle.gq_row.specs.declared.schema.Column.{Column}
 use Rattle.gq_row.specs.declared.value.Value.{Value}
 use Rattle.gq_row.specs.declared.value.Value.TheVariants.{Null}
-use Rattle.gq_row.specs.Headings.{position_of, positions_of}
+use Rattle.gq_row.specs.Schemas.{position_of, positions_of}
 use Rattle.gq_row.specs.Repeats.{no_repeats}
 use Rattle.gq_row.specs.Rows.{cell}
 use Rattle.gq_load.specs.declared.load_refusal.LoadRefusal.{LoadRefusal}

@@ -6,7 +6,7 @@ use Rattle.std.proofs.lemmas.Option.{same_Some}
 use Rattle.std.proofs.lemmas.Bool.Decides.{nat_tests}
 use Rattle.std.proofs.lemmas.List.{append_assoc, append-nil}
 use Rattle.gq_row.specs.declared.value.Value.{Value}
-use Rattle.gq_row.specs.Headings.{Heading}
+use Rattle.gq_row.specs.Schemas.{PlainSchema}
 use Rattle.gq_load.specs.declared.load_refusal.LoadRefusal.{LoadRefusal}
 use Rattle.gq_load.specs.Answers.{◌>>=◌, Gives}
 use Rattle.gq_load.specs.declared.load_refusal.LoadRefusal.TheVariants.{FieldCount, Memory, NullKey}
@@ -25,25 +25,25 @@ pub no_front : (read : Result (List (List Value)) LoadRefusal) → with_front []
 no_front (Ok rows) = refl
 no_front (Err e) = refl
 
-pub row_more : (heading : Heading) (most : ℕ) (places : List ℕ) (number : ℕ) (front : List (List Value)) (fields : List (List ℕ)) (others : List (List (List ℕ))) (row : List Value)
-    → row_of heading most places number fields ≡ Ok row
-    → with_front front (rows_from heading most places number (fields ∷ others)) ≡ with_front (front ++ row ∷ []) (rows_from heading most places (number + 1) others)
+pub row_more : (schema : PlainSchema) (most : ℕ) (places : List ℕ) (number : ℕ) (front : List (List Value)) (fields : List (List ℕ)) (others : List (List (List ℕ))) (row : List Value)
+    → row_of schema most places number fields ≡ Ok row
+    → with_front front (rows_from schema most places number (fields ∷ others)) ≡ with_front (front ++ row ∷ []) (rows_from schema most places (number + 1) others)
 unfolding rows_from
-row_more heading most places number front fields others row e = rw e (by_rest (rows_from heading most places (number + 1) others))
+row_more schema most places number front fields others row e = rw e (by_rest (rows_from schema most places (number + 1) others))
   where
     by_rest : (r : Result (List (List Value)) LoadRefusal) → with_front front (r >>= λ rows. Ok (row ∷ rows)) ≡ with_front (front ++ row ∷ []) r
     by_rest (Ok rows) = ap Ok (sym (append_assoc front (row ∷ []) rows))
     by_rest (Err f) = refl
 
-pub row_bad : (heading : Heading) (most : ℕ) (places : List ℕ) (number : ℕ) (front : List (List Value)) (fields : List (List ℕ)) (others : List (List (List ℕ))) (fault : LoadRefusal)
-    → row_of heading most places number fields ≡ Err fault
-    → with_front front (rows_from heading most places number (fields ∷ others)) ≡ Err fault
+pub row_bad : (schema : PlainSchema) (most : ℕ) (places : List ℕ) (number : ℕ) (front : List (List Value)) (fields : List (List ℕ)) (others : List (List (List ℕ))) (fault : LoadRefusal)
+    → row_of schema most places number fields ≡ Err fault
+    → with_front front (rows_from schema most places number (fields ∷ others)) ≡ Err fault
 unfolding rows_from
-row_bad heading most places number front fields others fault e = rw e refl
+row_bad schema most places number front fields others fault e = rw e refl
 
-pub row_none : (heading : Heading) (most : ℕ) (places : List ℕ) (number : ℕ) (front : List (List Value)) → with_front front (rows_from heading most places number []) ≡ Ok front
+pub row_none : (schema : PlainSchema) (most : ℕ) (places : List ℕ) (number : ℕ) (front : List (List Value)) → with_front front (rows_from schema most places number []) ≡ Ok front
 unfolding rows_from
-row_none heading most places number front = ap Ok (append-nil front)
+row_none schema most places number front = ap Ok (append-nil front)
 
 -- a fault that is handed on
 pub carried : {A B : Type 0} (e : LoadRefusal) (x : Result A LoadRefusal) (y : Result B LoadRefusal) → (x ≡ Err e → y ≡ Err e) → (e ≡ Memory) ⊎ (x ≡ Err e) → (e ≡ Memory) ⊎ (y ≡ Err e)
@@ -90,11 +90,11 @@ in_key [] n h k d s = let none : ⊥ = omega (arith, s) in absurd none
 in_key (p ∷ ps) n h zero d s = let first = (both (nat_lt p n) (list_all (λ position. nat_lt position n) ps) h).0 in grind (arith, nat_tests)
 in_key (p ∷ ps) n h (suc k) d s = in_key ps n (both (nat_lt p n) (list_all (λ position. nat_lt position n) ps) h).1 k d (omega (arith, s))
 
-pub null_key : (heading : Heading) (most : ℕ) (places : List ℕ) (number : ℕ) (fields : List (List ℕ)) (cells : List Value) → eqb (length fields) (length places) ≡ true
-    → cells_of most number heading.columns places fields ≡ Ok cells → no_key heading.key cells ≡ true → row_of heading most places number fields ≡ Err (NullKey number)
+pub null_key : (schema : PlainSchema) (most : ℕ) (places : List ℕ) (number : ℕ) (fields : List (List ℕ)) (cells : List Value) → eqb (length fields) (length places) ≡ true
+    → cells_of most number schema.columns places fields ≡ Ok cells → no_key schema.key cells ≡ true → row_of schema most places number fields ≡ Err (NullKey number)
 unfolding row_of keyed
-null_key heading most places number fields cells count e null = rw (count, e, null) refl
+null_key schema most places number fields cells count e null = rw (count, e, null) refl
 
-pub other_count : (heading : Heading) (most : ℕ) (places : List ℕ) (number : ℕ) (fields : List (List ℕ)) → eqb (length fields) (length places) ≡ false → row_of heading most places number fields ≡ Err (FieldCount number)
+pub other_count : (schema : PlainSchema) (most : ℕ) (places : List ℕ) (number : ℕ) (fields : List (List ℕ)) → eqb (length fields) (length places) ≡ false → row_of schema most places number fields ≡ Err (FieldCount number)
 unfolding row_of
-other_count heading most places number fields count = rw count refl
+other_count schema most places number fields count = rw count refl

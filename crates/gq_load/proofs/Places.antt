@@ -7,7 +7,7 @@ use Rattle.std.proofs.lemmas.List.Folds.{list_any-append}
 use Rattle.std.proofs.lemmas.Bool.Decides.{nat_tests}
 use Rattle.csv.specs.Records.{field_at}
 use Rattle.gq_row.specs.declared.schema.Column.{Column}
-use Rattle.gq_row.specs.Headings.{position_of, positions_of}
+use Rattle.gq_row.specs.Schemas.{position_of, positions_of}
 use Rattle.gq_row.specs.Repeats.{no_repeats}
 use Rattle.gq_load.specs.declared.load_refusal.LoadRefusal.TheVariants.{Header}
 use Rattle.gq_load.specs.Headers.{are_all, all_columns, places_of}

@@ -7,7 +7,7 @@ use Rattle.std.proofs.lemmas.Bool.{ltb-true}
 use Rattle.std.proofs.lemmas.Str.{IsUtf8-from_ascii, is_utf8-from_IsUtf8}
 use Rattle.csv.specs.Machine.{next_record}
 use Rattle.csv.specs.Reading.{strip_bom, records_from}
-use Rattle.gq_row.specs.Headings.{Heading}
+use Rattle.gq_row.specs.Schemas.{PlainSchema}
 use Rattle.gq_row.specs.Limits.{GREATEST}
 use Rattle.gq_row.specs.declared.limits.Bounds.{Bounds}
 use Rattle.gq_row.specs.declared.schema.Kind.TheVariants as kind
@@ -21,11 +21,11 @@ use Rattle.gq_load.specs.Headers.{places_of}
 use Rattle.gq_load.proofs.Places.{both}
 
 -- s (id int, city text, key (id))
-abbrev s : Heading
+abbrev s : PlainSchema
 s = record { columns = record { name = codes "id"; kind = kind.Int } ∷ record { name = codes "city"; kind = kind.Text } ∷ []; key = 0 ∷ [] }
 
 -- n (a int, b int)
-abbrev n : Heading
+abbrev n : PlainSchema
 n = record { columns = record { name = codes "a"; kind = kind.Int } ∷ record { name = codes "b"; kind = kind.Int } ∷ []; key = [] }
 
 abbrev two_rows : Bounds

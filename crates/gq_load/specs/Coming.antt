@@ -4,7 +4,7 @@ use Rattle.csv.specs.declared.reader.Reader.{Reader}
 use Rattle.gq_row.specs.declared.limits.Bounds.{Bounds}
 use Rattle.gq_row.specs.declared.value.Value.{Value}
 use Rattle.gq_row.specs.Fitting.{fits_columns, has_null}
-use Rattle.gq_row.specs.Headings.{Heading}
+use Rattle.gq_row.specs.Schemas.{PlainSchema}
 use Rattle.gq_load.specs.declared.load_refusal.LoadRefusal.{LoadRefusal}
 use Rattle.gq_load.specs.declared.load_refusal.LoadRefusal.TheVariants.{Memory}
 use Rattle.gq_load.specs.declared.row_fault.RowFault.{RowFault}
@@ -14,16 +14,16 @@ use Rattle.gq_load.specs.Answers.{◌>>=◌}
 use Rattle.gq_load.specs.Payloads.{completed, rows_from, at_most}
 use Rattle.gq_load.specs.Unread.{IsReading, unread}
 
--- the rows of the data records that are left, or their first fault, for a table of this heading, where the payload's bytes are known; and how many rows may come at most
+-- the rows of the data records that are left, or their first fault, for a table of this schema, where the payload's bytes are known; and how many rows may come at most
 pub record Coming : Type 0 where
-  pub heading : Heading
+  pub schema : PlainSchema
   pub rows : Option (Result (List (List Value)) LoadRefusal)
   pub room : ℕ
 
 -- the rows of records, of which the first has this number, where they are at most so many; a fault of a record goes before
-unfoldable pub rows_left : Heading → ℕ → ℕ → List ℕ → ℕ → List (List (List ℕ)) → Result (List (List Value)) LoadRefusal
-rows_left heading text most places number others = do
-  rows ← rows_from heading text places number others
+unfoldable pub rows_left : PlainSchema → ℕ → ℕ → List ℕ → ℕ → List (List (List ℕ)) → Result (List (List Value)) LoadRefusal
+rows_left schema text most places number others = do
+  rows ← rows_from schema text places number others
   at_most most rows
 
 -- the data records that a reader has left, as they are read under a header of the given number of fields, where they are known
@@ -31,8 +31,8 @@ abbrev pub data_left : {R : Type 0} → (R → Option (List ℕ)) → Short → 
 data_left remaining short count reader = option_map (map (completed short count)) (unread remaining reader)
 
 -- their rows, after the given number of rows
-abbrev pub rows_coming : {R : Type 0} → (R → Option (List ℕ)) → Short → Heading → Bounds → List ℕ → ℕ → Reader R → Option (Result (List (List Value)) LoadRefusal)
-rows_coming remaining short heading bounds places given reader = option_map (rows_left heading bounds.text (bounds.rows - given) places (given + 1)) (data_left remaining short (length places) reader)
+abbrev pub rows_coming : {R : Type 0} → (R → Option (List ℕ)) → Short → PlainSchema → Bounds → List ℕ → ℕ → Reader R → Option (Result (List (List Value)) LoadRefusal)
+rows_coming remaining short schema bounds places given reader = option_map (rows_left schema bounds.text (bounds.rows - given) places (given + 1)) (data_left remaining short (length places) reader)
 
 -- nothing comes any more, or those do
 abbrev pub unless_over : Bool → Option (Result (List (List Value)) LoadRefusal) → Option (Result (List (List Value)) LoadRefusal)
@@ -70,15 +70,15 @@ abbrev pub IsUnder : {R : Type 0} → Bool → ℕ → ℕ → Reader R → Type
 IsUnder is_over given most reader = is_over ≡ false → IsReading reader × (given ≤ most)
 
 -- a row that came after the given number: those that are left begin with it, it fits its table, and more may come
-pub record Came {R : Type 0} (remaining : R → Option (List ℕ)) (short : Short) (heading : Heading) (bounds : Bounds) (places : List ℕ) (given : ℕ) (old : Reader R) (row : List Value) (new : Reader R) : Type 0 where
-  pub left : BeginWith (rows_coming remaining short heading bounds places given old) row (rows_coming remaining short heading bounds places (given + 1) new)
-  pub fits : IsTrue (fits_columns heading.columns row)
-  pub keyed : has_null heading.key row ≡ false
+pub record Came {R : Type 0} (remaining : R → Option (List ℕ)) (short : Short) (schema : PlainSchema) (bounds : Bounds) (places : List ℕ) (given : ℕ) (old : Reader R) (row : List Value) (new : Reader R) : Type 0 where
+  pub left : BeginWith (rows_coming remaining short schema bounds places given old) row (rows_coming remaining short schema bounds places (given + 1) new)
+  pub fits : IsTrue (fits_columns schema.columns row)
+  pub keyed : has_null schema.key row ≡ false
   pub reading : IsReading new
   pub under : given + 1 ≤ bounds.rows
 
 -- what reading the next row came to: there was one, there is none left, or it is the first fault of those that are left
-abbrev pub IsNext : {R : Type 0} → (R → Option (List ℕ)) → Short → Heading → Bounds → List ℕ → ℕ → Reader R → List Value → Reader R → Result Bool RowFault → Type 0
-IsNext remaining short heading bounds places given old row new (Ok true) = Came remaining short heading bounds places given old row new
-IsNext remaining short heading bounds places given old row new (Ok false) = IfSome (rows_coming remaining short heading bounds places given old) (λ read. read ≡ Ok [])
-IsNext remaining short heading bounds places given old row new (Err fault) = IsFaultOf (rows_coming remaining short heading bounds places given old) fault
+abbrev pub IsNext : {R : Type 0} → (R → Option (List ℕ)) → Short → PlainSchema → Bounds → List ℕ → ℕ → Reader R → List Value → Reader R → Result Bool RowFault → Type 0
+IsNext remaining short schema bounds places given old row new (Ok true) = Came remaining short schema bounds places given old row new
+IsNext remaining short schema bounds places given old row new (Ok false) = IfSome (rows_coming remaining short schema bounds places given old) (λ read. read ≡ Ok [])
+IsNext remaining short schema bounds places given old row new (Err fault) = IsFaultOf (rows_coming remaining short schema bounds places given old) fault

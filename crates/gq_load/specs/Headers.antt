@@ -1,7 +1,7 @@
 -- Which columns a header names.
 use Rattle.std.specs.Prelude.{◌≡◌, ◌<◌, ℕ, Bool, true, ◌==◌, ◌&&◌, nat_eq, List, length, All, Option, Some, None, Result, Ok, Err, if◌then◌else◌}
 use Rattle.gq_row.specs.declared.schema.Column.{Column}
-use Rattle.gq_row.specs.Headings.{positions_of}
+use Rattle.gq_row.specs.Schemas.{positions_of}
 use Rattle.gq_row.specs.Repeats.{no_repeats}
 use Rattle.gq_load.specs.declared.load_refusal.LoadRefusal.{LoadRefusal}
 use Rattle.gq_load.specs.declared.load_refusal.LoadRefusal.TheVariants.{Header}

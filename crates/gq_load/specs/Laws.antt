@@ -8,7 +8,7 @@ use Rattle.gq_row.specs.declared.schema.Kind.{Kind}
 use Rattle.gq_row.specs.declared.schema.Kind.TheVariants as kind
 use Rattle.gq_row.specs.declared.value.Value.{Value}
 use Rattle.gq_row.specs.declared.value.Value.TheVariants.{Null, Text, NoCase}
-use Rattle.gq_row.specs.Headings.{Heading, position_of}
+use Rattle.gq_row.specs.Schemas.{PlainSchema, position_of}
 use Rattle.gq_row.specs.Rows.{cell}
 use Rattle.gq_load.specs.declared.load_refusal.LoadRefusal.{LoadRefusal}
 use Rattle.csv.specs.Reading.{records, default_config, strip_bom}
@@ -26,21 +26,21 @@ pub record StandsUnderItsName : Type 0 where
       → position_of columns (slice_index_or names i []) ≡ Some place → cell (arranged (length columns) places values) place ≡ slice_index_or values i Null
 
 -- the fault of data records is that of their first faulty one, with its number: the records before it have rows
-pub record IsFirstFault (heading : Heading) (longest : ℕ) (places : List ℕ) (number : ℕ) (given : List (List (List ℕ))) (fault : LoadRefusal) : Type 0 where
+pub record IsFirstFault (schema : PlainSchema) (longest : ℕ) (places : List ℕ) (number : ℕ) (given : List (List (List ℕ))) (fault : LoadRefusal) : Type 0 where
   pub before : ℕ
   pub within : before < length given
-  pub faulty : row_of heading longest places (number + before) (slice_index_or given before []) ≡ Err fault
-  pub fine : (i : ℕ) → i < before → IsOk (row_of heading longest places (number + i) (slice_index_or given i []))
+  pub faulty : row_of schema longest places (number + before) (slice_index_or given before []) ≡ Err fault
+  pub fine : (i : ℕ) → i < before → IsOk (row_of schema longest places (number + i) (slice_index_or given i []))
 
 -- data records have one row each, in their order, or the first fault
 pub record ReadsRecords : Type 0 where
-  pub many : (heading : Heading) (longest : ℕ) (places : List ℕ) (number : ℕ) (given : List (List (List ℕ))) (rows : List (List Value))
-      → rows_from heading longest places number given ≡ Ok rows → length rows ≡ length given
-  pub each : (heading : Heading) (longest : ℕ) (places : List ℕ) (number : ℕ) (given : List (List (List ℕ))) (rows : List (List Value)) (i : ℕ)
-      → rows_from heading longest places number given ≡ Ok rows → i < length given
-      → row_of heading longest places (number + i) (slice_index_or given i []) ≡ Ok (slice_index_or rows i [])
-  pub first : (heading : Heading) (longest : ℕ) (places : List ℕ) (number : ℕ) (given : List (List (List ℕ))) (fault : LoadRefusal)
-      → rows_from heading longest places number given ≡ Err fault → IsFirstFault heading longest places number given fault
+  pub many : (schema : PlainSchema) (longest : ℕ) (places : List ℕ) (number : ℕ) (given : List (List (List ℕ))) (rows : List (List Value))
+      → rows_from schema longest places number given ≡ Ok rows → length rows ≡ length given
+  pub each : (schema : PlainSchema) (longest : ℕ) (places : List ℕ) (number : ℕ) (given : List (List (List ℕ))) (rows : List (List Value)) (i : ℕ)
+      → rows_from schema longest places number given ≡ Ok rows → i < length given
+      → row_of schema longest places (number + i) (slice_index_or given i []) ≡ Ok (slice_index_or rows i [])
+  pub first : (schema : PlainSchema) (longest : ℕ) (places : List ℕ) (number : ℕ) (given : List (List (List ℕ))) (fault : LoadRefusal)
+      → rows_from schema longest places number given ≡ Err fault → IsFirstFault schema longest places number given fault
 
 -- whether each record has as many fields as the first, which is the header
 abbrev pub are_even : List (List (List ℕ)) → Bool
@@ -49,7 +49,7 @@ are_even (names ∷ others) = list_all (λ fields. length fields == length names
 
 -- where each record of a payload has as many fields as the header, completing short ones changes nothing
 abbrev pub CompletesShortOnly : Type 0
-CompletesShortOnly = (heading : Heading) (bounds : Bounds) (bytes : List ℕ) → IsTrue (are_even (records default_config (strip_bom bytes))) → load Completed heading bounds bytes ≡ load Refused heading bounds bytes
+CompletesShortOnly = (schema : PlainSchema) (bounds : Bounds) (bytes : List ℕ) → IsTrue (are_even (records default_config (strip_bom bytes))) → load Completed schema bounds bytes ≡ load Refused schema bounds bytes
 
 -- \N is null in every column; an empty field is null in an INT column, and the empty text in a column of texts, with case or without
 pub record ReadsNulls : Type 0 where

@@ -9,7 +9,7 @@ use Rattle.gq_row.specs.declared.value.Value.{Value}
 use Rattle.gq_row.specs.declared.value.Value.TheVariants.{Null}
 use Rattle.gq_row.specs.declared.limits.Bounds.{Bounds}
 use Rattle.gq_row.specs.Fitting.{has_null}
-use Rattle.gq_row.specs.Headings.{Heading}
+use Rattle.gq_row.specs.Schemas.{PlainSchema}
 use Rattle.gq_load.specs.declared.load_refusal.LoadRefusal.{LoadRefusal}
 use Rattle.gq_load.specs.declared.load_refusal.LoadRefusal.TheVariants.{FieldCount, Header, Limit, NullKey}
 use Rattle.gq_load.specs.Answers.{◌>>=◌}
@@ -52,19 +52,19 @@ unfoldable pub keyed : List ℕ → ℕ → List Value → Result (List Value) L
 keyed key number row = if has_null key row then Err (NullKey number) else Ok row
 
 -- the row of a data record, or its first fault: the number of its fields, then its fields, then its key
-unfoldable pub row_of : Heading → ℕ → List ℕ → ℕ → List (List ℕ) → Result (List Value) LoadRefusal
-row_of heading longest places number fields =
+unfoldable pub row_of : PlainSchema → ℕ → List ℕ → ℕ → List (List ℕ) → Result (List Value) LoadRefusal
+row_of schema longest places number fields =
     if length fields == length places then (do
-      cells ← cells_of longest number heading.columns places fields
-      keyed heading.key number cells)
+      cells ← cells_of longest number schema.columns places fields
+      keyed schema.key number cells)
     else Err (FieldCount number)
 
 -- the rows of data records, of which the first has this number, or the fault of the first faulty one
-unfoldable pub rows_from : Heading → ℕ → List ℕ → ℕ → List (List (List ℕ)) → Result (List (List Value)) LoadRefusal
-rows_from heading longest places number [] = Ok []
-rows_from heading longest places number (fields ∷ others) = do
-  row ← row_of heading longest places number fields
-  rows ← rows_from heading longest places (number + 1) others
+unfoldable pub rows_from : PlainSchema → ℕ → List ℕ → ℕ → List (List (List ℕ)) → Result (List (List Value)) LoadRefusal
+rows_from schema longest places number [] = Ok []
+rows_from schema longest places number (fields ∷ others) = do
+  row ← row_of schema longest places number fields
+  rows ← rows_from schema longest places (number + 1) others
   Ok (row ∷ rows)
 
 -- at most so many rows
@@ -72,9 +72,9 @@ abbrev pub at_most : ℕ → List (List Value) → Result (List (List Value)) Lo
 at_most most rows = if nat_lt most (length rows) then Err Limit else Ok rows
 
 -- the rows of all data records, where they are at most so many; a fault of a record goes before
-unfoldable pub data_rows : Heading → ℕ → ℕ → List ℕ → List (List (List ℕ)) → Result (List (List Value)) LoadRefusal
-data_rows heading text most places others = do
-  rows ← rows_from heading text places 1 others
+unfoldable pub data_rows : PlainSchema → ℕ → ℕ → List ℕ → List (List (List ℕ)) → Result (List (List Value)) LoadRefusal
+data_rows schema text most places others = do
+  rows ← rows_from schema text places 1 others
   at_most most rows
 
 -- a data record as it is read under a header of the given number of fields: a short one is refused for that, or completed by null fields
@@ -83,15 +83,15 @@ completed Refused count fields = fields
 completed Completed count fields = fields ++ replicate (count - length fields) null_field
 
 -- the rows of records, of which the first is the header
-unfoldable pub rows_of : Short → Heading → Bounds → List (List (List ℕ)) → Result (List (List Value)) LoadRefusal
-rows_of short heading bounds [] = Err Header
-rows_of short heading bounds (names ∷ others) = do
-  places ← places_of heading.columns names
-  data_rows heading bounds.text bounds.rows places (map (completed short (length places)) others)
+unfoldable pub rows_of : Short → PlainSchema → Bounds → List (List (List ℕ)) → Result (List (List Value)) LoadRefusal
+rows_of short schema bounds [] = Err Header
+rows_of short schema bounds (names ∷ others) = do
+  places ← places_of schema.columns names
+  data_rows schema bounds.text bounds.rows places (map (completed short (length places)) others)
 
 -- the rows of a payload, or its first fault
-abbrev pub load : Short → Heading → Bounds → List ℕ → Result (List (List Value)) LoadRefusal
-load short heading bounds bytes = rows_of short heading bounds (records default_config (strip_bom bytes))
+abbrev pub load : Short → PlainSchema → Bounds → List ℕ → Result (List (List Value)) LoadRefusal
+load short schema bounds bytes = rows_of short schema bounds (records default_config (strip_bom bytes))
 
 -- rows and one more, where there is room for it
 abbrev pub kept : List (List Value) → List Value → Bool → List (List Value)

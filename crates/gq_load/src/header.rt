@@ -1,7 +1,7 @@
 //! Headers of payloads.
 ghost use Rattle.std.specs.Prelude.{◌≡◌, ◌<◌, [], IfSome, length, slice_index_or};
 ghost use Rattle.csv.specs.Records.{fields_of};
-ghost use Rattle.gq_row.specs.Headings.{position_of};
+ghost use Rattle.gq_row.specs.Schemas.{position_of};
 
 use crate::load_refusal::LoadRefusal;
 use csv::ByteRecord;

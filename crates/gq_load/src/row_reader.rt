@@ -41,7 +41,7 @@ impl<'a, R: Read> Model for RowReader<'a, R> {
     ghost Value = { Coming };
 
     ghost view = { λ r. record {
-      heading = r.format.schema.now;
+      schema = r.format.schema.now;
       rows = unless_over r.is_over
           (rows_coming R.remaining r.format.short r.format.schema.now r.format.limits.now.bounds r.header r.given r.reader);
       room = if r.is_over then 0 else r.format.limits.now.bounds.rows - r.given;
@@ -66,7 +66,7 @@ impl<'a, R: Read + Drop> RowReader<'a, R> {
         schema: &'a Schema,
         limits: &'a Limits,
     ) -> Result<RowReader<'a, R>, RowFault>
-        ensures heading { IfOk result (λ reader. reader.heading ≡ schema.entry.now) }
+        ensures of_schema { IfOk result (λ reader. reader.schema ≡ schema.entry.now) }
         ensures room { IfOk result (λ reader. reader.room ≡ limits.entry.now.bounds.rows) }
         ensures rows { IfOk result (λ reader. IfSome (R.remaining payload) (λ bytes.
             reader.rows ≡ Some (load short schema.entry.now limits.entry.now.bounds bytes))) }
@@ -96,14 +96,14 @@ impl<'a, R: Read + Drop> RowReader<'a, R> {
     /// one. A refusal is the first fault of the payload, or `Memory` for want of memory. After a
     /// fault no more rows come.
     pub fn read(&mut self, row: &mut Row) -> Result<bool, RowFault>
-        ensures heading { self.new.heading ≡ self.old.heading }
+        ensures schema { self.new.schema ≡ self.old.schema }
         ensures given { IfOk result (λ found. found ≡ true →
             BeginWith self.old.rows row.new self.new.rows) }
         ensures room { IfOk result (λ found. found ≡ true → self.new.room + 1 ≡ self.old.room) }
         ensures fits { IfOk result (λ found. found ≡ true →
-            IsTrue (fits_columns self.old.heading.columns row.new)) }
+            IsTrue (fits_columns self.old.schema.columns row.new)) }
         ensures keyed { IfOk result (λ found. found ≡ true →
-            has_null self.old.heading.key row.new ≡ false) }
+            has_null self.old.schema.key row.new ≡ false) }
         ensures end { IfOk result (λ found. found ≡ false →
             IfSome self.old.rows (λ read. read ≡ Ok [])) }
         ensures over { IfOk result (λ found. found ≡ false →

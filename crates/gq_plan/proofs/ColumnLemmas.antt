@@ -8,7 +8,7 @@ use Rattle.std.proofs.lemmas.List.Quantifiers.{position-Some}
 use Rattle.std.proofs.lemmas.List.Elements.{All-cons, All-nil}
 use Rattle.gq_row.specs.declared.schema.Column.{Column}
 use Rattle.gq_row.specs.declared.schema.Kind.TheVariants as kind
-use Rattle.gq_row.specs.Headings.{is_heading, position_of, positions_of}
+use Rattle.gq_row.specs.Schemas.{is_schema, position_of, positions_of}
 use Rattle.gq_row.specs.Repeats.{no_repeats}
 
 two : (a b : Bool) → (a && b) ≡ true → (a ≡ true) × (b ≡ true)
@@ -97,10 +97,10 @@ positions_differ columns (name ∷ names) positions d h =
     (ap not (apart columns name f.first names f.rest f.first_is f.rest_are (not-true (list_any (bytes_eq name) names) different.0)))
     (positions_differ columns names f.rest different.1 f.rest_are)
 
--- the columns and the key of a create are a heading
-pub is_heading_of : (columns : List Column) (names : List (List ℕ)) (positions : List ℕ) → no_repeats bytes_eq (map (λ (c : Column). c.name) columns) ≡ true → no_repeats bytes_eq names ≡ true
-    → positions_of columns names ≡ Some positions → is_heading (record { columns = columns; key = positions }) ≡ true
-is_heading_of columns names positions a b h = both _ _ a (both _ _ (positions_differ columns names positions b h) (all_in_range columns names positions h))
+-- the columns and the key of a create are a well-formed schema
+pub is_schema_of : (columns : List Column) (names : List (List ℕ)) (positions : List ℕ) → no_repeats bytes_eq (map (λ (c : Column). c.name) columns) ≡ true → no_repeats bytes_eq names ≡ true
+    → positions_of columns names ≡ Some positions → is_schema (record { columns = columns; key = positions }) ≡ true
+is_schema_of columns names positions a b h = both _ _ a (both _ _ (positions_differ columns names positions b h) (all_in_range columns names positions h))
 
 all_tested : {X : Type 0} (P : X → Type 0) (p : X → Bool) → ((x : X) → p x ≡ true → P x) → (xs : List X) → list_all p xs ≡ true → All P xs
 all_tested P p says [] h = All-nil P

@@ -4,7 +4,7 @@ use Rattle.std.specs.Prelude.{Ok, Err}
 use Rattle.std.specs.List.{list_all}
 use Rattle.std.specs.Cmp.{first_so}
 use Rattle.gq_row.specs.declared.schema.Column.{Column}
-use Rattle.gq_row.specs.Headings.{positions_of}
+use Rattle.gq_row.specs.Schemas.{positions_of}
 use Rattle.gq_select.specs.declared.output_column.OutputColumn.{OutputColumn}
 use Rattle.gq_select.specs.Asking.{is_valid_for}
 use Rattle.gq_select.specs.declared.condition.Test.{Test}

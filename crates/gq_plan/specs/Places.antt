@@ -1,7 +1,7 @@
 -- Names in a command, as places in rows.
 use Rattle.std.specs.Prelude.{◌+◌, Bool, true, false, List, length, map, position, bytes_eq, Option, Some, None, option_map, option_and_then}
 use Rattle.gq_row.specs.declared.schema.Column.{Column as TableColumn}
-use Rattle.gq_row.specs.Headings.{position_of}
+use Rattle.gq_row.specs.Schemas.{position_of}
 use Rattle.gq_agg.specs.declared.kind.AggKind.TheVariants as kind
 use Rattle.gq_select.specs.declared.output_column.OutputColumn.{OutputColumn}
 use Rattle.gq_select.specs.declared.output_column.OutputColumn.TheVariants as shown

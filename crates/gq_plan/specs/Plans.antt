@@ -3,7 +3,7 @@ use Rattle.std.specs.Prelude.{◌<◌, ◌&&◌, Bool, IsTrue, List, length, All
 use Rattle.std.specs.List.{list_all}
 use Rattle.std.specs.declared.alloc.AllocError.{AllocError}
 use Rattle.gq_row.specs.declared.schema.Column.{Column}
-use Rattle.gq_row.specs.Headings.{positions_of}
+use Rattle.gq_row.specs.Schemas.{positions_of}
 use Rattle.gq_select.specs.Asking.{CanMatch, is_valid_for}
 use Rattle.gq_select.specs.declared.matching.Matching.{Matching}
 use Rattle.gq_command.specs.Commands.{Bytes}

@@ -1,6 +1,6 @@
 -- Where operands are looked up.
 use Rattle.std.specs.Prelude.{◌+◌, ℕ, length, position, bytes_eq, Option, None, option_map}
-use Rattle.gq_row.specs.Headings.{position_of}
+use Rattle.gq_row.specs.Schemas.{position_of}
 use Rattle.gq_command.specs.Commands.{Bytes}
 use Rattle.gq_clause.specs.declared.aggregate.Aggregate.{Aggregate}
 use Rattle.gq_clause.specs.declared.condition.Operand.{Operand as NamedOperand}

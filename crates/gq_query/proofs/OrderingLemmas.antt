@@ -63,8 +63,8 @@ rows_in_are cells (s ∷ spans) h =
     λ i. (if low i && high i then part cells s.start s.end else []) ∷ rows_in_are cells spans (All-tail (IsPart cells) s spans h) i
 
 -- the rows of a table, sorted, are those that a `show` gives
-pub shown : (table : PlainTable) (sorted : List (List Value)) → IsValidTable table → IsArranged (ordered_by table.heading.key) table.rows sorted → sorted ≡ rows_shown table
-shown table sorted valid arranged = chosen table.heading.key valid.keyed arranged
+pub shown : (table : PlainTable) (sorted : List (List Value)) → IsValidTable table → IsArranged (ordered_by table.schema.key) table.rows sorted → sorted ≡ rows_shown table
+shown table sorted valid arranged = chosen table.schema.key valid.keyed arranged
   where
     chosen : (key : List ℕ) → IsTrue (keys_differ key table.rows) → IsArranged (ordered_by key) table.rows sorted → sorted ≡ in_order (ordered_by key) table.rows
     chosen [] differ arranged = in_order-alone_by_row table.rows sorted arranged

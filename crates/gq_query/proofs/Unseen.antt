@@ -6,7 +6,7 @@ use Rattle.std.proofs.lemmas.List.Sorted.{IsPermutation-refl, IsPermutation-map,
 use Rattle.gq_row.specs.declared.value.Value.{Value}
 use Rattle.gq_row.specs.declared.value.Value.TheVariants.{Int}
 use Rattle.gq_row.specs.Fitting.{is_null}
-use Rattle.gq_row.specs.Headings.{Heading}
+use Rattle.gq_row.specs.Schemas.{PlainSchema}
 use Rattle.gq_row.specs.Order.{same_key}
 use Rattle.gq_row.specs.Ordered.{in_order}
 use Rattle.gq_row.specs.Repeats.{no_repeats}
@@ -128,5 +128,5 @@ pub order_is_unseen : OrderIsUnseen
 order_is_unseen = record {
   grouped = λ rollup by shown having tests m us vs xs ys others moved. group_moved rollup by shown having (rows_kept tests m us xs) (rows_kept tests m vs ys) (kept_moved tests m us vs xs ys others moved);
   told_apart = λ on tests m us vs xs ys others moved. distinct_moved on (rows_kept tests m us xs) (rows_kept tests m vs ys) (kept_moved tests m us vs xs ys others moved);
-  listed = λ s t heading differ moved. listed_moved s.heading.key s.rows t.rows differ moved ∙ ap (λ (h : Heading). in_order (ordered_by h.key) t.rows) heading;
+  listed = λ s t schema differ moved. listed_moved s.schema.key s.rows t.rows differ moved ∙ ap (λ (h : PlainSchema). in_order (ordered_by h.key) t.rows) schema;
 }

@@ -57,4 +57,4 @@ ordered_by (column ∷ columns) row = key_of (column ∷ columns) row
 
 -- the result rows of a `show`: all rows, in that order
 abbrev pub rows_shown : PlainTable → List (List Value)
-rows_shown table = in_order (ordered_by table.heading.key) table.rows
+rows_shown table = in_order (ordered_by table.schema.key) table.rows

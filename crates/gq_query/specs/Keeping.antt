@@ -32,5 +32,5 @@ kept_rows query = filter (is_kept query.kept.now) query.table.now.rows
 
 -- a query groups by columns of its table, and asks columns of it for a match
 pub record HasColumns {H : Type 0} (query : Query H) : Type 0 where
-  pub by : All (λ column. column < length query.table.now.heading.columns) query.by.now
-  pub ours : All (λ column. column < length query.table.now.heading.columns) (ours_of (option_copied query.kept.now.matching))
+  pub by : All (λ column. column < length query.table.now.schema.columns) query.by.now
+  pub ours : All (λ column. column < length query.table.now.schema.columns) (ours_of (option_copied query.kept.now.matching))

@@ -14,7 +14,7 @@ pub record OrderIsUnseen : Type 0 where
       → group_answer rollup by shown having (rows_kept tests matching us xs) ≡ group_answer rollup by shown having (rows_kept tests matching vs ys)
   pub told_apart : (on : List ℕ) (tests : List Test) (matching : Option Matching) (us vs xs ys : List (List Value)) → IsPermutation us vs → IsPermutation xs ys
       → distinct_keys on (rows_kept tests matching us xs) ≡ distinct_keys on (rows_kept tests matching vs ys)
-  pub listed : (s t : PlainTable) → s.heading ≡ t.heading → IsTrue (keys_differ s.heading.key s.rows) → IsPermutation s.rows t.rows → rows_shown s ≡ rows_shown t
+  pub listed : (s t : PlainTable) → s.schema ≡ t.schema → IsTrue (keys_differ s.schema.key s.rows) → IsPermutation s.rows t.rows → rows_shown s ≡ rows_shown t
 
 -- a row of a level without the level and without the nulls of the other columns
 abbrev pub without_level : ℕ → ℕ → List Value → List Value

@@ -13,7 +13,7 @@ other_rows (Some table) = table.rows
 
 abbrev pub other_columns : Option PlainTable → List Column
 other_columns None = []
-other_columns (Some table) = table.heading.columns
+other_columns (Some table) = table.schema.columns
 
 -- the rows of a selection's table that its condition keeps and that have the match
 abbrev pub rows_selected : {H : Type 0} → Selection H → List (List Value)

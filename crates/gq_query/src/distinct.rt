@@ -32,8 +32,8 @@ pub fn distinct_rows<H: KeyHash<Key> + Copy, S: RunStore>(
     budget: Budget,
 ) -> Result<Rows, Refusal>
     requires some { 0 < length on.now }
-    requires on { All (λ column. column < length selection.now.table.now.heading.columns) on.now }
-    requires matching { CanMatch selection.now.table.now.heading.columns
+    requires on { All (λ column. column < length selection.now.table.now.schema.columns) on.now }
+    requires matching { CanMatch selection.now.table.now.schema.columns
         (other_columns (option_copied selection.now.others))
         (option_copied selection.now.matching) }
     ensures rows { IsTrue (S.runs store.old).honest →

@@ -50,7 +50,7 @@ impl<'a, H: KeyHash<Key> + Copy> Query<'a, H> {
     ) -> Result<(GroupList, Spent), Refusal>
         requires columns { HasColumns self.now }
         requires shown { IsTrue
-            (list_all (is_valid_for self.now.table.now.heading.columns) shown.now) }
+            (list_all (is_valid_for self.now.table.now.schema.columns) shown.now) }
         ensures groups { IsTrue (S.runs store.old).honest →
             IfOk result (λ found. AreShown self.now.by.now (aggregates_of shown.now)
             (kept_rows self.now) found.0) }
@@ -74,7 +74,7 @@ impl<'a, H: KeyHash<Key> + Copy> Query<'a, H> {
     // The counts of different values in the order of the keys.
     fn counts<S: RunStore>(&self, column: usize, store: &mut S) -> Result<GroupList, Refusal>
         requires columns { HasColumns self.now }
-        requires column { column < length self.now.table.now.heading.columns }
+        requires column { column < length self.now.table.now.schema.columns }
         ensures counts { IsTrue (S.runs store.old).honest →
             IfOk result (λ counts. AreShown self.now.by.now (Different column ∷ [])
             (kept_rows self.now) counts) }
@@ -97,7 +97,7 @@ impl<'a, H: KeyHash<Key> + Copy> Query<'a, H> {
     ) -> Result<(), Refusal>
         requires columns { HasColumns self.now }
         requires shown { IsTrue
-            (list_all (is_valid_for self.now.table.now.heading.columns) shown.now) }
+            (list_all (is_valid_for self.now.table.now.schema.columns) shown.now) }
         requires within { place < length shown.now }
         requires groups { IsTrue (S.runs store.old).honest → AreShown self.now.by.now
             (so_far place shown.now) (kept_rows self.now) groups.old }
@@ -132,7 +132,7 @@ impl<'a, H: KeyHash<Key> + Copy> Query<'a, H> {
     ) -> Result<(GroupList, Spent), Refusal>
         requires columns { HasColumns self.now }
         requires shown { IsTrue
-            (list_all (is_valid_for self.now.table.now.heading.columns) shown.now) }
+            (list_all (is_valid_for self.now.table.now.schema.columns) shown.now) }
         ensures groups { IsTrue (S.runs store.old).honest →
             IfOk result (λ found. AreShown self.now.by.now shown.now
             (kept_rows self.now) found.0) }
@@ -161,7 +161,7 @@ impl<'a, H: KeyHash<Key> + Copy> Query<'a, H> {
         spent: Spent,
     ) -> Result<(Rows, Spent), Refusal>
         requires columns { HasColumns self.now }
-        requires shown { IsTrue (list_all (is_valid_for self.now.table.now.heading.columns)
+        requires shown { IsTrue (list_all (is_valid_for self.now.table.now.schema.columns)
             grouping.now.shown.now) }
         ensures rows { IsTrue (S.runs store.old).honest → IfOk result
             (λ found. group_answer grouping.now.rollup self.now.by.now grouping.now.shown.now
@@ -267,11 +267,11 @@ pub fn group_rows<H: KeyHash<Key> + Copy, S: RunStore>(
     budget: Budget,
     spent: Spent,
 ) -> Result<(Rows, Spent), Refusal>
-    requires by { All (λ column. column < length selection.now.table.now.heading.columns)
+    requires by { All (λ column. column < length selection.now.table.now.schema.columns)
         grouping.now.by.now }
-    requires shown { IsTrue (list_all (is_valid_for selection.now.table.now.heading.columns)
+    requires shown { IsTrue (list_all (is_valid_for selection.now.table.now.schema.columns)
         grouping.now.shown.now) }
-    requires matching { CanMatch selection.now.table.now.heading.columns
+    requires matching { CanMatch selection.now.table.now.schema.columns
         (other_columns (option_copied selection.now.others))
         (option_copied selection.now.matching) }
     ensures rows { IsTrue (S.runs store.old).honest → IfOk result

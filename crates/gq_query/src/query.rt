@@ -46,7 +46,7 @@ impl<'a, H: KeyHash<Key> + Copy> Query<'a, H> {
         store: &mut S,
     ) -> Result<Spent, Refusal>
         requires columns { HasColumns self.now }
-        requires aggs { IsTrue (list_all (can_take self.now.table.now.heading.columns) aggs.now) }
+        requires aggs { IsTrue (list_all (can_take self.now.table.now.schema.columns) aggs.now) }
         requires none { groups.old ≡ [] }
         ensures groups { IsTrue (S.runs store.old).honest →
             OnOk result (AreGroups (record { by = self.now.by.now; aggs = aggs.now })
@@ -85,7 +85,7 @@ impl<'a, H: KeyHash<Key> + Copy> Query<'a, H> {
     /// How many different values the rows of each key have in a column, in some order.
     pub fn counts_of<S: RunStore>(&self, column: usize, store: &mut S) -> Result<GroupList, Refusal>
         requires columns { HasColumns self.now }
-        requires column { column < length self.now.table.now.heading.columns }
+        requires column { column < length self.now.table.now.schema.columns }
         ensures counts { IsTrue (S.runs store.old).honest →
             IfOk result (λ counts. IsPermutation
             (distinct_groups self.now.by.now column (kept_rows self.now)) counts) }

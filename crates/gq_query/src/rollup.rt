@@ -89,7 +89,7 @@ impl<'a, H: KeyHash<Key> + Copy> Query<'a, H> {
         requires columns { HasColumns self.now }
         requires within { level ≤ length self.now.by.now }
         requires shown { IsTrue
-            (list_all (is_valid_for self.now.table.now.heading.columns) shown.now) }
+            (list_all (is_valid_for self.now.table.now.schema.columns) shown.now) }
         ensures rows { IsTrue (S.runs store.old).honest → IfOk result
             (λ found. level_rows self.now.by.now shown.now condition.now.tests
             (kept_rows self.now) level ≡ Some found.0) }
@@ -128,7 +128,7 @@ impl<'a, H: KeyHash<Key> + Copy> Query<'a, H> {
     ) -> Result<(Rows, Spent), Refusal>
         requires columns { HasColumns self.now }
         requires shown { IsTrue
-            (list_all (is_valid_for self.now.table.now.heading.columns) shown.now) }
+            (list_all (is_valid_for self.now.table.now.schema.columns) shown.now) }
         ensures rows { IsTrue (S.runs store.old).honest → IfOk result
             (λ found. rows_of_levels self.now.by.now shown.now condition.now.tests
             (kept_rows self.now) (levels self.now.by.now) ≡ Some found.0) }

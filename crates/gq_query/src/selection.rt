@@ -29,7 +29,7 @@ pub fn other_keys<H: KeyHash<Key> + Copy>(
     hasher: H,
     selection: &Selection<'_, '_, H>,
 ) -> Result<KeySet<H>, AllocError>
-    requires { CanMatch selection.now.table.now.heading.columns
+    requires { CanMatch selection.now.table.now.schema.columns
         (other_columns (option_copied selection.now.others))
         (option_copied selection.now.matching) }
     ensures { IfOk result (λ keys. (matching : Match) →
@@ -52,7 +52,7 @@ fn keys_of<H: KeyHash<Key> + Copy>(
     table: &Table<H>,
     columns: &[usize],
 ) -> Result<KeySet<H>, AllocError>
-    requires { All (λ column. column < length table.now.heading.columns) columns.now }
+    requires { All (λ column. column < length table.now.schema.columns) columns.now }
     ensures { IfOk result (AreKeysOf columns.now table.now.rows) }
 {
     let mut keys = KeySet::new(alloc, hasher);

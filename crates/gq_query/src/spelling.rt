@@ -64,7 +64,7 @@ impl<'a, H: KeyHash<Key> + Copy> Query<'a, H> {
     ) -> Result<(Rows, Spent), Refusal>
         requires columns { HasColumns self.now }
         requires shown { IsTrue
-            (list_all (is_valid_for self.now.table.now.heading.columns) shown.now) }
+            (list_all (is_valid_for self.now.table.now.schema.columns) shown.now) }
         ensures rows { IsTrue (S.runs store.old).honest →
             IfOk result (λ found. answer self.now.by.now shown.now
             (kept_rows self.now) ≡ Some found.0) }
@@ -92,9 +92,9 @@ impl<'a, H: KeyHash<Key> + Copy> Query<'a, H> {
     ) -> Result<(Rows, Spent), Refusal>
         requires columns { HasColumns self.now }
         requires shown { IsTrue
-            (list_all (is_valid_for self.now.table.now.heading.columns) shown.now) }
-        requires alone { may_differ self.now.table.now.heading.columns self.now.by.now ≡ false }
-        requires fitting { IsTrue (list_all (fits_columns self.now.table.now.heading.columns)
+            (list_all (is_valid_for self.now.table.now.schema.columns) shown.now) }
+        requires alone { may_differ self.now.table.now.schema.columns self.now.by.now ≡ false }
+        requires fitting { IsTrue (list_all (fits_columns self.now.table.now.schema.columns)
             self.now.table.now.rows) }
         ensures rows { IsTrue (S.runs store.old).honest →
             IfOk result (λ found. answer self.now.by.now shown.now
@@ -122,7 +122,7 @@ impl<'a, H: KeyHash<Key> + Copy> Query<'a, H> {
     ) -> Result<(Rows, Spent), Refusal>
         requires columns { HasColumns self.now }
         requires shown { IsTrue
-            (list_all (is_valid_for self.now.table.now.heading.columns) shown.now) }
+            (list_all (is_valid_for self.now.table.now.schema.columns) shown.now) }
         ensures rows { IsTrue (S.runs store.old).honest →
             IfOk result (λ found. answer self.now.by.now shown.now
             (kept_rows self.now) ≡ Some found.0) }
@@ -165,8 +165,8 @@ impl<'a, H: KeyHash<Key> + Copy> Query<'a, H> {
     fn different_alone<S: RunStore>(&self, store: &mut S) -> Result<Rows, Refusal>
         requires columns { HasColumns self.now }
         requires some { 0 < length self.now.by.now }
-        requires alone { may_differ self.now.table.now.heading.columns self.now.by.now ≡ false }
-        requires fitting { IsTrue (list_all (fits_columns self.now.table.now.heading.columns)
+        requires alone { may_differ self.now.table.now.schema.columns self.now.by.now ≡ false }
+        requires fitting { IsTrue (list_all (fits_columns self.now.table.now.schema.columns)
             self.now.table.now.rows) }
         ensures rows { IsTrue (S.runs store.old).honest →
             IfOk result (λ rows. rows ≡ distinct_keys self.now.by.now

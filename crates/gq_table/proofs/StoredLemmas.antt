@@ -7,7 +7,7 @@ use Rattle.std.proofs.lemmas.List.Sorted.{IsPermutation-refl}
 use Rattle.gq_row.specs.declared.value.Value.{Value}
 use Rattle.gq_row.specs.declared.limits.Bounds.{Bounds}
 use Rattle.gq_row.specs.Fitting.{fits_columns, has_null}
-use Rattle.gq_row.specs.Headings.{Heading, is_heading}
+use Rattle.gq_row.specs.Schemas.{PlainSchema, is_schema}
 use Rattle.gq_row.specs.Limits.{within_greatest}
 use Rattle.gq_row.specs.Rows.{key_of}
 use Rattle.gq_row.specs.Tables.{PlainTable, put, put_by_key, put_all, delete, has_row, keys_differ}
@@ -70,11 +70,11 @@ past_fit false n o h k = let none : ⊥ = cc in absurd none
 past_fit true true o h k = let none : ⊥ = cc in absurd none
 past_fit true false o h k = refl
 
-pub misfit : (bounds : Bounds) (t : PlainTable) (row : List Value) → fits_columns t.heading.columns row ≡ false → row_refusal bounds t row ≡ Some TypeMismatch
-misfit bounds t row h = ap (λ b. cond (not b) (Some TypeMismatch) (cond (has_null t.heading.key row) (Some NullKey) (limit_refusal bounds.rows (put t.heading.key t.rows row)))) h
+pub misfit : (bounds : Bounds) (t : PlainTable) (row : List Value) → fits_columns t.schema.columns row ≡ false → row_refusal bounds t row ≡ Some TypeMismatch
+misfit bounds t row h = ap (λ b. cond (not b) (Some TypeMismatch) (cond (has_null t.schema.key row) (Some NullKey) (limit_refusal bounds.rows (put t.schema.key t.rows row)))) h
 
-pub null_key : (bounds : Bounds) (t : PlainTable) (row : List Value) → fits_columns t.heading.columns row ≡ true → has_null t.heading.key row ≡ true → row_refusal bounds t row ≡ Some NullKey
-null_key bounds t row h k = λ i. cond (not (h i)) (Some TypeMismatch) (cond (k i) (Some NullKey) (limit_refusal bounds.rows (put t.heading.key t.rows row)))
+pub null_key : (bounds : Bounds) (t : PlainTable) (row : List Value) → fits_columns t.schema.columns row ≡ true → has_null t.schema.key row ≡ true → row_refusal bounds t row ≡ Some NullKey
+null_key bounds t row h k = λ i. cond (not (h i)) (Some TypeMismatch) (cond (k i) (Some NullKey) (limit_refusal bounds.rows (put t.schema.key t.rows row)))
 
 replaces_none : (key : List ℕ) (rows : List (List Value)) (row : List Value) → has_row key rows (key_of key row) ≡ false → replaces key rows row ≡ false
 replaces_none [] rows row h = refl
@@ -126,13 +126,13 @@ pub record LoadColumnar (most : ℕ) (loaded old new : List (List Value)) (resul
 
 -- what an upsert leaves where the rows are in the end these
 pub record Upserted {H : Type 0} (bounds : Bounds) (old : PlainTable) (row : List Value) (result : Result (Unit {0}) TableRefusal) (new : Storage H) : Type 0 where
-  pub stored : IsStored old.heading new
-  pub ok : OnOk result (IsPut old row (table old.heading (rows_of new)))
+  pub stored : IsStored old.schema new
+  pub ok : OnOk result (IsPut old row (table old.schema (rows_of new)))
   pub taken : OnOk result (row_refusal bounds old row ≡ None)
   pub refused : IfErr result (WhyNotPut bounds old row)
-  pub unchanged : OnErr result (table old.heading (rows_of new) ≡ old)
+  pub unchanged : OnErr result (table old.schema (rows_of new) ≡ old)
 
-module _ (bounds : Bounds) (h : Heading) (row : List Value) (fits : fits_columns h.columns row ≡ true) (no_null : has_null h.key row ≡ false) where
+module _ (bounds : Bounds) (h : PlainSchema) (row : List Value) (fits : fits_columns h.columns row ≡ true) (no_null : has_null h.key row ≡ false) where
   refusal : (rows : List (List Value)) → row_refusal bounds (table h rows) row ≡ limit_refusal bounds.rows (put h.key rows row)
   refusal rows = past_fit (fits_columns h.columns row) (has_null h.key row) (limit_refusal bounds.rows (put h.key rows row)) fits no_null
 
@@ -144,7 +144,7 @@ replaces_columnar : (key : List ℕ) (rows : List (List Value)) (row : List Valu
 replaces_columnar [] rows row e = refl
 replaces_columnar (column ∷ columns) rows row e = let none : ⊥ = cc in absurd none
 
-module _ {H : Type 0} (bounds : Bounds) (limits : IsTrue (within_greatest bounds)) (h : Heading) (row : List Value) (fits : fits_columns h.columns row ≡ true) (no_null : has_null h.key row ≡ false) where
+module _ {H : Type 0} (bounds : Bounds) (limits : IsTrue (within_greatest bounds)) (h : PlainSchema) (row : List Value) (fits : fits_columns h.columns row ≡ true) (no_null : has_null h.key row ≡ false) where
   upserted_in : (m n : KeyedRows H) (result : Result (Unit {0}) TableRefusal) → IsStored h (Keyed m) → PutKeyed bounds.rows row m n result h.key → Upserted bounds (table h m.rows) row result (Keyed n)
   upserted_in m n (Ok u) stored p =
       let some = keyed_some h.key m stored.placed in
@@ -157,7 +157,7 @@ module _ {H : Type 0} (bounds : Bounds) (limits : IsTrue (within_greatest bounds
           valid = valid_put h m.rows n.rows row stored.valid fits (omega arith) out;
           placed = placed_again h.key n some p.own;
         };
-        ok = record { heading = refl; rows = out };
+        ok = record { schema = refl; rows = out };
         taken = refusal bounds h row fits no_null m.rows ∙ within bounds.rows (put h.key m.rows row) few;
         refused = tt;
         unchanged = tt;
@@ -193,7 +193,7 @@ module _ {H : Type 0} (bounds : Bounds) (limits : IsTrue (within_greatest bounds
           valid = valid_put h (rows_of r) (rows_of n) row stored.valid fits (omega arith) out;
           placed = subst (λ k. ArePlaced k n) (sym none) (columnar_placed n is);
         };
-        ok = record { heading = refl; rows = out };
+        ok = record { schema = refl; rows = out };
         taken = refusal bounds h row fits no_null (rows_of r) ∙ within bounds.rows (put h.key (rows_of r) row) few;
         refused = tt;
         unchanged = tt;
@@ -230,13 +230,13 @@ put_all_none [] old rows e = pushed old rows
     pushed old (row ∷ rows) = pushed (old ++ row ∷ []) rows ∙ append_assoc old (row ∷ []) rows
 
 pub record LoadedTable {H : Type 0} (bounds : Bounds) (old : PlainTable) (loaded : List (List Value)) (result : Result (Unit {0}) TableRefusal) (new : Storage H) : Type 0 where
-  pub stored : IsStored old.heading new
-  pub ok : OnOk result (IsLoaded old loaded (table old.heading (rows_of new)))
+  pub stored : IsStored old.schema new
+  pub ok : OnOk result (IsLoaded old loaded (table old.schema (rows_of new)))
   pub taken : OnOk result (load_refusal bounds old loaded ≡ None)
   pub refused : IfErr result (WhyNotLoaded bounds old loaded)
-  pub unchanged : OnErr result (table old.heading (rows_of new) ≡ old)
+  pub unchanged : OnErr result (table old.schema (rows_of new) ≡ old)
 
-module _ {H : Type 0} (bounds : Bounds) (limits : IsTrue (within_greatest bounds)) (h : Heading) (rows : List (List Value)) (fits : list_all (fits_columns h.columns) rows ≡ true) where
+module _ {H : Type 0} (bounds : Bounds) (limits : IsTrue (within_greatest bounds)) (h : PlainSchema) (rows : List (List Value)) (fits : list_all (fits_columns h.columns) rows ≡ true) where
   loaded_in : (m n : KeyedRows H) (result : Result (Unit {0}) TableRefusal) → IsStored h (Keyed m) → LoadKeyed bounds.rows rows m n result h.key → LoadedTable bounds (table h m.rows) rows result (Keyed n)
   loaded_in m n (Ok u) stored p =
       let most = rows_limit bounds limits in
@@ -249,7 +249,7 @@ module _ {H : Type 0} (bounds : Bounds) (limits : IsTrue (within_greatest bounds
           valid = valid_loaded h m.rows rows n.rows stored.valid fits (omega arith) out;
           placed = placed_again h.key n some p.own;
         };
-        ok = record { heading = refl; rows = out };
+        ok = record { schema = refl; rows = out };
         taken = within bounds.rows (put_all h.key m.rows rows) few;
         refused = tt;
         unchanged = tt;
@@ -285,7 +285,7 @@ module _ {H : Type 0} (bounds : Bounds) (limits : IsTrue (within_greatest bounds
           valid = valid_loaded h (rows_of r) rows (rows_of n) stored.valid fits (omega arith) out;
           placed = subst (λ k. ArePlaced k n) (sym none) (columnar_placed n is);
         };
-        ok = record { heading = refl; rows = out };
+        ok = record { schema = refl; rows = out };
         taken = within bounds.rows (put_all h.key (rows_of r) rows) few;
         refused = tt;
         unchanged = tt;
@@ -310,15 +310,15 @@ module _ {H : Type 0} (bounds : Bounds) (limits : IsTrue (within_greatest bounds
 
 -- ---- a delete, and an empty table
 
-pub deleted_keyed : {H : Type 0} (h : Heading) (m n : KeyedRows H) (key : List ℕ) (k : List Value) → key ≡ h.key → IsStored h (Keyed m) → OwnKeys key n → IsPermutation (delete key m.rows k) n.rows → IsStored h (Keyed n)
+pub deleted_keyed : {H : Type 0} (h : PlainSchema) (m n : KeyedRows H) (key : List ℕ) (k : List Value) → key ≡ h.key → IsStored h (Keyed m) → OwnKeys key n → IsPermutation (delete key m.rows k) n.rows → IsStored h (Keyed n)
 deleted_keyed h m n key k e stored own moved = record {
   valid = valid_deleted h m.rows n.rows k stored.valid (subst (λ l. IsPermutation (delete l m.rows k) n.rows) e moved);
   placed = placed_again h.key n (keyed_some h.key m stored.placed) (subst (λ l. OwnKeys l n) e own);
 }
 
-pub stored_empty : {H : Type 0} (h : Heading) (m : KeyedRows H) → IsTrue (is_heading h) → (h.key ≡ [] → ⊥) → m.index.keys ≡ [] → m.rows ≡ [] → IsStored h (Keyed m)
-stored_empty h m heading some none no_rows = record {
-  valid = subst (λ rows. IsValidTable (table h rows)) (sym no_rows) (record { heading = heading; fitting = refl; keyed = nothing_differs h.key; few = omega arith });
+pub stored_empty : {H : Type 0} (h : PlainSchema) (m : KeyedRows H) → IsTrue (is_schema h) → (h.key ≡ [] → ⊥) → m.index.keys ≡ [] → m.rows ≡ [] → IsStored h (Keyed m)
+stored_empty h m schema some none no_rows = record {
+  valid = subst (λ rows. IsValidTable (table h rows)) (sym no_rows) (record { schema = schema; fitting = refl; keyed = nothing_differs h.key; few = omega arith });
   placed = placed_again h.key m (some_long h.key some) (none ∙ ap (map (key_of h.key)) (sym no_rows));
 }
   where
@@ -330,6 +330,6 @@ stored_empty h m heading some none no_rows = record {
     some_long [] k = absurd (k refl)
     some_long (column ∷ columns) k = omega arith
 
--- the rows of a table fit the columns of one with the same heading
-pub staged_fit : {H : Type 0} (h g : Heading) (r : Storage H) (rows : List (List Value)) → g ≡ h → IsStored g r → rows_of r ≡ rows → list_all (fits_columns h.columns) rows ≡ true
-staged_fit h g r rows same stored is = subst (λ l. list_all (fits_columns h.columns) l ≡ true) is (subst (λ (x : Heading). list_all (fits_columns x.columns) (rows_of r) ≡ true) same stored.valid.fitting)
+-- the rows of a table fit the columns of one with the same schema
+pub staged_fit : {H : Type 0} (h g : PlainSchema) (r : Storage H) (rows : List (List Value)) → g ≡ h → IsStored g r → rows_of r ≡ rows → list_all (fits_columns h.columns) rows ≡ true
+staged_fit h g r rows same stored is = subst (λ l. list_all (fits_columns h.columns) l ≡ true) is (subst (λ (x : PlainSchema). list_all (fits_columns x.columns) (rows_of r) ≡ true) same stored.valid.fitting)

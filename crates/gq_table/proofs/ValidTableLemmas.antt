@@ -9,7 +9,7 @@ use Rattle.gq_row.specs.declared.value.Value.{Value}
 use Rattle.gq_row.specs.declared.schema.Column.{Column}
 use Rattle.gq_row.specs.declared.limits.Bounds.{Bounds}
 use Rattle.gq_row.specs.Fitting.{fits_columns, goes_in}
-use Rattle.gq_row.specs.Headings.{Heading, is_heading}
+use Rattle.gq_row.specs.Schemas.{PlainSchema, is_schema}
 use Rattle.gq_row.specs.Limits.{GREATEST, within_greatest, from_one}
 use Rattle.gq_row.specs.Order.{same_key}
 use Rattle.gq_row.specs.Repeats.{no_repeats}
@@ -20,8 +20,8 @@ use Rattle.gq_row.proofs.TableLemmas.{keys_differ-put}
 use Rattle.gq_table.specs.Refusing.{rows_with}
 use Rattle.gq_table.specs.ValidTables.{IsValidTable}
 
-abbrev pub table : Heading → List (List Value) → PlainTable
-table h rows = record { heading = h; rows = rows }
+abbrev pub table : PlainSchema → List (List Value) → PlainTable
+table h rows = record { schema = h; rows = rows }
 
 pub two : (a b : Bool) → (a && b) ≡ true → (a ≡ true) × (b ≡ true)
 two true b h = (refl, h)
@@ -95,9 +95,9 @@ all_not_any p (x ∷ xs) = step (p x) (all_not_any p xs)
 all_moved : {X : Type 0} (p : X → Bool) (xs ys : List X) → IsPermutation xs ys → list_all p xs ≡ list_all p ys
 all_moved p xs ys moved = all_not_any p xs ∙ ap not (list_any-IsPermutation (λ x. not (p x)) xs ys moved) ∙ sym (all_not_any p ys)
 
-pub valid_moved : (h : Heading) (xs ys : List (List Value)) → IsValidTable (table h xs) → IsPermutation xs ys → IsValidTable (table h ys)
+pub valid_moved : (h : PlainSchema) (xs ys : List (List Value)) → IsValidTable (table h xs) → IsPermutation xs ys → IsValidTable (table h ys)
 valid_moved h xs ys old moved = record {
-  heading = old.heading;
+  schema = old.schema;
   fitting = sym (all_moved (fits_columns h.columns) xs ys moved) ∙ old.fitting;
   keyed = keys_differ-permutation h.key xs ys moved old.keyed;
   few = (let few = old.few in let e = length_permutation xs ys moved in omega arith);
@@ -105,21 +105,21 @@ valid_moved h xs ys old moved = record {
 
 -- ---- a put and a load
 
-pub valid_put : (h : Heading) (rows out : List (List Value)) (row : List Value) → IsValidTable (table h rows) → fits_columns h.columns row ≡ true → length (put h.key rows row) ≤ 16777216 → IsPermutation (put h.key rows row) out
+pub valid_put : (h : PlainSchema) (rows out : List (List Value)) (row : List Value) → IsValidTable (table h rows) → fits_columns h.columns row ≡ true → length (put h.key rows row) ≤ 16777216 → IsPermutation (put h.key rows row) out
     → IsValidTable (table h out)
 valid_put h rows out row old fits few moved =
     valid_moved h (put h.key rows row) out (record {
-      heading = old.heading;
+      schema = old.schema;
       fitting = all_put (fits_columns h.columns) h.key rows row old.fitting fits;
       keyed = keys_differ-put h.key rows row old.keyed;
       few = few;
     }) moved
 
-pub valid_loaded : (h : Heading) (rows new out : List (List Value)) → IsValidTable (table h rows) → list_all (fits_columns h.columns) new ≡ true → length (put_all h.key rows new) ≤ 16777216 → IsPermutation (put_all h.key rows new) out
+pub valid_loaded : (h : PlainSchema) (rows new out : List (List Value)) → IsValidTable (table h rows) → list_all (fits_columns h.columns) new ≡ true → length (put_all h.key rows new) ≤ 16777216 → IsPermutation (put_all h.key rows new) out
     → IsValidTable (table h out)
 valid_loaded h rows new out old fits few moved =
     valid_moved h (put_all h.key rows new) out (record {
-      heading = old.heading;
+      schema = old.schema;
       fitting = all_put_all (fits_columns h.columns) h.key rows new old.fitting fits;
       keyed = keys_differ-put_all h.key rows new old.keyed;
       few = few;
@@ -178,10 +178,10 @@ pub keys_differ-delete : (key : List ℕ) (rows : List (List Value)) (k : List V
 keys_differ-delete [] rows k differ = refl
 keys_differ-delete (column ∷ columns) rows k differ = still_apart (column ∷ columns) (λ row. not (same_key (key_of (column ∷ columns) row) k)) rows differ
 
-pub valid_deleted : (h : Heading) (rows out : List (List Value)) (k : List Value) → IsValidTable (table h rows) → IsPermutation (delete h.key rows k) out → IsValidTable (table h out)
+pub valid_deleted : (h : PlainSchema) (rows out : List (List Value)) (k : List Value) → IsValidTable (table h rows) → IsPermutation (delete h.key rows k) out → IsValidTable (table h out)
 valid_deleted h rows out k old moved =
     valid_moved h (delete h.key rows k) out (record {
-      heading = old.heading;
+      schema = old.schema;
       fitting = all_filtered (fits_columns h.columns) (λ row. not (same_key (key_of h.key row) k)) rows old.fitting;
       keyed = keys_differ-delete h.key rows k old.keyed;
       few = (let few = old.few in let fewer = few_deleted h.key rows k in omega arith);
@@ -199,10 +199,10 @@ all_tested : {X : Type 0} (P : X → Type 0) (p : X → Bool) → ((x : X) → p
 all_tested P p says [] h = All-nil P
 all_tested P p says (x ∷ xs) h = All-cons P x xs (says x (two (p x) (list_all p xs) h).0) (all_tested P p says xs (two (p x) (list_all p xs) h).1)
 
-pub key_in_range : (h : Heading) (row : List Value) → IsTrue (is_heading h) → fits_columns h.columns row ≡ true → All (λ position. position < length row) h.key
-key_in_range h row heading fits =
+pub key_in_range : (h : PlainSchema) (row : List Value) → IsTrue (is_schema h) → fits_columns h.columns row ≡ true → All (λ position. position < length row) h.key
+key_in_range h row schema fits =
     all_tested (λ position. position < length row) (λ position. nat_lt position (length h.columns))
-    (λ position below. omega (arith, ltb-true position (length h.columns) below, as_long h.columns row fits)) h.key (two _ _ (two _ _ heading).1).1
+    (λ position below. omega (arith, ltb-true position (length h.columns) below, as_long h.columns row fits)) h.key (two _ _ (two _ _ schema).1).1
 
-pub keys_in_range : (h : Heading) (rows : List (List Value)) → IsTrue (is_heading h) → list_all (fits_columns h.columns) rows ≡ true → All (λ row. All (λ position. position < length row) h.key) rows
-keys_in_range h rows heading fits = all_tested (λ row. All (λ position. position < length row) h.key) (fits_columns h.columns) (λ row. key_in_range h row heading) rows fits
+pub keys_in_range : (h : PlainSchema) (rows : List (List Value)) → IsTrue (is_schema h) → list_all (fits_columns h.columns) rows ≡ true → All (λ row. All (λ position. position < length row) h.key) rows
+keys_in_range h rows schema fits = all_tested (λ row. All (λ position. position < length row) h.key) (fits_columns h.columns) (λ row. key_in_range h row schema) rows fits

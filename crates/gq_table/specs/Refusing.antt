@@ -15,13 +15,13 @@ limit_refusal most rows = if nat_lt most (length rows) then Some Limit else None
 -- the values don't fit the columns; else one of a key column is null; else there would be too many rows
 abbrev pub row_refusal : Bounds → PlainTable → List Value → Option TableRefusal
 row_refusal bounds table row =
-    if not (fits_columns table.heading.columns row) then Some TypeMismatch
-    else if has_null table.heading.key row then Some NullKey
-    else limit_refusal bounds.rows (put table.heading.key table.rows row)
+    if not (fits_columns table.schema.columns row) then Some TypeMismatch
+    else if has_null table.schema.key row then Some NullKey
+    else limit_refusal bounds.rows (put table.schema.key table.rows row)
 
 -- rows that fit, and have no null in the key, are refused where there would be too many
 abbrev pub load_refusal : Bounds → PlainTable → List (List Value) → Option TableRefusal
-load_refusal bounds table rows = limit_refusal bounds.rows (put_all table.heading.key table.rows rows)
+load_refusal bounds table rows = limit_refusal bounds.rows (put_all table.schema.key table.rows rows)
 
 -- how many rows there are once a row is put among rows with key columns
 abbrev pub rows_with : List ℕ → List (List Value) → List Value → ℕ
@@ -36,7 +36,7 @@ replaces (column ∷ columns) rows row = has_row (column ∷ columns) rows (key_
 abbrev pub WhyNotPut : Bounds → PlainTable → List Value → TableRefusal → Type 0
 WhyNotPut bounds table row why =
     (row_refusal bounds table row ≡ Some why)
-    ⊎ ((why ≡ Memory) × (row_refusal bounds table row ≡ None) × (replaces table.heading.key table.rows row ≡ false))
+    ⊎ ((why ≡ Memory) × (row_refusal bounds table row ≡ None) × (replaces table.schema.key table.rows row ≡ false))
 
 -- The same of rows with key columns, by their number.
 abbrev pub WhyNotKeyed : ℕ → List ℕ → List (List Value) → List Value → TableRefusal → Type 0

@@ -1,7 +1,7 @@
 -- How the rows of a table are stored.
 use Rattle.std.specs.Prelude.{List, [], ◌∷◌, ℕ}
 use Rattle.gq_row.specs.declared.value.Value.{Value}
-use Rattle.gq_row.specs.Headings.{Heading}
+use Rattle.gq_row.specs.Schemas.{PlainSchema}
 use Rattle.gq_table.specs.declared.rows.Storage.{Storage}
 use Rattle.gq_table.specs.declared.rows.Storage.TheVariants.{Keyed, Columnar}
 use Rattle.gq_table.specs.Keyed.{OwnKeys}
@@ -19,6 +19,6 @@ ArePlaced [] (Columnar rows) = Unit {0}
 ArePlaced (column ∷ columns) (Keyed m) = OwnKeys (column ∷ columns) m
 ArePlaced (column ∷ columns) (Columnar rows) = ⊥
 
-pub record IsStored {H : Type 0} (heading : Heading) (rows : Storage H) : Type 0 where
-  pub valid : IsValidTable (record { heading = heading; rows = rows_of rows })
-  pub placed : ArePlaced heading.key rows
+pub record IsStored {H : Type 0} (schema : PlainSchema) (rows : Storage H) : Type 0 where
+  pub valid : IsValidTable (record { schema = schema; rows = rows_of rows })
+  pub placed : ArePlaced schema.key rows

@@ -5,7 +5,7 @@
 //! stand by columns. A row that is put replaces the row of the same key, spelling and all, or is added; a load
 //! puts many, all or none. A [`RowCursor`] walks over the rows.
 //!
-//! The one contract above this crate: clauses see a table as its heading and the list of its rows,
+//! The one contract above this crate: clauses see a table as its schema and the list of its rows,
 //! in some order, and each change is that of plain lists (`put`, `put_all` and `delete` of
 //! `gq_row`) up to the order of rows. Each row fits the columns, no two have the same key, and
 //! there are at most 2^24. A call that refuses says the first reason that applies, and leaves the

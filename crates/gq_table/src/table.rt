@@ -20,7 +20,7 @@ use sw_probe::KeyHash;
 /// A table: its schema, and its rows, under their keys where there are key columns. Each row fits
 /// the columns, no two rows have the same key, and there are at most 2^24 of them.
 ///
-/// Contracts see its heading and the list of its rows, in an order that any change may turn into another.
+/// Contracts see its schema and the list of its rows, in an order that any change may turn into another.
 #[derive(Drop)]
 pub struct Table<H: KeyHash<Key>> {
     alloc: Global,
@@ -35,7 +35,7 @@ impl<H: KeyHash<Key>> Model for Table<H> {
 
     ghost Value = { PlainTable };
 
-    ghost view = { λ t. record { heading = t.schema; rows = rows_of t.rows } };
+    ghost view = { λ t. record { schema = t.schema; rows = rows_of t.rows } };
 
     ghost invariant = { λ t. IsStored t.schema t.rows };
 }
@@ -43,7 +43,7 @@ impl<H: KeyHash<Key>> Model for Table<H> {
 impl<H: KeyHash<Key> + Copy> Table<H> {
     /// A table without rows, whose keys are hashed by `hasher`. It takes no memory.
     pub fn new(alloc: Global, schema: Schema, hasher: H) -> Table<H>
-        ensures { result ≡ record { heading = schema; rows = [] } }
+        ensures { result ≡ record { schema = schema; rows = [] } }
     {
         if schema.key().is_empty() {
             return Table {
@@ -64,7 +64,7 @@ impl<H: KeyHash<Key> + Copy> Table<H> {
     /// A table of the same columns and key without rows.
     pub fn new_like(&self) -> Result<Table<H>, AllocError>
         ensures { IfOk result
-            (λ table. table ≡ record { heading = self.now.heading; rows = [] }) }
+            (λ table. table ≡ record { schema = self.now.schema; rows = [] }) }
     {
         let schema = self.schema.copy(self.alloc)?;
         Ok(Table::new(self.alloc, schema, self.hasher))
@@ -72,7 +72,7 @@ impl<H: KeyHash<Key> + Copy> Table<H> {
 
     #[inline]
     pub fn schema(&self) -> &Schema
-        ensures { result.now ≡ self.now.heading }
+        ensures { result.now ≡ self.now.schema }
     {
         &self.schema
     }
@@ -140,8 +140,8 @@ impl<H: KeyHash<Key> + Copy> Table<H> {
     /// any values, and its memory be used for another row: it is exchanged with the row that it
     /// replaces, or left without its texts where the table has no key.
     pub fn put(&mut self, row: &mut Row, limits: &Limits) -> Result<(), TableRefusal>
-        requires fits { IsTrue (fits_columns self.old.heading.columns row.old) }
-        requires keyed { has_null self.old.heading.key row.old ≡ false }
+        requires fits { IsTrue (fits_columns self.old.schema.columns row.old) }
+        requires keyed { has_null self.old.schema.key row.old ≡ false }
         ensures ok { OnOk result (IsPut self.old row.old self.new) }
         ensures taken { OnOk result (row_refusal limits.now.bounds self.old row.old ≡ None) }
         ensures refused { IfErr result (WhyNotPut limits.now.bounds self.old row.old) }
@@ -162,7 +162,7 @@ impl<H: KeyHash<Key> + Copy> Table<H> {
     /// none: `Limit` where there would be too many, and else `Memory` for want of it. Into a table
     /// without rows they move as a whole.
     pub fn load(&mut self, staged: Table<H>, limits: &Limits) -> Result<(), TableRefusal>
-        requires { staged.heading ≡ self.old.heading }
+        requires { staged.schema ≡ self.old.schema }
         ensures ok { OnOk result (IsLoaded self.old staged.rows self.new) }
         ensures taken { OnOk result (load_refusal limits.now.bounds self.old staged.rows ≡ None) }
         ensures refused { IfErr result (WhyNotLoaded limits.now.bounds self.old staged.rows) }
@@ -189,7 +189,7 @@ impl<H: KeyHash<Key> + Copy> Table<H> {
     // Its rows, as they are stored.
     fn into_rows(self) -> Storage<H>
         ensures rows { rows_of result ≡ self.rows }
-        ensures stored { IsStored self.heading result }
+        ensures stored { IsStored self.schema result }
     {
         self.rows
     }
@@ -197,9 +197,9 @@ impl<H: KeyHash<Key> + Copy> Table<H> {
     /// Takes the row away whose key columns hold values that are the same as these, if there is
     /// one, and tells whether there was. It takes no memory.
     pub fn delete(&mut self, key: &[Value]) -> bool
-        requires { 0 < length self.old.heading.key }
+        requires { 0 < length self.old.schema.key }
         ensures rows { IsDeleted self.old (named_key key.now) self.new }
-        ensures answer { result ≡ has_row self.old.heading.key self.old.rows (named_key key.now) }
+        ensures answer { result ≡ has_row self.old.schema.key self.old.rows (named_key key.now) }
     {
         match &mut self.rows {
             Storage::Keyed(rows) => rows.delete(self.schema.key(), key),

@@ -31,7 +31,7 @@ returns-in_err-plan-clause-refused g c =
     let table = c.in_ok-table.table.now in
     let other : Option PlainTable = option_copied c.in_ok-others.others in
     let p = err_from_is_err_and c.from_residual-in_err-plan.result c.from_residual-in_err-plan.ensures.1 in
-    let why = subst (λ (w : Refused). (w ≡ unnumbered Memory) ⊎ (group_plan table.heading.columns (other_columns other) c.args.clauses.now ≡ Err w)) (sym p.2) (rw (c.schema.ensures, c.columns_of.ensures) at c.in_err-plan.ensures.refused) in
+    let why = subst (λ (w : Refused). (w ≡ unnumbered Memory) ⊎ (group_plan table.schema.columns (other_columns other) c.args.clauses.now ≡ Err w)) (sym p.2) (rw (c.schema.ensures, c.columns_of.ensures) at c.in_err-plan.ensures.refused) in
     rw p.1 (elim why [
       | inl memory ↦ inl memory
       | inr unplanned ↦ inr (group_unplanned db c.args.name.now c.args.clauses.now table (search rules) other c.in_ok-others.ensures.found p.0 unplanned)

@@ -4,6 +4,6 @@ use Rattle.gq_engine.proofs.payloads.stage_rows.Given as goal
 
 abbrev pub invariant-loop-count : goal.invariant-loop-count
 invariant-loop-count g l = record {
-  heading : l.reader.heading ≡ l.fn.staged.heading;
-  rows : SoFar l.fn.staged.heading l.staged l.count l.reader.rows l.fn.reader.rows;
+  schema : l.reader.schema ≡ l.fn.staged.schema;
+  rows : SoFar l.fn.staged.schema l.staged l.count l.reader.rows l.fn.reader.rows;
 }

@@ -3,4 +3,4 @@ use Rattle.gq_load.proofs.Completing.{even_same}
 use Rattle.gq_load.proofs.laws.completes_short_only.Goals as goal
 
 pub returns : goal.returns
-returns c = λ heading bounds bytes even. even_same heading bounds (records default_config (strip_bom bytes)) even
+returns c = λ schema bounds bytes even. even_same schema bounds (records default_config (strip_bom bytes)) even

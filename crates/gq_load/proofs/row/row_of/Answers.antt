@@ -15,7 +15,7 @@ pub has_null-requires : goal.has_null-requires
 has_null-requires c = λ k d h.
     let schema = c.args.format.now.schema.now in
     let keyed = (both (no_repeats nat_eq schema.key) (list_all (λ position. nat_lt position (length schema.columns)) schema.key)
-    (both (no_repeats bytes_eq (map (λ (column : Column). column.name) schema.columns)) (no_repeats nat_eq schema.key && list_all (λ position. nat_lt position (length schema.columns)) schema.key) c.key.ensures.heading).1).1 in
+    (both (no_repeats bytes_eq (map (λ (column : Column). column.name) schema.columns)) (no_repeats nat_eq schema.key && list_all (λ position. nat_lt position (length schema.columns)) schema.key) c.key.ensures.schema).1).1 in
     let size : length c.new-row.result ≡ length schema.columns = ap length c.new-row.ensures ∙ c.in_ok-cells.ensures.size ∙ ap length c.columns.ensures in
     rw (size, c.key.ensures.positions) (in_key schema.key (length schema.columns) keyed k d (omega (arith, h, ap length c.key.ensures.positions)))
 

@@ -10,16 +10,16 @@ use Rattle.gq_load.proofs.row_reader.check_rest.Goals as goal
 
 pub returns-then-not-branch-clause-none : goal.returns-then-not-branch-clause-none
 returns-then-not-branch-clause-none g c =
-    let heading = c.args.format.now.schema.now in
+    let schema = c.args.format.now.schema.now in
     let longest = c.args.format.now.limits.now.bounds.text in
     let places = c.args.header.now in
     let left = data_left g.R.Read.remaining c.args.format.now.short (length c.args.header.now) c.loop-last.reader in
-    let none = end_fault heading longest places (c.loop-last.last + 1) left (data_left g.R.Read.remaining c.args.format.now.short (length c.args.header.now) c.read_next.new.reader) c.in_ok-read_next.field-0 (completed c.args.format.now.short (length c.args.header.now) (fields_of c.read_next.new.byte_record)) c.if-not-branch.true (took_as_read c.args.format.now.short (length c.args.header.now) (unread g.R.Read.remaining c.loop-last.reader) (unread g.R.Read.remaining c.read_next.new.reader) c.in_ok-read_next.field-0 (fields_of c.read_next.new.byte_record) c.in_ok-read_next.ensures.took) in
-    so_of_all (data_left g.R.Read.remaining c.args.format.now.short (length c.args.header.now) c.args.reader.now) left (λ (records : List (List (List ℕ))). fault_of (rows_from heading longest places (c.loop-last.last + 1) records)) (λ (records : List (List (List ℕ))). fault_of (rows_from heading longest places (c.args.number + 1) records)) (λ fault. fault ≡ None) c.loop-last.invariant.alike none
+    let none = end_fault schema longest places (c.loop-last.last + 1) left (data_left g.R.Read.remaining c.args.format.now.short (length c.args.header.now) c.read_next.new.reader) c.in_ok-read_next.field-0 (completed c.args.format.now.short (length c.args.header.now) (fields_of c.read_next.new.byte_record)) c.if-not-branch.true (took_as_read c.args.format.now.short (length c.args.header.now) (unread g.R.Read.remaining c.loop-last.reader) (unread g.R.Read.remaining c.read_next.new.reader) c.in_ok-read_next.field-0 (fields_of c.read_next.new.byte_record) c.in_ok-read_next.ensures.took) in
+    so_of_all (data_left g.R.Read.remaining c.args.format.now.short (length c.args.header.now) c.args.reader.now) left (λ (records : List (List (List ℕ))). fault_of (rows_from schema longest places (c.loop-last.last + 1) records)) (λ (records : List (List (List ℕ))). fault_of (rows_from schema longest places (c.args.number + 1) records)) (λ fault. fault ≡ None) c.loop-last.invariant.alike none
 
 pub returns-in_err-row_of-clause-fault : goal.returns-in_err-row_of-clause-fault
 returns-in_err-row_of-clause-fault g c =
-    let heading = c.args.format.now.schema.now in
+    let schema = c.args.format.now.schema.now in
     let longest = c.args.format.now.limits.now.bounds.text in
     let places = c.args.header.now in
     let left = data_left g.R.Read.remaining c.args.format.now.short (length c.args.header.now) c.loop-last.reader in
@@ -28,13 +28,13 @@ returns-in_err-row_of-clause-fault g c =
     let e = c.in_err-row_of.field-0.0 in
     rw (p.1, p.2) (elim c.in_err-row_of.ensures [
       | inl m ↦ inl m
-      | inr bad ↦ inr (so_of_all (data_left g.R.Read.remaining c.args.format.now.short (length c.args.header.now) c.args.reader.now) left (λ (records : List (List (List ℕ))). fault_of (rows_from heading longest places (c.loop-last.last + 1) records)) (λ (records : List (List (List ℕ))). fault_of (rows_from heading longest places (c.args.number + 1) records)) (λ fault. fault ≡ Some e) c.loop-last.invariant.alike
-          (bad_fault heading longest places (c.loop-last.last + 1) fields c.in_ok-read_next.field-0 c.if-not-branch.false left (data_left g.R.Read.remaining c.args.format.now.short (length c.args.header.now) c.read_next.new.reader) e (took_as_read c.args.format.now.short (length c.args.header.now) (unread g.R.Read.remaining c.loop-last.reader) (unread g.R.Read.remaining c.read_next.new.reader) c.in_ok-read_next.field-0 (fields_of c.read_next.new.byte_record) c.in_ok-read_next.ensures.took) bad))
+      | inr bad ↦ inr (so_of_all (data_left g.R.Read.remaining c.args.format.now.short (length c.args.header.now) c.args.reader.now) left (λ (records : List (List (List ℕ))). fault_of (rows_from schema longest places (c.loop-last.last + 1) records)) (λ (records : List (List (List ℕ))). fault_of (rows_from schema longest places (c.args.number + 1) records)) (λ fault. fault ≡ Some e) c.loop-last.invariant.alike
+          (bad_fault schema longest places (c.loop-last.last + 1) fields c.in_ok-read_next.field-0 c.if-not-branch.false left (data_left g.R.Read.remaining c.args.format.now.short (length c.args.header.now) c.read_next.new.reader) e (took_as_read c.args.format.now.short (length c.args.header.now) (unread g.R.Read.remaining c.loop-last.reader) (unread g.R.Read.remaining c.read_next.new.reader) c.in_ok-read_next.field-0 (fields_of c.read_next.new.byte_record) c.in_ok-read_next.ensures.took) bad))
     ])
 
 pub loop-last-preserved : goal.loop-last-preserved
 loop-last-preserved g c =
-    let heading = c.args.format.now.schema.now in
+    let schema = c.args.format.now.schema.now in
     let longest = c.args.format.now.limits.now.bounds.text in
     let places = c.args.header.now in
     let left = data_left g.R.Read.remaining c.args.format.now.short (length c.args.header.now) c.loop-last.reader in
@@ -42,6 +42,6 @@ loop-last-preserved g c =
     let fields = completed c.args.format.now.short (length c.args.header.now) (fields_of c.read_next.new.byte_record) in
     record {
       reading = c.in_ok-read_next.ensures.reading;
-      alike = same_through (data_left g.R.Read.remaining c.args.format.now.short (length c.args.header.now) c.args.reader.now) left (λ (records : List (List (List ℕ))). fault_of (rows_from heading longest places (c.loop-last.last + 1) records)) (λ (records : List (List (List ℕ))). fault_of (rows_from heading longest places (c.args.number + 1) records)) _ c.loop-last.invariant.alike
-          (more_fault heading longest places (c.loop-last.last + 1) fields c.in_ok-read_next.field-0 c.if-not-branch.false c.in_ok-row_of.field-0 c.in_ok-row_of.ensures left rest (took_as_read c.args.format.now.short (length c.args.header.now) (unread g.R.Read.remaining c.loop-last.reader) (unread g.R.Read.remaining c.read_next.new.reader) c.in_ok-read_next.field-0 (fields_of c.read_next.new.byte_record) c.in_ok-read_next.ensures.took));
+      alike = same_through (data_left g.R.Read.remaining c.args.format.now.short (length c.args.header.now) c.args.reader.now) left (λ (records : List (List (List ℕ))). fault_of (rows_from schema longest places (c.loop-last.last + 1) records)) (λ (records : List (List (List ℕ))). fault_of (rows_from schema longest places (c.args.number + 1) records)) _ c.loop-last.invariant.alike
+          (more_fault schema longest places (c.loop-last.last + 1) fields c.in_ok-read_next.field-0 c.if-not-branch.false c.in_ok-row_of.field-0 c.in_ok-row_of.ensures left rest (took_as_read c.args.format.now.short (length c.args.header.now) (unread g.R.Read.remaining c.loop-last.reader) (unread g.R.Read.remaining c.read_next.new.reader) c.in_ok-read_next.field-0 (fields_of c.read_next.new.byte_record) c.in_ok-read_next.ensures.took));
     }

@@ -18,7 +18,7 @@ returns-then-not-branch g c =
 
 pub returns-in_err-row : goal.returns-in_err-row
 returns-in_err-row g c =
-    let heading = c.args.format.now.schema.now in
+    let schema = c.args.format.now.schema.now in
     let bounds = c.args.format.now.limits.now.bounds in
     let places = c.args.header.now in
     let given = c.args.given in
@@ -28,12 +28,12 @@ returns-in_err-row g c =
     let e = c.in_err-row.field-0.0 in
     rw (p.1, p.2) (elim c.in_err-row.ensures [
       | inl m ↦ inl m
-      | inr bad ↦ inr (bad_left heading bounds.text places (given + 1) fields c.in_ok-read_next.field-0 c.if-not-branch.false (bounds.rows - given) (data_left g.R.Read.remaining c.args.format.now.short (length c.args.header.now) c.args.reader.now) (data_left g.R.Read.remaining c.args.format.now.short (length c.args.header.now) c.read_next.new.reader) e (took_as_read c.args.format.now.short (length c.args.header.now) (unread g.R.Read.remaining c.args.reader.now) (unread g.R.Read.remaining c.read_next.new.reader) c.in_ok-read_next.field-0 (fields_of c.read_next.new.byte_record) c.in_ok-read_next.ensures.took) (rw (← number) bad))
+      | inr bad ↦ inr (bad_left schema bounds.text places (given + 1) fields c.in_ok-read_next.field-0 c.if-not-branch.false (bounds.rows - given) (data_left g.R.Read.remaining c.args.format.now.short (length c.args.header.now) c.args.reader.now) (data_left g.R.Read.remaining c.args.format.now.short (length c.args.header.now) c.read_next.new.reader) e (took_as_read c.args.format.now.short (length c.args.header.now) (unread g.R.Read.remaining c.args.reader.now) (unread g.R.Read.remaining c.read_next.new.reader) c.in_ok-read_next.field-0 (fields_of c.read_next.new.byte_record) c.in_ok-read_next.ensures.took) (rw (← number) bad))
     ])
 
 pub returns-in_err-check_rest : goal.returns-in_err-check_rest
 returns-in_err-check_rest g c =
-    let heading = c.args.format.now.schema.now in
+    let schema = c.args.format.now.schema.now in
     let bounds = c.args.format.now.limits.now.bounds in
     let places = c.args.header.now in
     let given = c.args.given in
@@ -43,15 +43,15 @@ returns-in_err-check_rest g c =
     let rest = data_left g.R.Read.remaining c.args.format.now.short (length c.args.header.now) c.read_next.new.reader in
     let number : c.in-Some.number ≡ given + 1 = omega (arith, c.in-Some.ensures) in
     let row = c.in_ok-row.field-0 in
-    let good : row_of heading bounds.text places (given + 1) fields ≡ Ok row = rw (← number) c.in_ok-row.ensures in
+    let good : row_of schema bounds.text places (given + 1) fields ≡ Ok row = rw (← number) c.in_ok-row.ensures in
     let spent : most ≡ 0 = omega (arith, number, c.if-number-format.true) in
     let p = err_from_is_err_and c.from_residual-in_err-check_rest.result c.from_residual-in_err-check_rest.ensures.1 in
     let e = c.in_err-check_rest.field-0.0 in
-    rw (p.1, p.2) (told_too e (λ why some. late_left heading bounds.text places (given + 1) fields c.in_ok-read_next.field-0 c.if-not-branch.false row good most spent left rest why (took_as_read c.args.format.now.short (length c.args.header.now) (unread g.R.Read.remaining c.args.reader.now) (unread g.R.Read.remaining c.read_next.new.reader) c.in_ok-read_next.field-0 (fields_of c.read_next.new.byte_record) c.in_ok-read_next.ensures.took) (rw (← number) some)) c.in_err-check_rest.ensures.fault)
+    rw (p.1, p.2) (told_too e (λ why some. late_left schema bounds.text places (given + 1) fields c.in_ok-read_next.field-0 c.if-not-branch.false row good most spent left rest why (took_as_read c.args.format.now.short (length c.args.header.now) (unread g.R.Read.remaining c.args.reader.now) (unread g.R.Read.remaining c.read_next.new.reader) c.in_ok-read_next.field-0 (fields_of c.read_next.new.byte_record) c.in_ok-read_next.ensures.took) (rw (← number) some)) c.in_err-check_rest.ensures.fault)
 
 pub returns-then-number-format : goal.returns-then-number-format
 returns-then-number-format g c =
-    let heading = c.args.format.now.schema.now in
+    let schema = c.args.format.now.schema.now in
     let bounds = c.args.format.now.limits.now.bounds in
     let places = c.args.header.now in
     let given = c.args.given in
@@ -61,13 +61,13 @@ returns-then-number-format g c =
     let rest = data_left g.R.Read.remaining c.args.format.now.short (length c.args.header.now) c.read_next.new.reader in
     let number : c.in-Some.number ≡ given + 1 = omega (arith, c.in-Some.ensures) in
     let row = c.in_ok-row.field-0 in
-    let good : row_of heading bounds.text places (given + 1) fields ≡ Ok row = rw (← number) c.in_ok-row.ensures in
+    let good : row_of schema bounds.text places (given + 1) fields ≡ Ok row = rw (← number) c.in_ok-row.ensures in
     let spent : most ≡ 0 = omega (arith, number, c.if-number-format.true) in
-    inr (over_left heading bounds.text places (given + 1) fields c.in_ok-read_next.field-0 c.if-not-branch.false row good most spent left rest (took_as_read c.args.format.now.short (length c.args.header.now) (unread g.R.Read.remaining c.args.reader.now) (unread g.R.Read.remaining c.read_next.new.reader) c.in_ok-read_next.field-0 (fields_of c.read_next.new.byte_record) c.in_ok-read_next.ensures.took) (rw (← number) c.in_ok-check_rest.ensures.none))
+    inr (over_left schema bounds.text places (given + 1) fields c.in_ok-read_next.field-0 c.if-not-branch.false row good most spent left rest (took_as_read c.args.format.now.short (length c.args.header.now) (unread g.R.Read.remaining c.args.reader.now) (unread g.R.Read.remaining c.read_next.new.reader) c.in_ok-read_next.field-0 (fields_of c.read_next.new.byte_record) c.in_ok-read_next.ensures.took) (rw (← number) c.in_ok-check_rest.ensures.none))
 
 pub returns : goal.returns
 returns g c =
-    let heading = c.args.format.now.schema.now in
+    let schema = c.args.format.now.schema.now in
     let bounds = c.args.format.now.limits.now.bounds in
     let places = c.args.header.now in
     let given = c.args.given in
@@ -77,12 +77,12 @@ returns g c =
     let rest = data_left g.R.Read.remaining c.args.format.now.short (length c.args.header.now) c.read_next.new.reader in
     let number : c.in-Some.number ≡ given + 1 = omega (arith, c.in-Some.ensures) in
     let row = c.in_ok-row.field-0 in
-    let good : row_of heading bounds.text places (given + 1) fields ≡ Ok row = rw (← number) c.in_ok-row.ensures in
+    let good : row_of schema bounds.text places (given + 1) fields ≡ Ok row = rw (← number) c.in_ok-row.ensures in
     let fewer = bounds.rows - (given + 1) in
     let one_less : most ≡ fewer + 1 = omega (arith, number, c.if-number-format.false) in
-    let fit = row_fit heading bounds.text places (given + 1) fields row good in
+    let fit = row_fit schema bounds.text places (given + 1) fields row good in
     record {
-      left = more_left heading bounds.text places (given + 1) fields c.in_ok-read_next.field-0 c.if-not-branch.false row good most fewer one_less left rest (took_as_read c.args.format.now.short (length c.args.header.now) (unread g.R.Read.remaining c.args.reader.now) (unread g.R.Read.remaining c.read_next.new.reader) c.in_ok-read_next.field-0 (fields_of c.read_next.new.byte_record) c.in_ok-read_next.ensures.took);
+      left = more_left schema bounds.text places (given + 1) fields c.in_ok-read_next.field-0 c.if-not-branch.false row good most fewer one_less left rest (took_as_read c.args.format.now.short (length c.args.header.now) (unread g.R.Read.remaining c.args.reader.now) (unread g.R.Read.remaining c.read_next.new.reader) c.in_ok-read_next.field-0 (fields_of c.read_next.new.byte_record) c.in_ok-read_next.ensures.took);
       fits = fit.fitting;
       keyed = fit.keyed;
       reading = c.in_ok-read_next.ensures.reading;

@@ -1,6 +1,6 @@
 use Rattle.std.proofs.Common.{◌≡◌, Some}
 use Rattle.std.proofs.lemmas.Result.{err_from_is_err_and}
-use Rattle.gq_row.specs.Headings.{positions_of}
+use Rattle.gq_row.specs.Schemas.{positions_of}
 use Rattle.gq_plan.specs.Places.{all_placed, in_row}
 use Rattle.gq_plan.specs.Plans.{distinct_named}
 use Rattle.gq_plan.proofs.ColumnLemmas.{positions_within}

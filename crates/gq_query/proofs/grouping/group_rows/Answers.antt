@@ -11,7 +11,7 @@ answer-requires-clause-columns g c =
     let selection = c.args.selection.now in
     record {
       by = c.requires.by;
-      ours = asks_ours selection.table.now.heading.columns (other_columns (option_copied selection.others)) (option_copied selection.matching) c.requires.matching;
+      ours = asks_ours selection.table.now.schema.columns (other_columns (option_copied selection.others)) (option_copied selection.matching) c.requires.matching;
     }
 
 pub returns-clause-rows : goal.returns-clause-rows

@@ -17,7 +17,7 @@ rows-init g c =
     let start = c.rows-rows.ensures.rows in
     record {
       keys = ([], start, c.new-keys.ensures columns);
-      long = subst (AreLong columns) (sym start) (rows_ready table.heading.columns columns table.rows c.rows-rows.ensures.valid.fitting c.requires);
+      long = subst (AreLong columns) (sym start) (rows_ready table.schema.columns columns table.rows c.rows-rows.ensures.valid.fitting c.requires);
     }
 
 pub add-requires : goal.add-requires

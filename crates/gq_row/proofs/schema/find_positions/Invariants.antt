@@ -1,6 +1,6 @@
 use Rattle.std.proofs.Common.{◌≡◌, ◌++◌, drop}
 use Rattle.std.specs.Prelude.{option_map}
-use Rattle.gq_row.specs.Headings.{positions_of}
+use Rattle.gq_row.specs.Schemas.{positions_of}
 use Rattle.gq_row.proofs.schema.find_positions.Given as goal
 
 abbrev pub invariant-loop-name : goal.invariant-loop-name

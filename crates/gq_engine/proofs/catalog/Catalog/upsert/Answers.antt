@@ -24,7 +24,7 @@ pub returns-in-Some : goal.returns-in-Some
 returns-in-Some g c =
     let Q : Database → Type 0 = λ db. Changes (with_row c.args.limits.now.bounds db c.args.name.now c.args.row) c.put_row.result db (set c.self.inside.tables.items c.in-Some.i (c.index_mut.result.now.0, c.put_row.new.table)) in
     subst Q c.self.view_is
-    (took (λ table. put_within c.args.limits.now.bounds table (stored_in table.heading.columns c.args.row)) c.self.inside.tables.items c.args.name.now c.in-Some.i c.index_mut.result.now c.put_row.result c.put_row.new.table
+    (took (λ table. put_within c.args.limits.now.bounds table (stored_in table.schema.columns c.args.row)) c.self.inside.tables.items c.args.name.now c.in-Some.i c.index_mut.result.now c.put_row.result c.put_row.new.table
     (rw c.as_slice.ensures.value at c.in-Some.ensures) c.index_mut.ensures.value c.put_row.ensures.takes)
 
 pub returns-in-None : goal.returns-in-None

@@ -12,7 +12,7 @@ use Rattle.gq_engine.proofs.CarryingLemmas.{carried_plainly, passed_on}
 use Rattle.gq_engine.proofs.StepLemmas.{no_memory_at, refuses, carries, create_exists, create_lacks, create_full, create_adds}
 use Rattle.gq_row.specs.Repeats.{no_repeats}
 use Rattle.gq_command.specs.Commands.{some, column_names}
-use Rattle.gq_plan.proofs.ColumnLemmas.{is_heading_of}
+use Rattle.gq_plan.proofs.ColumnLemmas.{is_schema_of}
 use Rattle.gq_table.proofs.ValidTableLemmas.{two}
 use Rattle.gq_engine.proofs.engine.Engine.create.Goals as goal
 
@@ -32,8 +32,8 @@ pub of-schema-requires : goal.of-schema-requires
 of-schema-requires g c =
     let rules = two (no_repeats bytes_eq (column_names c.args.columns)) (no_repeats bytes_eq c.args.key) (two (some c.args.columns) _ c.requires).1 in
     let found = sym (rw (c.as_slice.ensures, c.as_slice-2.ensures) at c.in_ok-find_positions.ensures) ∙ c.in_ok-positions.ensures.ok_part in
-    let heading = is_heading_of c.args.columns c.args.key c.in_ok-positions.positions rules.0 rules.1 found in
-    rw (c.into_vec.ensures, c.into_vec-2.ensures) heading
+    let schema = is_schema_of c.args.columns c.args.key c.in_ok-positions.positions rules.0 rules.1 found in
+    rw (c.into_vec.ensures, c.into_vec-2.ensures) schema
 
 -- what was found of the name and of the key columns
 pub returns-then-is_some : goal.returns-then-is_some
@@ -83,7 +83,7 @@ pub returns : goal.returns
 returns g c =
     let self = c.args.self.now in
     let db = self.catalog in
-    let added : db ++ (c.args.name, record { heading = record { columns = c.args.columns; key = c.in_ok-positions.positions }; rows = [] }) ∷ [] ≡ c.add.new.self = sym (rw (c.of-schema.ensures, c.into_vec.ensures, c.into_vec-2.ensures) at c.in_ok-add.ensures.ok) in
+    let added : db ++ (c.args.name, record { schema = record { columns = c.args.columns; key = c.in_ok-positions.positions }; rows = [] }) ∷ [] ≡ c.add.new.self = sym (rw (c.of-schema.ensures, c.into_vec.ensures, c.into_vec-2.ensures) at c.in_ok-add.ensures.ok) in
     let P : Database → Type 0 = λ d. create self.limits.bounds db c.args.name c.args.columns c.args.key ≡ Ok (d, reply.Done 0) in
     carried_plainly g.S.RunStore.runs (Create c.args.name c.args.columns c.args.key) (Ok (reply.Done 0)) self c.add.new.self refl refl
     (carries (create self.limits.bounds db c.args.name c.args.columns c.args.key) (reply.Done 0) db c.add.new.self

@@ -46,4 +46,4 @@ pub returns-clause-put : goal.returns-clause-put
 returns-clause-put g c =
     let self = c.args.self.now in
     let own = c.in_ok-staged.ensures.staged in
-    staged_put c.args.short self.limits.bounds self.catalog c.args.name.now own.table own.found c.tables-keyed.ensures (option_map (rows_told c.args.short self.limits.bounds own.table.heading) (g.R.Read.remaining c.args.text)) c.in_ok-staged.staged c.in_ok-staged.count own.staged {X = Unit {0}} c.in_ok-load.field-0 c.load.new.self c.in_ok-load.ensures
+    staged_put c.args.short self.limits.bounds self.catalog c.args.name.now own.table own.found c.tables-keyed.ensures (option_map (rows_told c.args.short self.limits.bounds own.table.schema) (g.R.Read.remaining c.args.text)) c.in_ok-staged.staged c.in_ok-staged.count own.staged {X = Unit {0}} c.in_ok-load.field-0 c.load.new.self c.in_ok-load.ensures

@@ -5,7 +5,7 @@ use Rattle.std.proofs.lemmas.Bool.Decides.{nat_tests}
 use Rattle.std.proofs.lemmas.List.Elements.{All-push}
 use Rattle.std.proofs.lemmas.Grind.{common_steps}
 use Rattle.csv.specs.Records.{fields_of}
-use Rattle.gq_row.specs.Headings.{position_of}
+use Rattle.gq_row.specs.Schemas.{position_of}
 use Rattle.gq_load.proofs.Places.{named_none, named_repeats, named_more, named_all, found_all, too_few, differs}
 use Rattle.gq_load.proofs.header.Header.of.Goals as goal
 

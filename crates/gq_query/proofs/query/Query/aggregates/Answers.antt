@@ -8,7 +8,7 @@ use Rattle.gq_query.proofs.query.Query.aggregates.Goals as goal
 
 pub groups_into-requires-clause-aggs : goal.groups_into-requires-clause-aggs
 groups_into-requires-clause-aggs g c =
-    let columns = c.args.self.now.table.now.heading.columns in
+    let columns = c.args.self.now.table.now.schema.columns in
     subst (λ l. IsTrue (list_all (can_take columns) l)) (sym (c.as_slice.ensures.value ∙ c.in-Ok.ensures)) (can_take_aggs columns c.args.shown.now c.requires.shown)
 
 pub returns-in_err-spent-clause-overflow : goal.returns-in_err-spent-clause-overflow

@@ -11,7 +11,7 @@ returns-in-Ok-clause-rows g c = λ h.
     let by = c.args.self.now.by.now in
     let table = c.args.self.now.table.now in
     let mine = kept_rows c.args.self.now in
-    let fit = all_kept (fits_columns table.heading.columns) (is_kept c.args.self.now.kept.now) table.rows c.requires.fitting in
+    let fit = all_kept (fits_columns table.schema.columns) (is_kept c.args.self.now.kept.now) table.rows c.requires.fitting in
     c.in-Ok.ensures
     ∙ distinct_shown by mine c.in_ok-groups.groups c.sort.new.self (c.in_ok-groups.ensures.keys h) c.sort.ensures.moved c.sort.ensures.ascending
-    ∙ distinct_alone by mine c.requires.some (plain_rows table.heading.columns by mine fit c.requires.alone)
+    ∙ distinct_alone by mine c.requires.some (plain_rows table.schema.columns by mine fit c.requires.alone)

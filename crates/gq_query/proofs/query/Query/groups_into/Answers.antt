@@ -23,8 +23,8 @@ group-requires-clause-source g c =
     let spec : Spec = record { by = c.args.self.now.by.now; aggs = c.args.aggs.now } in
     let table = c.args.self.now.table.now in
     let used : c.as_slice-2.result.now ≡ columns_used spec = c.as_slice-2.ensures.value ∙ c.in-Ok.ensures in
-    source_ready table.heading.columns (columns_used spec) (ours_of (option_copied c.args.self.now.kept.now.matching)) c.as_slice-2.result.now table.rows c.rows.result.rest
-    c.rows.ensures.rows used c.rows.ensures.valid.fitting (used_within table.heading.columns spec c.requires.columns.by c.requires.aggs) c.requires.columns.ours
+    source_ready table.schema.columns (columns_used spec) (ours_of (option_copied c.args.self.now.kept.now.matching)) c.as_slice-2.result.now table.rows c.rows.result.rest
+    c.rows.ensures.rows used c.rows.ensures.valid.fitting (used_within table.schema.columns spec c.requires.columns.by c.requires.aggs) c.requires.columns.ours
 
 pub group-requires-clause-rows : goal.group-requires-clause-rows
 group-requires-clause-rows g c = λ h rows e.
@@ -34,8 +34,8 @@ group-requires-clause-rows g c = λ h rows e.
     let used : c.as_slice-2.result.now ≡ columns_used spec = c.as_slice-2.ensures.value ∙ c.in-Ok.ensures in
     let asked : c.in-Ok-place_spec.spec ≡ placed (columns_used spec) spec = c.in-Ok-place_spec.ensures ∙ ap (λ u. placed u spec) (c.as_slice.ensures.value ∙ c.in-Ok.ensures) in
     let given : rows ≡ map (cells_in (columns_used spec)) (filter keep table.rows) = e ∙ (λ i. map (cells_in (used i)) (filter keep (c.rows.ensures.rows i))) in
-    let fit = all_kept (fits_columns table.heading.columns) keep table.rows c.rows.ensures.valid.fitting in
-    (λ i. all_fit (asked i) (given i)) ∙ all_fit_placed table.heading.columns spec (filter keep table.rows) fit c.requires.aggs
+    let fit = all_kept (fits_columns table.schema.columns) keep table.rows c.rows.ensures.valid.fitting in
+    (λ i. all_fit (asked i) (given i)) ∙ all_fit_placed table.schema.columns spec (filter keep table.rows) fit c.requires.aggs
 
 pub group-requires-clause-widths : goal.group-requires-clause-widths
 group-requires-clause-widths g c = λ h rows e.

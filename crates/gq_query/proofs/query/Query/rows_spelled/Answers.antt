@@ -10,7 +10,7 @@ use Rattle.gq_query.proofs.query.Query.rows_spelled.Goals as goal
 
 pub show-requires-clause-shown : goal.show-requires-clause-shown
 show-requires-clause-shown g c =
-    let columns = c.args.self.now.table.now.heading.columns in
+    let columns = c.args.self.now.table.now.schema.columns in
     ap (list_all (is_valid_for columns)) (c.as_slice.ensures.value ∙ c.in-Ok.ensures) ∙ all_may columns c.args.shown.now c.args.self.now.by.now c.requires.shown c.requires.columns.by
 
 pub returns-in_err-groups-clause-overflow : goal.returns-in_err-groups-clause-overflow
