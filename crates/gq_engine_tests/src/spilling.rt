@@ -165,24 +165,24 @@ fn assert_fails<H: KeyHash<Key> + Copy>(
     Ok(())
 }
 
-/// The first reading makes a run and writes the ten rows of each of forty keys there, and the second
+/// The first pass makes a run and writes the ten rows of each of forty keys there, and the second
 /// reads it at once.
 #[test]
-fn calls_of_a_reading_fail(rt: HostRuntime) -> Result<(), Fail> {
+fn calls_of_a_pass_fail(rt: HostRuntime) -> Result<(), Fail> {
     let alloc = rt.alloc();
     assert_fails(&rt, alloc, Constant(0), 1, 402)
 }
 
-/// The first reading alone writes the ten rows of each of forty keys.
+/// The first pass alone writes the ten rows of each of forty keys.
 #[test]
 fn calls_fail_under_fnv_1a(rt: HostRuntime) -> Result<(), Fail> {
     assert_fails(&rt, rt.alloc(), Fnv1a { seed: 0 }, 1, 401)
 }
 
-/// Four readings write the rows of forty, thirty, twenty and ten keys, and each of the four runs is made,
+/// Four passes write the rows of forty, thirty, twenty and ten keys, and each of the four runs is made,
 /// and read at once.
 #[test]
-fn calls_of_later_readings_fail(rt: HostRuntime) -> Result<(), Fail> {
+fn calls_of_later_passes_fail(rt: HostRuntime) -> Result<(), Fail> {
     let alloc = rt.alloc();
     let last = 4 + 1_000 + 4;
     assert_fails(&rt, alloc, Constant(0), 403, last)?;

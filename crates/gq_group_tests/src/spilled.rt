@@ -114,7 +114,7 @@ fn keys_that_part_at_once(rt: HostRuntime) -> Result<(), Fail> {
     )
 }
 
-/// One key stays at each of the first four readings: of six rows five, four, three and two are
+/// One key stays in each of the first four passes: of six rows five, four, three and two are
 /// written, and the last two part by their sixteen highest bits.
 #[test]
 fn keys_that_part_late(rt: HostRuntime) -> Result<(), Fail> {
@@ -143,9 +143,9 @@ fn assert_fifty<H: KeyHash<Key> + Copy>(
     Ok(())
 }
 
-/// Forty-nine readings write the ten rows of each key that is left: ten times 49 + 48 + .. + 1.
+/// Forty-nine passes write the ten rows of each key that is left: ten times 49 + 48 + .. + 1.
 #[test]
-fn one_group_a_reading(rt: HostRuntime) -> Result<(), Fail> {
+fn one_group_a_pass(rt: HostRuntime) -> Result<(), Fail> {
     let due = "500 read, 12250 written, 50 groups, 49 runs; 12250 records, 0 live";
     assert_fifty(&rt, rt.alloc(), Constant(0), 1, due)?;
     assert_fifty(&rt, rt.alloc(), Constant(u64::MAX), 1, due)

@@ -87,19 +87,19 @@ fn assert_ends_before<H: KeyHash<Key> + Copy>(
     Ok(())
 }
 
-/// The first reading makes a run and writes the ten rows of each of forty keys there, and the second
+/// The first pass makes a run and writes the ten rows of each of forty keys there, and the second
 /// reads it at once.
 #[test]
-fn each_call_of_a_reading_fails(rt: HostRuntime) -> Result<(), Fail> {
+fn each_call_of_a_pass_fails(rt: HostRuntime) -> Result<(), Fail> {
     let alloc = rt.alloc();
     assert_fails(&rt, alloc, Constant(0), 1, 1 + 400 + 1)?;
     assert_fails(&rt, alloc, Fnv1a { seed: 0 }, 1, 1 + 400 + 1)
 }
 
-/// Four readings write the rows of forty, thirty, twenty and ten keys, and each of the four runs is made,
+/// Four passes write the rows of forty, thirty, twenty and ten keys, and each of the four runs is made,
 /// and read at once.
 #[test]
-fn calls_of_later_readings_fail(rt: HostRuntime) -> Result<(), Fail> {
+fn calls_of_later_passes_fail(rt: HostRuntime) -> Result<(), Fail> {
     let alloc = rt.alloc();
     let last = 4 + 1_000 + 4;
     assert_fails(&rt, alloc, Constant(0), 403, last)?;
