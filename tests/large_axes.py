@@ -3,10 +3,11 @@ more, and the replies that it must get, worked out here by plain lists.
 
     large_axes.py SCRIPT REPLIES
 
-docs/AXES.md lists the axes. Each function below that takes an example takes some of them, and drops its
-tables again.
+docs/AXES.md lists the axes. Each function below that takes an example takes some of them, and drops its tables again, so
+that the parts are made in processes of their own.
 """
 import string
+from concurrent.futures import ProcessPoolExecutor
 from itertools import islice, product
 
 from example import COUNT, Example, NoCase
@@ -303,23 +304,42 @@ def replies(example):
     example.drop("r")
 
 
-def made():
+# Each part takes some of the axes.
+PARTS = (
+    widest_lists,
+    longest_clauses,
+    longest_lists,
+    groups_and_pairs,
+    matches,
+    sums,
+    extremes,
+    spellings,
+    rollups,
+    longest_texts,
+    longest_names,
+    payloads,
+    tables_at_once,
+    replies,
+)
+
+
+def made_by(part):
+    """The example of a part, which has dropped its tables."""
     example = Example()
-    widest_lists(example)
-    longest_clauses(example)
-    longest_lists(example)
-    groups_and_pairs(example)
-    matches(example)
-    sums(example)
-    extremes(example)
-    spellings(example)
-    rollups(example)
-    longest_texts(example)
-    longest_names(example)
-    payloads(example)
-    tables_at_once(example)
-    replies(example)
+    part(example)
+    assert not example.tables, part.__name__
     return example
+
+
+def made():
+    """The examples of all parts in one, made side by side."""
+    whole = Example()
+    with ProcessPoolExecutor() as pool:
+        for example in pool.map(made_by, PARTS):
+            whole.script += example.script
+            whole.replies += example.replies
+            whole.commands += example.commands
+    return whole
 
 
 if __name__ == "__main__":
