@@ -15,9 +15,9 @@ what it is, and which blocks are tried:
     rust, antt, text behind none of these: snippets that tests/library_page.py looks for, and pictures.
     console  commands that prove and build, whose outcome `./test` looks at where the gate has left it.
 
-A block of no other word, and code that is set in by spaces, is a mistake of the page. Each case has a line: `0 NAME` where it
-passed, `1 NAME` where it didn't, which standard error tells more of, or `no TOOL here, so not tried: NAME`. The status is 0 once
-all of this is told, whether or not cases passed.
+A block of no other word, and code that is indented by spaces, is a mistake of the page. Each block has a line: `0 NAME` if it
+passed, `1 NAME` if it didn't, with the reason on standard error, or `no TOOL here, so not tried: NAME`. The status is 0 if all
+blocks were tried or left out.
 """
 import difflib
 import itertools
@@ -27,6 +27,7 @@ import signal
 import subprocess
 import sys
 import tempfile
+from dataclasses import dataclass
 from pathlib import Path
 
 SECONDS = 120
@@ -44,32 +45,51 @@ PROBES = {
 }
 
 
-class Case:
-    """A block that is tried: its page, its heading, its kind, its text, and the block `text` behind it."""
+@dataclass(frozen=True)
+class Block:
+    """A block that is tried, and the block `text` after it."""
 
-    def __init__(self, page, heading, kind, text, shown):
-        self.page, self.heading, self.kind, self.text, self.shown = page, heading, kind, text, shown
+    page: str
+    heading: str
+    kind: str
+    text: str
+    shown: str | None
 
 
-def cases(page, text):
+@dataclass(frozen=True)
+class Result:
+    """What became of a block: it failed for a reason, was left out for one, or passed."""
+
+    failure: str = ""
+    left_out: str = ""
+
+
+def blocks(page, text):
     """The blocks of a page that are tried. A block of no known kind is one of them."""
     heading, waiting = "", None
     for block in BLOCK.finditer(text):
         title, kind, body = block.groups()
         if waiting and kind == "text":
-            yield Case(page, heading, *waiting, body)
+            yield Block(page, heading, *waiting, body)
             waiting = None
             continue
         if waiting:
-            yield Case(page, heading, *waiting, None)
+            yield Block(page, heading, *waiting, None)
             waiting = None
         heading = title or heading
         if title is None and kind != "text" and kind not in LEFT_OUT:
             waiting = kind, body
     if waiting:
-        yield Case(page, heading, *waiting, None)
+        yield Block(page, heading, *waiting, None)
     if SET_IN.search(BLOCK.sub("", text)):
-        yield Case(page, "", "", "code that is set in by spaces", None)
+        yield Block(page, "", "", "code that is set in by spaces", None)
+
+
+def parts(root, page):
+    """The blocks of a page, one heading at a time, each with its name."""
+    found = blocks(page, (root / page).read_text(encoding="utf-8"))
+    for _, part in itertools.groupby(found, key=lambda block: block.heading):
+        yield {f"{page}, {block.heading or 'the top'}, {number}": block for number, block in enumerate(part, 1)}
 
 
 def run(words, folder=None, given=b""):
@@ -94,37 +114,35 @@ def run(words, folder=None, given=b""):
         return process.communicate()[0], f"none after {SECONDS} s"
 
 
-def differs(name, shown, printed, note):
-    """Tells what a page shows and what was printed, and that this is no pass."""
-    print(f"{name}: {note}; what the page has, and what was printed:", file=sys.stderr)
+def differs(shown, printed, note):
+    """A result that says what a page shows and what was printed."""
     page, here = (text.split("\n") for text in (shown, printed.decode(errors="backslashreplace")))
-    print(*difflib.unified_diff(page, here, "page", "printed", lineterm=""), sep="\n", file=sys.stderr)
-    return False
+    return Result("\n".join([f"{note}:", *difflib.unified_diff(page, here, "page", "printed", lineterm="")]))
 
 
-def shell(name, case, folder):
-    printed, status = run(["bash", "-c", case.text], folder)
-    shown = case.shown or ""
+def shell(block, folder):
+    printed, status = run(["bash", "-c", block.text], folder)
+    shown = block.shown or ""
     if printed == shown.encode() and status == 0:
-        return True
-    return differs(name, shown, printed, f"status {status}, wanted 0")
+        return Result()
+    return differs(shown, printed, f"status {status}, wanted 0")
 
 
-def script(name, case, folder, before):
-    """Whether the lines of a block get the replies that the page shows, behind the lines before it."""
-    front, _ = run(["groupsh"], folder, before.encode())
-    whole, _ = run(["groupsh"], folder, (before + case.text).encode())
-    printed = whole[len(front) :]
-    if case.shown is None:
+def script(block, folder, before):
+    """Whether the lines of a block get the replies that the page shows, after the lines before it."""
+    prefix, _ = run(["groupsh"], folder, before.encode())
+    whole, _ = run(["groupsh"], folder, (before + block.text).encode())
+    printed = whole[len(prefix) :]
+    if block.shown is None:
         replies = [line for line in printed.decode().splitlines() if line.startswith(("ok", "err"))]
         accepted = bool(replies) and all(re.fullmatch(r"ok \d+", reply) for reply in replies)
-        return accepted or differs(name, "ok each time\n", printed, "a line is refused")
-    return printed == case.shown.encode() or differs(name, case.shown, printed, "other replies")
+        return Result() if accepted else differs("ok each time\n", printed, "a line is refused")
+    return Result() if printed == block.shown.encode() else differs(block.shown, printed, "other replies")
 
 
-def editor(name, case, folder):
+def editor(block, folder):
     """Whether Vim goes to the reports of examples/mistakes.gq by these commands."""
-    lines = [line.strip().removeprefix(":") for line in case.text.splitlines()]
+    lines = [line.strip().removeprefix(":") for line in block.text.splitlines()]
     lines[-1] = "silent " + lines[-1]
     place = "call writefile([line('.') . ':' . col('.')], 'places', 'a')"
     words = itertools.chain.from_iterable(("-c", line) for line in [*lines, place, "silent cnext", place, "quitall!"])
@@ -132,58 +150,62 @@ def editor(name, case, folder):
     places = Path(folder, "places")
     found = places.read_bytes() if places.exists() else b""
     wanted = "".join(":".join(line.split(":")[1:3]) + "\n" for line in Path(folder, "examples/mistakes.out").read_text().splitlines()[:2])
-    return found == wanted.encode() or differs(name, wanted, found, "other places")
+    return Result() if found == wanted.encode() else differs(wanted, found, "other places")
 
 
-def grammar(name, case, grammars):
+def grammar(block, grammars):
     """Whether each page that has the grammar of commands has the same."""
-    if "command " not in case.text:
-        return True
-    first = grammars.setdefault("command", case.text)
-    return first == case.text or differs(name, first, case.text.encode(), "another grammar")
+    if "command " not in block.text:
+        return Result()
+    first = grammars.setdefault("command", block.text)
+    return Result() if first == block.text else differs(first, block.text.encode(), "another grammar")
 
 
-def passes(name, case, folder, before, grammars):
-    if case.kind == "sh":
-        return shell(name, case, folder)
-    if case.kind == "gq":
-        return script(name, case, folder, before)
-    if case.kind == "vim":
-        return editor(name, case, folder)
-    if case.kind == "ebnf":
-        return grammar(name, case, grammars)
-    print(f"{name}: a block of no kind that is tried:\n{case.text}", file=sys.stderr)
-    return False
+def try_block(block, folder, before, missing, grammars):
+    for tool, reason in missing.items():
+        if re.search(rf"\b{tool}\b", block.text if block.kind == "sh" else block.kind):
+            return Result(left_out=reason)
+    if block.kind == "sh":
+        return shell(block, folder)
+    if block.kind == "gq":
+        return script(block, folder, before)
+    if block.kind == "vim":
+        return editor(block, folder)
+    if block.kind == "ebnf":
+        return grammar(block, grammars)
+    return Result(f"a block of no kind that is tried:\n{block.text}")
 
 
-def result(name, case, folder, before, wanting, grammars):
-    for tool, words in wanting.items():
-        if re.search(rf"\b{tool}\b", case.text if case.kind == "sh" else case.kind):
-            return f"{words} here, so not tried: {name}"
-    return f"{0 if passes(name, case, folder, before, grammars) else 1} {name}"
+def missing_tools():
+    """The tools that can't be used here, each with the reason."""
+    return {tool: reason for tool, (probe, reason) in PROBES.items() if run(probe)[1] != 0}
 
 
-def try_part(root, part, wanting, grammars):
-    """Tries the cases under one heading, in a folder of their own."""
+def try_part(root, part, missing, grammars):
+    """The results of the blocks under one heading, in a folder of their own."""
+    results, before = {}, ""
     with tempfile.TemporaryDirectory() as folder:
         for name in ("groupsh", "examples", "docs"):
             os.symlink(root / name, Path(folder) / name)
-        before = ""
-        for number, case in enumerate(part, 1):
-            name = f"{case.page}, {case.heading or 'the top'}, {number}"
-            print(result(name, case, folder, before, wanting, grammars), flush=True)
-            if case.kind == "gq":
-                before += case.text
+        for name, block in part.items():
+            results[name] = try_block(block, folder, before, missing, grammars)
+            if block.kind == "gq":
+                before += block.text
+    return results
 
 
 def main():
     root = Path(sys.argv[1]).resolve()
-    wanting = {tool: words for tool, (probe, words) in PROBES.items() if run(probe)[1] != 0}
-    grammars = {}
+    missing, grammars = missing_tools(), {}
     for page in sys.argv[2:]:
-        found = cases(page, (root / page).read_text(encoding="utf-8"))
-        for _, part in itertools.groupby(found, key=lambda case: case.heading):
-            try_part(root, list(part), wanting, grammars)
+        for part in parts(root, page):
+            for name, result in try_part(root, part, missing, grammars).items():
+                if result.left_out:
+                    print(f"{result.left_out} here, so not tried: {name}")
+                    continue
+                print(f"{1 if result.failure else 0} {name}", flush=True)
+                if result.failure:
+                    print(f"{name}: {result.failure}", file=sys.stderr)
 
 
 if __name__ == "__main__":

@@ -1,0 +1,286 @@
+"""The launcher: over the built program, and with a stand-in for the toolchain, when it builds and what it says."""
+
+import os
+import re
+import shutil
+import signal
+import subprocess
+import tempfile
+import time
+from collections.abc import Iterable
+from dataclasses import dataclass
+from functools import partial
+from pathlib import Path
+
+from case import ROOT, Check, Contains, Outcome, Text, judge, once, path_without, run
+from samples import FIRST, FIRST_REPLIES, OTHER, REFUSED, REFUSED_REPLIES
+
+SUBJECT = "the launcher"
+CRATES = ("gq_low", "gq_side", "gq_middle")
+MANIFEST = """# crates
+gq_low: smallvec
+gq_side:
+gq_middle: gq_low gq_side
+gq_shell: gq_middle clap # the program
+gq_apart:
+"""
+# What the log has of a build from nothing.
+FROM_NOTHING = [
+    *(f"lib jobs in out/N/crates/{name}" for name in CRATES),
+    *(f"it proves {name}, with what was kept: " for name in CRATES),
+    "run jobs in crates/gq_shell",
+]
+ALL_PROVED = "groupsh: proved 4 of 4 crates, 0 min"
+
+
+def through_link(stdin: str, *args: str) -> Outcome:
+    """A run of the launcher from another folder, through a link, on a file with FIRST."""
+    with tempfile.TemporaryDirectory() as name:
+        folder = Path(name)
+        (folder / "link").symlink_to(ROOT / "groupsh")
+        (folder / "first").write_text(FIRST)
+        words = [str(folder / word) if word == "first" else word for word in args]
+        return run([folder / "link", *words], folder=Path("/"), stdin=stdin)
+
+
+def over_program(name: str, stdin: str, *args: str, status: int = 0, stdout: Text = "", stderr: Text | Contains = "") -> Check:
+    return Check(name, lambda: judge(through_link(stdin, *args), status, stdout, stderr))
+
+
+class Kit:
+    """A repository of small crates, with a stand-in for `rt`."""
+
+    def __init__(self) -> None:
+        self.root = Path(tempfile.mkdtemp())
+        for name in ("gq_shell", "gq_apart", *CRATES):
+            (self.root / "crates" / name / "src").mkdir(parents=True)
+        for name in ("groupsh", "build", "HANDLES"):
+            shutil.copy(ROOT / name, self.root)
+        (self.root / "crates.txt").write_text(MANIFEST)
+        (self.root / "bin").mkdir()
+        shutil.copy(ROOT / "tests/stand_in_rt", self.root / "bin/rt")
+
+    @property
+    def out(self) -> Path:
+        return self.root / "crates/gq_shell/out"
+
+    def env(self) -> dict[str, str]:
+        return {"KIT": str(self.root), "PATH": f"{self.root / 'bin'}{os.pathsep}{os.environ['PATH']}"}
+
+    def launch(self, *args: str) -> Outcome:
+        return run([self.root / "groupsh", *args], env=self.env())
+
+    def touch(self, path: str) -> None:
+        (self.root / path).touch()
+
+    def log(self) -> list[str]:
+        """The lines of the log, sorted, with `jobs` for any number of jobs and `N` for the name of any copy."""
+        text = (self.out / "groupsh.log").read_text()
+        return sorted(re.sub(r"out/\w+", "out/N", re.sub(r"--jobs \d+", "jobs", text)).splitlines())
+
+
+def built() -> Kit:
+    """A repository whose program is built."""
+    kit = Kit()
+    judge(kit.launch(), 7, "\n", Contains("first use"))
+    return kit
+
+
+@dataclass(frozen=True)
+class FirstUse:
+    """A repository after the first use of its launcher, and after the second."""
+
+    kit: Kit
+    first: Outcome
+    log: list[str]
+    second: Outcome
+
+
+@once
+def first_use() -> FirstUse:
+    kit = Kit()
+    first = kit.launch("a", "b c")
+    return FirstUse(kit, first, kit.log(), kit.launch())
+
+
+def first_use_says(text: str) -> None:
+    assert text.encode() in first_use().first.stderr, first_use().first
+
+
+def first_use_builds() -> None:
+    judge(first_use().first, 7, "a b c\n", Contains("first use"))
+
+
+def says_where_to_look() -> None:
+    first_use_says(f"{first_use().kit.out}/groupsh.log")
+
+
+def proves_each_crate_once() -> None:
+    assert first_use().log == sorted(FROM_NOTHING), first_use().log
+
+
+def has_proof(name: str) -> None:
+    out = first_use().kit.root / "crates" / name / "out"
+    assert [(out / path).read_text() for path in ("rlib/stamp", "incremental/kept")] == [f"{name}\n"] * 2
+
+
+def no_copy_is_left() -> None:
+    assert not (first_use().kit.root / "out").exists()
+
+
+def builds_once() -> None:
+    judge(first_use().second, 7, "\n")
+
+
+@once
+def after_change(source: str) -> list[Outcome]:
+    """Two launches after a source has changed."""
+    kit = built()
+    kit.touch(source)
+    return [kit.launch(), kit.launch()]
+
+
+def of_change(source: str) -> Iterable[Check]:
+    yield Check(
+        f"the launcher builds after a change of {source}",
+        lambda: judge(after_change(source)[0], 7, "\n", Contains("a source changed")),
+    )
+    yield Check(f"and once, after a change of {source}", lambda: judge(after_change(source)[1], 7, "\n"))
+
+
+def crate_apart() -> None:
+    kit = built()
+    kit.touch("crates/gq_apart/src/lib.rt")
+    judge(kit.launch(), 7, "\n")
+
+
+@once
+def after_failure(step: str) -> tuple[Kit, Outcome, list[str]]:
+    """A launch in which a command of `rt` fails, and its log."""
+    kit = built()
+    kit.touch("crates.txt")
+    kit.touch(f"{step}-fails")
+    outcome = kit.launch()
+    return kit, outcome, kit.log()
+
+
+def of_failure(step: str, what: str) -> Iterable[Check]:
+    def says_why() -> None:
+        assert "it fails" in after_failure(step)[2]
+
+    error = Contains(f"it could not be {what}")
+    yield Check(f"what can't be {what}, in {step}", lambda: judge(after_failure(step)[1], 125, "", error))
+    yield Check(f"the log says why it can't be {what}, in {step}", says_why)
+
+
+def after_copies_were_left() -> None:
+    kit, _, _ = after_failure("lib")
+    (kit.root / "lib-fails").unlink()
+    kit.touch("crates/gq_low/src/other.rt")
+    judge(kit.launch(), 7, "\n", Contains("a source changed"))
+
+
+def no_place_for_copies() -> None:
+    kit = built()
+    kit.touch("crates.txt")
+    kit.touch("out")
+    judge(kit.launch(), 125, "", Contains("it could not be proved"))
+
+
+@once
+def after_loss() -> tuple[Outcome, list[str]]:
+    """A launch after one library was removed, and its log."""
+    kit = built()
+    shutil.rmtree(kit.root / "crates/gq_low/out/rlib")
+    kit.touch("crates.txt")
+    return kit.launch(), kit.log()
+
+
+def library_is_gone() -> None:
+    judge(after_loss()[0], 7, "\n", Contains(ALL_PROVED))
+
+
+def rest_stays_proved() -> None:
+    proved_again = "it proves gq_low, with what was kept: gq_low"
+    assert after_loss()[1] == sorted([proved_again, *(line for line in FROM_NOTHING if not line.startswith("it proves"))])
+
+
+def is_running(process: int) -> bool:
+    """Whether a process runs. One that has ended may still have an entry."""
+    try:
+        return Path(f"/proc/{process}/stat").read_text().rpartition(")")[2].split()[0] != "Z"
+    except FileNotFoundError:
+        return False
+
+
+@once
+def interrupted(step: str) -> tuple[Outcome, int]:
+    """A launch that is ended while a command of `rt` runs, and the number of that process."""
+    kit = built()
+    kit.touch("crates.txt")
+    slow = kit.root / f"{step}-slow"
+    slow.touch()
+    env = {**os.environ, **kit.env()}
+    with tempfile.TemporaryFile() as stdout, tempfile.TemporaryFile() as stderr:
+        launcher = subprocess.Popen([kit.root / "groupsh"], stdin=subprocess.DEVNULL, stdout=stdout, stderr=stderr, env=env)
+        while not slow.read_text().endswith("\n"):
+            assert launcher.poll() is None, "the launcher has ended"
+            time.sleep(0.05)
+        launcher.send_signal(signal.SIGTERM)
+        status = launcher.wait(60)
+        stdout.seek(0)
+        stderr.seek(0)
+        return Outcome(status, stdout.read(), stderr.read()), int(slow.read_text())
+
+
+def of_interrupt(step: str) -> Iterable[Check]:
+    def nothing_goes_on() -> None:
+        assert not is_running(interrupted(step)[1])
+
+    wanted = Contains("a source changed")
+    yield Check(f"the launcher, interrupted in {step}", lambda: judge(interrupted(step)[0], 130, "", wanted))
+    yield Check(f"nothing goes on behind the launcher, in {step}", nothing_goes_on)
+
+
+def folder_that_cannot_be_written() -> None:
+    kit = built()
+    shutil.rmtree(kit.out)
+    kit.out.touch()
+    judge(kit.launch(), 125, "", Contains("can't be written"))
+
+
+def no_toolchain() -> None:
+    kit = Kit()
+    judge(run([kit.root / "groupsh"], env={"PATH": path_without("rt")}), 125, "", Contains("there is no 'rt'"))
+
+
+CASES = [
+    over_program("the launcher", OTHER, "first", stdout=FIRST_REPLIES),
+    over_program("the launcher, reading its standard input", REFUSED, status=1, stdout=REFUSED_REPLIES),
+    over_program("the launcher and a seed", OTHER, "--seed", "7", "first", stdout=FIRST_REPLIES),
+    over_program("the launcher and a mistake", "", "a", "b", status=2, stderr=Contains("Usage: groupsh")),
+    Check("the launcher's first use builds", first_use_builds),
+    Check("the launcher says where to look", says_where_to_look),
+    Check("the launcher tells how far it is", partial(first_use_says, "groupsh: proved 3 of 4 crates, 0 min")),
+    Check("the launcher tells that all is proved", partial(first_use_says, ALL_PROVED)),
+    Check("the launcher proves each crate once, in copies, those below it first", proves_each_crate_once),
+    *[Check(f"what a copy proved of {name} stands with the sources", partial(has_proof, name)) for name in CRATES],
+    Check("no copy is left", no_copy_is_left),
+    Check("the launcher builds once", builds_once),
+    *[
+        check
+        for source in ("crates/gq_shell/src/main.rt", "crates/gq_low/src/lib.rt", "crates.txt")
+        for check in of_change(source)
+    ],
+    Check("a crate apart makes no build", crate_apart),
+    *of_failure("lib", "proved"),
+    *of_failure("run", "proved and built"),
+    Check("the launcher, after copies were left", after_copies_were_left),
+    Check("no place for copies", no_place_for_copies),
+    Check("the launcher, where one library is gone", library_is_gone),
+    Check("what is proved stays so, and what is not begins with what was kept", rest_stays_proved),
+    *of_interrupt("lib"),
+    *of_interrupt("run"),
+    Check("a folder that can't be written", folder_that_cannot_be_written),
+    Check("no toolchain", no_toolchain),
+]
