@@ -1,4 +1,4 @@
-"""The launcher: over the built program, and with a stand-in for the toolchain, when it builds and what it says."""
+"""The launcher over the built program, and with a stand-in for the toolchain: when it builds and what it says. ./try, too."""
 
 import os
 import re
@@ -54,7 +54,7 @@ class Kit:
         self.root = Path(tempfile.mkdtemp())
         for name in ("gq_shell", "gq_apart", *CRATES):
             (self.root / "crates" / name / "src").mkdir(parents=True)
-        for name in ("groupsh", "build", "HANDLES"):
+        for name in ("groupsh", "build", "try", "HANDLES"):
             shutil.copy(ROOT / name, self.root)
         (self.root / "crates.txt").write_text(MANIFEST)
         (self.root / "bin").mkdir()
@@ -254,6 +254,26 @@ def no_toolchain() -> None:
     judge(run([kit.root / "groupsh"], env={"PATH": path_without("rt")}), 125, "", Contains("there is no 'rt'"))
 
 
+@once
+def tried() -> tuple[Kit, Outcome]:
+    """A run of ./try on a script and a table in its folder."""
+    kit = Kit()
+    (kit.root / "first").write_text(FIRST)
+    words = ["./try", "--seed=7", "-tfirst", "first", "-t", "t=first", "none"]
+    return kit, run(words, folder=kit.root, env=kit.env())
+
+
+def try_runs_program() -> None:
+    kit, outcome = tried()
+    first = kit.root / "first"
+    judge(outcome, 7, f"try -- --seed=7 -t{first} {first} -t t={first} none in crates/gq_shell\n", Contains("unproved"))
+
+
+def try_has_errors_of_program() -> None:
+    last = tried()[1].stderr.decode().splitlines()[1:]
+    assert last == ["an error of the program"], last
+
+
 CASES = [
     over_program("the launcher", OTHER, "first", stdout=FIRST_REPLIES),
     over_program("the launcher, reading its standard input", REFUSED, status=1, stdout=REFUSED_REPLIES),
@@ -283,4 +303,6 @@ CASES = [
     *of_interrupt("run"),
     Check("a folder that can't be written", folder_that_cannot_be_written),
     Check("no toolchain", no_toolchain),
+    Check("./try runs the program on files with absolute names", try_runs_program),
+    Check("./try has the errors of the program and no other", try_has_errors_of_program),
 ]
