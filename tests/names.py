@@ -52,8 +52,8 @@ def words_in(*paths):
 def words_of(root):
     """All words of the sources, and the names of files."""
     folders = [root / "tests", root / "examples", *root.glob("crates/*/[!o]*/")]
-    files = [path for folder in folders for path in folder.rglob("*") if path.is_file()]
-    files += [root / name for name in ("crates.txt", "groupsh", "test", "bench")]
+    files = [path for folder in folders for path in folder.rglob("*") if path.is_file() and path.suffix != ".pyc"]
+    files += [root / name for name in ("crates.txt", "groupsh", "build", "try", "package", "test", "bench")]
     return words_in(*files).union(*(WORD.findall(path.stem) for path in files))
 
 
