@@ -1,4 +1,4 @@
-"""Makes CSV of a spreadsheet's export: commas in place of semicolons, and a column's amounts as whole cents."""
+"""Makes CSV of a spreadsheet's export: commas instead of semicolons, and a column's amounts as whole cents."""
 import csv
 import sys
 from decimal import Decimal

@@ -1,4 +1,4 @@
-"""Writes null in the place of each empty field of a CSV text, from standard input to standard output."""
+"""Replaces each empty field of a CSV text by null, from standard input to standard output."""
 import csv
 import sys
 

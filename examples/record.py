@@ -1,4 +1,4 @@
-"""Prints a record of a CSV file, counted from 1 behind the header as refusals count: record.py FILE NUMBER"""
+"""Prints a record of a CSV file, counted from 1 after the header, as refusals count: record.py FILE NUMBER"""
 import csv
 import itertools
 import sys
