@@ -1,4 +1,4 @@
-# Numbers the replies to a script, and sets their rows in: awk -f examples/numbered.awk SCRIPT REPLIES
+# Numbers the replies to a script and indents their rows: awk -f examples/numbered.awk SCRIPT REPLIES
 FNR == NR { if (inside) { inside = !/^\\\.\r?$/; next }
             if (/^[ \t]*(--|\r?$)/) next
             word = tolower($0); sub(/^[ \t]+/, "", word); sub(/[^a-z0-9_].*/, "", word)
