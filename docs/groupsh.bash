@@ -3,7 +3,7 @@
 
 _groupsh() {
   local word=${COMP_WORDS[COMP_CWORD]} at=$((COMP_CWORD - 1)) before=
-  # Bash takes the sign of `--seed=7` for a word.
+  # Bash splits `--seed=7` at the sign.
   if [[ $word == "=" ]]; then
     word=
   elif ((at > 0)) && [[ ${COMP_WORDS[at]} == "=" ]]; then
