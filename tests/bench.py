@@ -1,13 +1,13 @@
-"""Groups tables by groupsh and by other programs, and prints what each takes, one line for each shape of table.
+"""Groups tables with groupsh and other programs, and prints what each takes, one line for each shape of table.
 
-    bench.py GROUPSH [ROWS]
+    bench.py GROUPSH [--markdown] [ROWS]
 
-A table has a number of its own for each row, a key, and a number from 0 to 999. Few (a hundred), many (a tenth) or all of the
-keys differ, or a fifth of them, for which groupsh keeps 10,000 groups at once; they are numbers, or texts of 8 to 16 letters.
-Each program reads the same CSV file, counts, sums and takes the least and the greatest number of each key, and writes its
-answer in the order of the keys. "load" is groupsh reading the file alone. The programs take turns, three rounds, and the least
-processor time of each counts, with the greatest memory of it. Answers are compared: where one differs from groupsh's,
-that is said, and the status is 1.
+A table has a row number, a key, and a number from 0 to 999. Few (a hundred), many (a tenth) or all of the keys are distinct, or a
+fifth of them, for which groupsh keeps 10,000 groups at once; they are numbers, or texts of 8 to 16 letters. Each program reads the
+same CSV file, computes count, sum, minimum and maximum for each key, and writes its answer in the order of the keys. "load" is
+groupsh reading the file alone. The programs take turns, three rounds; the best processor time counts, with its maximum memory.
+Answers are compared, and if one differs from that of groupsh, the status is 1. With --markdown the lines are a table, as in
+docs/SPEED.md.
 """
 
 import filecmp
@@ -20,7 +20,7 @@ import tempfile
 
 ROUNDS = 3
 QUERY = "count(*), sum(x), min(x), max(x)"
-# What `./groupsh` tells the C library.
+# As `./groupsh` sets it.
 LARGE_PAGES = ["env", "GLIBC_TUNABLES=glibc.malloc.hugetlb=1"]
 
 
@@ -86,14 +86,14 @@ def mawk(program, folder, kind, budget):
 
 
 def keep_rows(name, output, kept):
-    """Puts the rows of an answer into a file: groupsh's come behind four replies' lines, and sqlite3 puts texts with spaces in
-    quotes. Not within this program, whose own size would count as that of the programs that it starts."""
+    """Writes the rows of an answer to a file. Those of groupsh follow four lines of replies, and sqlite3 quotes texts with spaces.
+    Other programs do that, since this one's memory would count as that of the programs that it starts."""
     first = 5 if name == "groupsh" else 1
     subprocess.run(["sh", "-c", f"tail -n +{first} {output} | tr -d '\\r\"' >{kept}"], check=True)
 
 
 def run(command, output):
-    """Processor seconds and greatest memory, in MB, of a command and all that it starts."""
+    """Processor seconds and maximum memory, in MB, of a command and all that it starts."""
     with open(output, "wb") as file:
         child = subprocess.Popen(command, stdout=file, stdin=subprocess.DEVNULL)
         _, status, usage = os.wait4(child.pid, 0)
@@ -103,8 +103,23 @@ def run(command, output):
     return usage.ru_utime + usage.ru_stime, usage.ru_maxrss / 1024
 
 
+def row_of(cells, markdown):
+    """A row of the report."""
+    if markdown:
+        return f"| {' | '.join(cells)} |"
+    return f"{cells[0]:14}" + "".join(f"{cell:>18}" for cell in cells[1:])
+
+
+def measured(seconds, memory, markdown):
+    """What a program took."""
+    return f"{seconds:.2f}, {memory:.0f} MB" if markdown else f"{seconds:.2f} ({memory:5.0f})"
+
+
 def main():
-    rows = int(sys.argv[2]) if len(sys.argv) > 2 else 1_000_000
+    options = sys.argv[2:]
+    markdown = "--markdown" in options
+    numbers = [option for option in options if option != "--markdown"]
+    rows = int(numbers[0]) if numbers else 1_000_000
     programs = {"groupsh": (groupsh, sys.argv[1]), "load": (load, sys.argv[1])}
     for name, makes in (("sqlite3", sqlite3), ("mawk", mawk)):
         where = shutil.which(name)
@@ -112,7 +127,10 @@ def main():
             programs[name] = (makes, where)
     print(f"{rows} rows; group by city: {QUERY}; processor seconds (and MB), the least of {ROUNDS} rounds")
     others = [name for name in programs if name not in ("groupsh", "load")]
-    print(f"{'keys':14}" + "".join(f"{name:>18}" for name in programs) + "".join(f"{name + '/groupsh':>18}" for name in others))
+    names = ["keys", *programs, *(f"{name}/groupsh" for name in others)]
+    print(("\n" if markdown else "") + row_of(names, markdown))
+    if markdown:
+        print("|---" * len(names) + "|")
     differ = False
     for shape, kind, key, budget in shapes(rows):
         with tempfile.TemporaryDirectory() as folder:
@@ -124,9 +142,9 @@ def main():
                     output = os.path.join(folder, "answer")
                     least[name] = min(least[name], run(command, output))
                     keep_rows(name, output, os.path.join(folder, name))
-            cells = "".join(f"{seconds:10.2f} ({memory:5.0f})" for seconds, memory in least.values())
-            ratios = "".join(f"{least[name][0] / least['groupsh'][0]:18.1f}" for name in others)
-            print(f"{shape:14}{cells}{ratios}", flush=True)
+            cells = [measured(*taken, markdown) for taken in least.values()]
+            ratios = [f"{least[name][0] / least['groupsh'][0]:.1f}" for name in others]
+            print(row_of([shape, *cells, *ratios], markdown), flush=True)
             for name in others:
                 if not filecmp.cmp(os.path.join(folder, name), os.path.join(folder, "groupsh"), shallow=False):
                     print(f"the answer of {name} differs")
