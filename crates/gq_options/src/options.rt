@@ -38,7 +38,7 @@ pub struct Options<'a> {
     pub script: Option<&'a str>,
     /// The tables to load before the script, each `FILE` or `NAME=FILE`, as given.
     pub tables: Vec<&'a str>,
-    /// The commands to run in place of a script. If there are any, `script` is `None`.
+    /// The commands to run instead of a script. If there are any, `script` is `None`.
     pub commands: Vec<&'a str>,
     /// How the results of queries are written.
     pub output: Output,
@@ -48,7 +48,7 @@ pub struct Options<'a> {
     pub seed: Seed,
     /// How many groups are kept in memory at once: 1 to 1,048,576. No reply depends on it.
     pub budget: u64,
-    /// The folder where rows that are put aside stand. Without one they stand in memory.
+    /// The folder for spilled rows. Without one they are in memory.
     pub spill: Option<&'a str>,
     /// Whether the work of the groupings is reported.
     pub stats: bool,
@@ -65,7 +65,7 @@ pub enum BadLine {
     /// The version was asked for; its text, for the standard output.
     #[error("{0}")]
     Version(String),
-    /// The words are no command line of the program; what is wrong with them, for the standard
+    /// The words are not a command line of the program; what is wrong with them, for the standard
     /// error.
     #[error("{0}")]
     Mistake(String),
@@ -81,8 +81,8 @@ const VERSION: &str = "0.1.0 (rattle-kit-13f logic dac8208d650f15bf)";
 const ABOUT: &str =
     "Groups rows of CSV files and of tables in memory: counts, sums, minimum and maximum values.
 
-Each line of the script is a command, and each command gets a reply. Tables are kept in memory until
-the script ends.";
+Each line of the script is a command, and each command gets a reply. Tables are in memory until the
+script ends.";
 
 const MORE: &str = "Example:
   groupsh -t cities.csv -c 'group cities by country show count(*)' -o csv
@@ -100,23 +100,24 @@ Its last reply, as CSV under a line that counts its rows:
   Oslo,2
   Rome,1
 
-A command that is refused is answered `err CODE NAME` and changes nothing.
+A refused command is answered `err CODE NAME` and changes nothing.
 docs/LANGUAGE.md has all commands, values, replies and refusals.
 
-To have it in the PATH, in the folder of the launcher:
+To put it into the PATH, in the folder of the launcher:
   mkdir -p ~/.local/bin && ln -s \"$PWD/groupsh\" ~/.local/bin/
 
 Exit status:
   0  all commands were accepted; with --check, each line is a command
-  1  a command or the file of a table was refused; with --check, some line is no command
+  1  a command or the file of a table was refused; with --check, a line is not a command
   2  the command line is wrong
-  3  a file can't be read, a reply can't be written, or there was no memory, or no random seed, to
-     begin with";
+  3  a file can't be read, a reply can't be written, or there is no memory or no random seed at the
+     start";
 
 const TABLE_HELP: &str =
     "Load a CSV file as a table, named after the file unless NAME is given; may be repeated";
 
-const COMMAND_HELP: &str = "Run these commands, one a line, in place of a script; may be repeated";
+const COMMAND_HELP: &str =
+    "Run these commands, one on each line, instead of a script; may be repeated";
 
 const OUTPUT_HELP: &str = "How results are written: replies, csv, json or box";
 
@@ -124,10 +125,10 @@ const RAGGED_HELP: &str =
     "Complete records of a CSV file that have fewer fields than its header with nulls";
 
 const STATS_HELP: &str =
-    "Tell on standard error, at the end, what grouping took: rows, groups, runs; and a random seed";
+    "Report on standard error, at the end, what grouping took: rows, groups, runs; and a random seed";
 
 const CHECK_HELP: &str =
-    "Run nothing: tell each line that is no command, as FILE:LINE:COLUMN: MESSAGE";
+    "Run nothing; report each line that is not a command, as FILE:LINE:COLUMN: MESSAGE";
 
 fn table_option<'a>(alloc: Global) -> Arg<'a>
     ensures rule { rule_of result ≡ TABLE }
@@ -161,7 +162,7 @@ fn budget_option<'a>(alloc: Global) -> Arg<'a>
         .value_parser(value_parser!(u64).range(1..=1_048_576))
         .default_value("65536")
         .help(
-            "Groups to keep at once, up to 1048576: rows of others are put aside; no reply depends on it",
+            "Groups to keep at once, up to 1048576; rows of others are spilled; no reply depends on it",
         )
 }
 
@@ -170,7 +171,7 @@ fn seed_option<'a>(alloc: Global) -> Arg<'a>
     ensures local { result.global ≡ false }
 {
     valued(alloc, "seed", "N").default_value("0").help(
-        "Seed of the hash that tables use, or `random`; no reply depends on it",
+        "Seed of the hash tables, or `random`; no reply depends on it",
     )
 }
 
@@ -178,9 +179,7 @@ fn spill_option<'a>(alloc: Global) -> Arg<'a>
     ensures rule { rule_of result ≡ SPILL }
     ensures local { result.global ≡ false }
 {
-    valued(alloc, "spill", "DIR").help(
-        "Folder for the rows that are put aside; without it, they stay in memory",
-    )
+    valued(alloc, "spill", "DIR").help("Folder for spilled rows; without it, they are in memory")
 }
 
 // An option with one value, by its long name.
