@@ -52,16 +52,22 @@ fn a_fault_of_a_reader(rt: HostRuntime) -> Result<(), Fail> {
 }
 
 const COMMANDS: [(Refusal, &str); 7] = [
-    (Refusal::Syntax, "no command"),
-    (Refusal::NoTable, "no such table"),
-    (Refusal::TypeMismatch, "the values don't fit the columns"),
-    (Refusal::NullKey, "null in a key column"),
+    (Refusal::Syntax, "the line is not a command"),
+    (Refusal::NoTable, "no table has that name"),
+    (
+        Refusal::TypeMismatch,
+        "a value has the wrong type, or there are too many or too few values",
+    ),
+    (Refusal::NullKey, "a key column would be null"),
     (
         Refusal::FieldCount,
-        "more or fewer fields than the header has",
+        "the record has more or fewer fields than the header",
     ),
     (Refusal::Memory, "out of memory"),
-    (Refusal::LoadOpen, "the payload was not closed"),
+    (
+        Refusal::LoadOpen,
+        "the script ends before the line that closes the payload",
+    ),
 ];
 
 #[test]

@@ -21,4 +21,4 @@ mod refusal;
 mod shown;
 
 pub use format::{Format, result_text, separator};
-pub use refusal::{RefusalText, refusal_text, refusal_words};
+pub use refusal::{RefusalText, refusal_text};

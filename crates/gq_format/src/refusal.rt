@@ -2,7 +2,7 @@
 ghost use Rattle.std.specs.Prelude.{◌≡◌, ◌≤◌, ◌++◌, ◌+◌, decimal, length};
 ghost use Rattle.arrayvec.specs.ArrayString.{array_string_len};
 ghost use Rattle.gq_reply.specs.Replies.{record_number};
-ghost use Rattle.gq_format.specs.Refusals.{refusal_text, words_of};
+ghost use Rattle.gq_format.specs.Refusals.{refusal_text};
 
 use arrayvec::ArrayString;
 use gq_reply::Refusal;
@@ -23,7 +23,7 @@ pub fn refusal_text(line: u64, code: Refusal, number: Option<u64>) -> RefusalTex
     push_record(&mut text, number);
     text.push_str("\n");
     text.push_str("  ");
-    text.push_str(refusal_words(code));
+    text.push_str(code.words());
     text.push_str("\n");
     text
 }
@@ -48,33 +48,4 @@ fn push_number(text: &mut RefusalText, word: &str, number: u64)
     let mut digits = Buffer::new();
     text.push_str(word);
     text.push_str(digits.format(number));
-}
-
-/// What a refusal means, in plain words.
-pub fn refusal_words(code: Refusal) -> &'static str
-    ensures words { result.now ≡ words_of code }
-    ensures short { length result.now ≤ 80 }
-{
-    match code {
-        Refusal::Syntax => "the line is not a command",
-        Refusal::LineTooLong => "the line is too long",
-        Refusal::NoTable => "no table has that name",
-        Refusal::TableExists => "a table of that name exists already",
-        Refusal::NoColumn => "no column of the table has that name",
-        Refusal::TypeMismatch =>
-            "a value has the wrong type, or there are too many or too few values",
-        Refusal::NoKey => "the table has no key",
-        Refusal::NullKey => "a key column would be null",
-        Refusal::Header => "the header does not name each column of the table once",
-        Refusal::FieldCount => "the record has more or fewer fields than the header",
-        Refusal::BadInt => "a field is not a whole number of 64 bits",
-        Refusal::BadText => "a field is not UTF-8",
-        Refusal::SumRange => "a sum does not fit a whole number of 64 bits",
-        Refusal::Limit =>
-            "a name, a text, a payload, a table, the database or the result is too large",
-        Refusal::Memory => "out of memory",
-        Refusal::StoreFault => "spilled rows could not be written or read",
-        Refusal::Damaged => "spilled rows did not read back as they were written",
-        Refusal::LoadOpen => "the script ends before the line that closes the payload",
-    }
 }

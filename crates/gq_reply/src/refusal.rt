@@ -1,6 +1,6 @@
 //! Why a command is refused.
 ghost use Rattle.std.specs.Prelude.{◌≡◌, ◌≤◌, length};
-ghost use Rattle.gq_reply.specs.Refusals.{unnumbered};
+ghost use Rattle.gq_reply.specs.Refusals.{unnumbered, words_of};
 ghost use Rattle.gq_reply.specs.Replies.{code_of, name_of};
 ghost use Rattle.gq_reply.specs.declared.refusal.Refusal.TheVariants.{Memory};
 
@@ -103,34 +103,44 @@ impl Refusal {
         }
     }
 
-    // What it says to a reader.
-    fn message(self) -> &'static str {
+    /// What it means, in plain words.
+    pub fn words(self) -> &'static str
+        ensures words { result.now ≡ words_of self }
+        ensures short { length result.now ≤ 80 }
+    {
         match self {
-            Refusal::Syntax => "no command",
+            Refusal::Syntax => "the line is not a command",
             Refusal::LineTooLong => "the line is too long",
-            Refusal::NoTable => "no such table",
-            Refusal::TableExists => "there is such a table already",
-            Refusal::NoColumn => "no such column",
-            Refusal::TypeMismatch => "the values don't fit the columns",
+            Refusal::NoTable => "no table has that name",
+            Refusal::TableExists => "a table of that name exists already",
+            Refusal::NoColumn => "no column of the table has that name",
+            Refusal::TypeMismatch =>
+                "a value has the wrong type, or there are too many or too few values",
             Refusal::NoKey => "the table has no key",
-            Refusal::NullKey => "null in a key column",
-            Refusal::Header => "the header does not name each column once",
-            Refusal::FieldCount => "more or fewer fields than the header has",
-            Refusal::BadInt => "a field is no whole number of 64 bits",
+            Refusal::NullKey => "a key column would be null",
+            Refusal::Header => "the header does not name each column of the table once",
+            Refusal::FieldCount => "the record has more or fewer fields than the header",
+            Refusal::BadInt => "a field is not a whole number of 64 bits",
             Refusal::BadText => "a field is not UTF-8",
-            Refusal::SumRange => "a sum is no whole number of 64 bits",
-            Refusal::Limit => "past a limit",
+            Refusal::SumRange => "a sum does not fit a whole number of 64 bits",
+            Refusal::Limit =>
+                "a name, a text, a payload, a table, the database or the result is too large",
             Refusal::Memory => "out of memory",
-            Refusal::StoreFault => "the run store failed",
-            Refusal::Damaged => "the run store did not read back what was written",
-            Refusal::LoadOpen => "the payload was not closed",
+            Refusal::StoreFault => "spilled rows could not be written or read",
+            Refusal::Damaged => "spilled rows did not read back as they were written",
+            Refusal::LoadOpen => "the script ends before the line that closes the payload",
         }
     }
 }
 
 impl fmt::Display for Refusal {
+    ghost use Rattle.std.specs.Prelude.{Some};
+    ghost use Rattle.gq_reply.specs.Refusals.{words_of};
+
+    ghost output = { λ why. Some (words_of why) };
+
     fn fmt<W: fmt::Write>(&self, f: &mut fmt::Formatter<W>) -> fmt::Result {
-        f.write_str(self.message())
+        f.write_str(self.words())
     }
 }
 

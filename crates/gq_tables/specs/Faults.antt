@@ -6,7 +6,7 @@ use Rattle.gq_reply.specs.declared.refusal.Refusal.{Refusal}
 use Rattle.gq_reply.specs.declared.refusal.Refusal.TheVariants as refusal
 use Rattle.gq_reply.specs.declared.refusal.Refused.{Refused}
 use Rattle.gq_reply.specs.Replies.{code_of, name_of, record_number}
-use Rattle.gq_format.specs.Refusals.{words_of}
+use Rattle.gq_reply.specs.Refusals.{words_of}
 use Rattle.gq_tables.specs.declared.fault.Why.{Why}
 use Rattle.gq_tables.specs.declared.fault.Why.TheVariants as why
 

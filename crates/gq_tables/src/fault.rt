@@ -4,7 +4,6 @@ ghost use Rattle.gq_reply.specs.Replies.{record_number};
 ghost use Rattle.gq_tables.specs.Faults.{can_complete, code_and_name, hint, meaning, refusal_told};
 
 use gq_engine::{CsvFault, Refusal, Refused, Short};
-use gq_format::refusal_words;
 use gq_infer::InferFault;
 use itoa::Buffer;
 use std::alloc::{AllocError, Global};
@@ -144,7 +143,7 @@ fn push_meaning(text: &mut String, why: Refusal, short: Short) -> Result<(), All
     ensures { OnOk result (string_bytes text.new ≡ string_bytes text.old ++ meaning short why) }
 {
     text.push_str("\n  ")?;
-    text.push_str(refusal_words(why))?;
+    text.push_str(why.words())?;
     text.push_str(hint(can_complete(short, why)))?;
     text.push_str("\n")
 }
