@@ -1,5 +1,5 @@
 -- A payload, line by line, among items with numbers.
-use Rattle.std.proofs.Common.{◌≡◌, ℕ, suc, Bool, true, false, cond, List, [], ◌∷◌, ◌++◌, Option, Some, None, refl, sym, ap, ◌∙◌}
+use Rattle.std.proofs.Common.{◌≡◌, ℕ, suc, Bool, true, false, List, [], ◌∷◌, ◌++◌, Option, Some, None, refl, sym, ap, ◌∙◌}
 use Rattle.std.specs.Prelude.{IfSome}
 use Rattle.std.specs.Io.KnownBytes.{Consumes}
 use Rattle.gq_row.specs.declared.limits.Bounds.{Bounds}
@@ -8,10 +8,11 @@ use Rattle.gq_script.specs.Script.{Stream, Loading, content, is_end_mark, payloa
 use Rattle.gq_script.specs.Payloads.{TookPayloadLine, Unclosed}
 use Rattle.gq_script.specs.declared.payload.Kept.{Kept}
 use Rattle.gq_script.proofs.Front.{Known}
+use Rattle.gq_command.proofs.NumberLemmas.{ends_here, goes_on, left_open, no_items}
 use Rattle.gq_check.specs.declared.fault.Fault.{Fault}
 use Rattle.gq_check.specs.declared.fault.Fault.TheVariants as why
 use Rattle.gq_check.specs.Findings.{payload_fault}
-use Rattle.gq_check.specs.Numbering.{Begun, Numbered, numbered_by}
+use Rattle.gq_script.specs.Numbering.{Begun, Numbered, numbered_by}
 use Rattle.gq_check.specs.Passing.{IsPassed, PassedPayload}
 
 abbrev begun-with : ℕ → Bytes → Bytes → Begun
@@ -24,16 +25,6 @@ WalkedBy b n k now m front = IfSome k (λ xs. (ys : Bytes) × (now ≡ Some ys) 
 pub walked-none : (b : Bounds) (n : ℕ) (k : Known) → WalkedBy b n k k n []
 walked-none b n None = tt
 walked-none b n (Some xs) = (xs, refl, λ number line. refl)
-
-goes-on : (b : Bounds) (m : ℕ) (begun : Begun) (raw : Bytes) (ls : List Bytes) → is_end_mark (content raw) ≡ false
-    → numbered_by (takes_payload b) m (Some begun) (raw ∷ ls) ≡ numbered_by (takes_payload b) (suc m) (Some (record begun { payload = begun.payload ++ raw })) ls
-unfolding numbered_by
-goes-on b m begun raw ls e = ap (λ (t : Bool). cond t ((record { number = begun.number; entry = Loading begun.line (Some begun.payload) }) ∷ numbered_by (takes_payload b) (suc m) None ls) (numbered_by (takes_payload b) (suc m) (Some (record begun { payload = begun.payload ++ raw })) ls)) e
-
-ends-here : (b : Bounds) (m : ℕ) (begun : Begun) (raw : Bytes) (ls : List Bytes) → is_end_mark (content raw) ≡ true
-    → numbered_by (takes_payload b) m (Some begun) (raw ∷ ls) ≡ (record { number = begun.number; entry = Loading begun.line (Some begun.payload) }) ∷ numbered_by (takes_payload b) (suc m) None ls
-unfolding numbered_by
-ends-here b m begun raw ls e = ap (λ (t : Bool). cond t ((record { number = begun.number; entry = Loading begun.line (Some begun.payload) }) ∷ numbered_by (takes_payload b) (suc m) None ls) (numbered_by (takes_payload b) (suc m) (Some (record begun { payload = begun.payload ++ raw })) ls)) e
 
 some-is : {A : Type 0} (x y : A) → Some x ≡ Some y → x ≡ y
 some-is x y e = cc
@@ -51,7 +42,7 @@ by-line b n m m1 (Some xs) (Some zs) (Some ws) front raw num w c f e =
           w.2 number line
           ∙ ap (λ (y : Bytes). numbered_by (takes_payload b) m (Some (begun-with number line front)) (raw_lines y)) (sym same)
           ∙ ap (numbered_by (takes_payload b) m (Some (begun-with number line front))) f
-          ∙ goes-on b m (begun-with number line front) raw (raw_lines ws) e
+          ∙ goes_on (takes_payload b) m (begun-with number line front) raw (raw_lines ws) e
           ∙ ap (λ (j : ℕ). numbered_by (takes_payload b) j (Some (begun-with number line (front ++ raw))) (raw_lines ws)) (sym num),
     )
 
@@ -74,7 +65,7 @@ by-mark b n m m1 (Some xs) (Some zs) (Some ws) front raw f num fault w c h e =
             w.2 number line
             ∙ ap (λ (y : Bytes). numbered_by (takes_payload b) m (Some (begun-with number line front)) (raw_lines y)) (sym same)
             ∙ ap (numbered_by (takes_payload b) m (Some (begun-with number line front))) h
-            ∙ ends-here b m (begun-with number line front) raw (raw_lines ws) e
+            ∙ ends_here (takes_payload b) m (begun-with number line front) raw (raw_lines ws) e
             ∙ ap (λ (j : ℕ). (record { number = number; entry = Loading line (Some front) }) ∷ numbered_by (takes_payload b) j None (raw_lines ws)) (sym num);
         fault = fault;
       },
@@ -85,27 +76,6 @@ pub passed-mark : (b : Bounds) (n m m1 : ℕ) (old now after : Stream) (most : �
 passed-mark b n m m1 old now after most p q ends front f t num e fault w = by-mark b n m m1 old.left now.left after.left front t.raw f num fault w t.taken.bytes_are t.first (sym t.told ∙ e)
 
 -- a payload that no line ends
-
-open-left : (b : Bounds) (m : ℕ) (begun : Begun) (ls : List Bytes) → payload_of ls ≡ None → numbered_by (takes_payload b) m (Some begun) ls ≡ (record { number = begun.number; entry = Loading begun.line None }) ∷ []
-unfolding numbered_by
-open-left b m begun [] e = refl
-open-left b m begun (l ∷ ls) e = by-end (is_end_mark (content l)) refl (payload_of ls) refl (λ g. open-left b (suc m) (record begun { payload = begun.payload ++ l }) ls g)
-  where
-    by-end : (t : Bool) → is_end_mark (content l) ≡ t → (o : Option (Bytes × List Bytes)) → payload_of ls ≡ o
-        → (payload_of ls ≡ None → numbered_by (takes_payload b) (suc m) (Some (record begun { payload = begun.payload ++ l })) ls ≡ (record { number = begun.number; entry = Loading begun.line None }) ∷ [])
-        → numbered_by (takes_payload b) m (Some begun) (l ∷ ls) ≡ (record { number = begun.number; entry = Loading begun.line None }) ∷ []
-    by-end true f o g next =
-        let closes : payload_of (l ∷ ls) ≡ Some ([], ls) = ap (λ (t : Bool). cond t (Some ([], ls)) (elim (payload_of ls) [ None ↦ None | Some x ↦ Some (l ++ x.0, x.1) ])) f in
-        let bad : ◌≡◌ {A = Option (Bytes × List Bytes)} None (Some ([], ls)) = sym e ∙ closes in absurd cc
-    by-end false f None g next = goes-on b m begun l ls f ∙ next g
-    by-end false f (Some x) g next =
-        let on : payload_of (l ∷ ls) ≡ elim (payload_of ls) [ None ↦ None | Some x ↦ Some (l ++ x.0, x.1) ] = ap (λ (t : Bool). cond t (Some ([], ls)) (elim (payload_of ls) [ None ↦ None | Some x ↦ Some (l ++ x.0, x.1) ])) f in
-        let told : elim (payload_of ls) [ None ↦ None | Some x ↦ Some (l ++ x.0, x.1) ] ≡ Some (l ++ x.0, x.1) = ap (λ (o : Option (Bytes × List Bytes)). elim o [ None ↦ None | Some x ↦ Some (l ++ x.0, x.1) ]) g in
-        let bad : ◌≡◌ {A = Option (Bytes × List Bytes)} None (Some (l ++ x.0, x.1)) = sym e ∙ on ∙ told in absurd cc
-
-pub none-left : (b : Bounds) (m : ℕ) → numbered_by (takes_payload b) m None [] ≡ []
-unfolding numbered_by
-none-left b m = refl
 
 by-open : (b : Bounds) (n m : ℕ) (k now after : Known) (front : Bytes) → WalkedBy b n k now m front → IfSome now (λ xs. (payload_of (raw_lines xs) ≡ None) × (after ≡ Some []))
     → IfSome k (λ bytes. (rest : Bytes) × (after ≡ Some rest) × ((number : ℕ) (line : Bytes) → IsPassed b (begun-with number line []) n bytes (Some why.LoadOpen) m rest))
@@ -120,8 +90,8 @@ by-open b n m (Some xs) (Some zs) after front w h =
         items =
             w.2 number line
             ∙ ap (λ (y : Bytes). numbered_by (takes_payload b) m (Some (begun-with number line front)) (raw_lines y)) (sym same)
-            ∙ open-left b m (begun-with number line front) (raw_lines zs) h.0
-            ∙ ap (λ (xs : List Numbered). (record { number = number; entry = Loading line None }) ∷ xs) (sym (none-left b m));
+            ∙ left_open (takes_payload b) m (begun-with number line front) (raw_lines zs) h.0
+            ∙ ap (λ (xs : List Numbered). (record { number = number; entry = Loading line None }) ∷ xs) (sym (no_items (takes_payload b) m));
         fault = refl;
       },
     )

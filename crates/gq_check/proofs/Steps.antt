@@ -12,30 +12,20 @@ use Rattle.gq_check.specs.declared.fault.Fault.TheVariants as why
 use Rattle.gq_check.specs.declared.report.Report.{Report}
 use Rattle.gq_check.specs.Findings.{IsFaultOf}
 use Rattle.gq_check.specs.Passing.{IsPassed, PassedPayload}
-use Rattle.gq_check.specs.Numbering.{Numbered, numbered_by, numbered_left}
+use Rattle.gq_script.specs.Numbering.{Numbered, numbered_by, numbered_left}
 use Rattle.gq_check.specs.Reports.{Between, IsOneLine, IsReportOf, Place, Reports, limit_message}
 use Rattle.gq_check.specs.Stepping.{IsTaken, TookItem, items_from}
 use Rattle.gq_check.proofs.Faults.{either, with-payload}
-use Rattle.gq_check.proofs.Passed.{none-left}
+use Rattle.gq_command.proofs.NumberLemmas.{item_line, no_items, skipped_line}
 
 abbrev place : Known → ℕ → Place
 place left lines = record { left = left; lines = lines }
-
-skipped-line : (b : Bounds) (n : ℕ) (raw : Bytes) (ls : List Bytes) → is_skipped (content raw) ≡ true → numbered_by (takes_payload b) n None (raw ∷ ls) ≡ numbered_by (takes_payload b) (suc n) None ls
-unfolding numbered_by
-skipped-line b n raw ls e =
-    ap (λ (t : Bool). cond t (numbered_by (takes_payload b) (suc n) None ls) (cond (takes_payload b (content raw)) (numbered_by (takes_payload b) (suc n) (Some (record { number = suc n; line = content raw; payload = [] })) ls) ((record { number = suc n; entry = Plain (content raw) }) ∷ numbered_by (takes_payload b) (suc n) None ls))) e
-
-item-line : (b : Bounds) (n : ℕ) (raw ys : Bytes) → is_skipped (content raw) ≡ false → numbered_by (takes_payload b) n None (raw ∷ raw_lines ys) ≡ items_from b (suc n) (content raw) ys
-unfolding numbered_by
-item-line b n raw ys e =
-    ap (λ (t : Bool). cond t (numbered_by (takes_payload b) (suc n) None (raw_lines ys)) (cond (takes_payload b (content raw)) (numbered_by (takes_payload b) (suc n) (Some (record { number = suc n; line = content raw; payload = [] })) (raw_lines ys)) ((record { number = suc n; entry = Plain (content raw) }) ∷ numbered_by (takes_payload b) (suc n) None (raw_lines ys)))) e
 
 -- the end
 pub at-end : (b : Bounds) (n : ℕ) (k : Known) → IsAtEnd k → IfSome k (λ bytes. Reports b (numbered_left b n bytes) [])
 at-end b n None e = tt
 at-end b n (Some xs) e =
-    subst (λ (items : List Numbered). Reports b items []) (sym (ap (λ (l : Bytes). numbered_by (takes_payload b) n None (raw_lines l)) e ∙ none-left b n)) refl
+    subst (λ (items : List Numbered). Reports b items []) (sym (ap (λ (l : Bytes). numbered_by (takes_payload b) n None (raw_lines l)) e ∙ no_items (takes_payload b) n)) refl
 
 -- a blank line or a comment
 pub passed-over : (b : Bounds) (n m : ℕ) (k after : Known) (raw : Bytes) → m ≡ suc n → Consumes k after raw → IfSome k (λ xs. IfSome after (λ ys. raw_lines xs ≡ raw ∷ raw_lines ys)) → is_skipped (content raw) ≡ true
@@ -44,7 +34,7 @@ passed-over b n m None after raw num c f e = tt
 passed-over b n m (Some xs) None raw num c f e = absurd c
 passed-over b n m (Some xs) (Some ys) raw num c f e =
     let same : numbered_left b n xs ≡ numbered_left b m ys =
-    ap (numbered_by (takes_payload b) n None) f ∙ skipped-line b n raw (raw_lines ys) e ∙ ap (λ (j : ℕ). numbered_left b j ys) (sym num) in
+    ap (numbered_by (takes_payload b) n None) f ∙ skipped_line (takes_payload b) n raw (raw_lines ys) e ∙ ap (λ (j : ℕ). numbered_left b j ys) (sym num) in
     (ys, refl, [], same, refl)
 
 abbrev one : Option Report → List Report
@@ -74,7 +64,7 @@ item-taken b n m number (Some xs) (Some ys) after raw f o num c h e taken tells 
     let t = taken.2 in
     let x : Numbered = record { number = number; entry = t.entry } in
     let same : numbered_left b n xs ≡ x ∷ numbered_left b m taken.0 =
-    ap (numbered_by (takes_payload b) n None) h ∙ item-line b n raw ys e ∙ ap (λ (j : ℕ). items_from b j (content raw) ys) (sym num) ∙ t.items in
+    ap (numbered_by (takes_payload b) n None) h ∙ item_line (takes_payload b) n raw (raw_lines ys) e ∙ ap (λ (j : ℕ). items_from b j (content raw) ys) (sym num) ∙ t.items in
     (taken.0, taken.1, x ∷ [], same, single b x f o t.fault (tells x refl t.line_is t.fault))
 
 -- one place after the other

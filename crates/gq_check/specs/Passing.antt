@@ -5,7 +5,7 @@ use Rattle.gq_token.specs.Texts.{Bytes}
 use Rattle.gq_script.specs.Script.{Stream, Loading, raw_lines, takes_payload}
 use Rattle.gq_check.specs.declared.fault.Fault.{Fault}
 use Rattle.gq_check.specs.Findings.{payload_fault}
-use Rattle.gq_check.specs.Numbering.{Begun, numbered_by}
+use Rattle.gq_script.specs.Numbering.{Begun, numbered_by}
 
 -- so many more bytes may come behind these, or they are past the limit
 abbrev pub HasRoom : ℕ → Option ℕ → Bytes → Type 0

@@ -11,7 +11,7 @@ use Rattle.gq_check.specs.declared.fault.Fault.{Fault}
 use Rattle.gq_check.specs.declared.fault.Fault.TheVariants as why
 use Rattle.gq_check.specs.declared.report.Report.{Report}
 use Rattle.gq_check.specs.Findings.{IsFaultOf}
-use Rattle.gq_check.specs.Numbering.{Numbered, numbered, numbered_left}
+use Rattle.gq_script.specs.Numbering.{Numbered, numbered, numbered_left}
 
 -- the message of a refusal by a limit: its name, and what it is of
 abbrev pub limit_message : Fault → Bytes

@@ -7,7 +7,7 @@ use Rattle.gq_check.specs.declared.fault.Fault.{Fault}
 use Rattle.gq_check.specs.declared.checker.Step.{Step}
 use Rattle.gq_check.specs.declared.checker.Step.TheVariants as step
 use Rattle.gq_check.specs.Findings.{IsFaultOf}
-use Rattle.gq_check.specs.Numbering.{Numbered, numbered_by, numbered_left}
+use Rattle.gq_script.specs.Numbering.{Numbered, numbered_by, numbered_left}
 use Rattle.gq_check.specs.Reports.{Between, Place, Reports}
 
 -- the items from a line with this number on, where these lines follow it

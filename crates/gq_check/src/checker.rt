@@ -138,7 +138,7 @@ impl<R: Read> Model for Checker<R> {
 impl<R: Read> Checker<R> {
     ghost use Rattle.std.specs.Prelude.{◌≡◌, [], ◌∷◌, Some, IfOk, IfSome, IfNone};
     ghost use Rattle.gq_script.specs.Script.{without_mark};
-    ghost use Rattle.gq_check.specs.Numbering.{numbered_left};
+    ghost use Rattle.gq_script.specs.Numbering.{numbered_left};
     ghost use Rattle.gq_check.specs.Reports.{Between, Reports};
     ghost use Rattle.gq_check.specs.Stepping.{Stepped};
 

@@ -4,6 +4,7 @@ pub mod Line
 pub mod LoadWord
 pub mod Loaded
 pub mod Names
+pub mod NumberLemmas
 pub mod OneReading
 pub mod Passing
 pub mod Sound

@@ -1,5 +1,5 @@
 -- Lines that are passed, and the first that isn't.
-use Rattle.std.proofs.Common.{◌≡◌, ℕ, ◌+◌, Bool, true, false, cond, List, [], ◌∷◌, ◌++◌, length, Option, Some, None, refl, sym, ap, subst, ◌∙◌, arith, length-append, append_assoc}
+use Rattle.std.proofs.Common.{◌≡◌, ℕ, suc, ◌+◌, Bool, true, false, cond, List, [], ◌∷◌, ◌++◌, length, Option, Some, None, refl, sym, ap, subst, ◌∙◌, arith, length-append, append_assoc}
 use Rattle.std.specs.Prelude.{IfSome}
 use Rattle.std.proofs.lemmas.List.{append-nil}
 use Rattle.std.specs.Io.KnownBytes.{Consumes, IsAtEnd}
@@ -7,11 +7,13 @@ use Rattle.gq_row.specs.declared.limits.Bounds.{Bounds}
 use Rattle.gq_command.specs.declared.reader.Item.{Item}
 use Rattle.gq_script.specs.declared.gather.OpenLine.{OpenLine}
 use Rattle.gq_command.specs.Commands.{Bytes}
-use Rattle.gq_script.specs.Script.{Stream, Takes, raw_lines, content, is_skipped, first_entry, Passed, Counts, Plain, Entry, Loading, first_entry_by, entries_by, InOrder, payload_of, is_end_mark, items_left, takes_payload}
+use Rattle.gq_script.specs.Script.{Stream, Takes, raw_lines, content, is_skipped, first_entry, Counts, Plain, Entry, Loading, first_entry_by, entries_by, InOrder, payload_of, is_end_mark, items_left, takes_payload}
+use Rattle.gq_script.specs.Numbering.{Numbered, Passed, numbered_by, numbered_left}
 use Rattle.gq_script.specs.declared.payload.Kept.{Kept}
 use Rattle.gq_script.specs.Gathering.{TookLine}
 use Rattle.gq_script.specs.Payloads.{IsPayloadOf, KeptTold, TookPayload}
 use Rattle.gq_command.specs.Items.{Gave, IsReadAs}
+use Rattle.gq_command.proofs.NumberLemmas.{begun_at, closed_after, left_open, load_line, no_items, plain_line, skipped_line}
 use Rattle.gq_script.proofs.Front.{Known, Rises}
 
 some_is : {A : Type 0} (x y : A) → Some x ≡ Some y → x ≡ y
@@ -96,36 +98,46 @@ first_of bounds raw ls t e f =
     ap (λ (a : Bool). cond a (first_entry bounds ls) (cond (takes_payload bounds (content raw)) (with_told (content raw) (payload_of ls)) (Some (Plain (content raw), ls)))) e
     ∙ ap (λ (a : Bool). cond a (with_told (content raw) (payload_of ls)) (Some (Plain (content raw), ls))) f
 
-abbrev pub PassedBy : Bounds → Known → Known → ℕ → ℕ → Type 0
-PassedBy bounds k m g0 g1 = IfSome k (λ xs. (ys : Bytes) × (m ≡ Some ys) × (first_entry bounds (raw_lines xs) ≡ first_entry bounds (raw_lines ys)) × (g1 + length ys ≡ g0 + length xs))
+abbrev pub PassedBy : Bounds → Known → Known → ℕ → ℕ → ℕ → ℕ → Type 0
+PassedBy bounds k m g0 g1 l0 l1 = IfSome k (λ xs. (ys : Bytes) × (m ≡ Some ys) × (first_entry bounds (raw_lines xs) ≡ first_entry bounds (raw_lines ys)) × (g1 + length ys ≡ g0 + length xs) × (numbered_left bounds l0 xs ≡ numbered_left bounds l1 ys))
 
-by_none : (bounds : Bounds) (k : Known) (g : ℕ) → PassedBy bounds k k g g
-by_none bounds None g = tt
-by_none bounds (Some xs) g = (xs, refl, refl, refl)
+by_none : (bounds : Bounds) (k : Known) (g l : ℕ) → PassedBy bounds k k g g l l
+by_none bounds None g l = tt
+by_none bounds (Some xs) g l = (xs, refl, refl, refl, refl)
 
 pub passed_none : (bounds : Bounds) (s : Stream) → Passed bounds s s
-passed_none bounds s = by_none bounds s.left s.given
+passed_none bounds s = by_none bounds s.left s.given s.lines
 
-by_line : (bounds : Bounds) (k m n : Known) (g0 g1 g2 : ℕ) (raw : Bytes) → PassedBy bounds k m g0 g1 → Consumes m n raw → Rises m g1 g2 (length raw) → IfSome m (λ xs. IfSome n (λ ys. raw_lines xs ≡ raw ∷ raw_lines ys)) → is_skipped (content raw) ≡ true
-    → PassedBy bounds k n g0 g2
-by_line bounds None m n g0 g1 g2 raw h c g f e = tt
-by_line bounds (Some xs) None n g0 g1 g2 raw h c g f e = let q = h.1 in absurd cc
-by_line bounds (Some xs) (Some zs) None g0 g1 g2 raw h c g f e = absurd c
-by_line bounds (Some xs) (Some zs) (Some ws) g0 g1 g2 raw h c g f e =
+-- the line of a place, and its number
+at_line : (bounds : Bounds) (xs ys zs ws : Bytes) (l0 l1 : ℕ) (raw : Bytes) → numbered_left bounds l0 xs ≡ numbered_left bounds l1 ys → zs ≡ ys → raw_lines zs ≡ raw ∷ raw_lines ws → numbered_left bounds l0 xs ≡ numbered_by (takes_payload bounds) l1 None (raw ∷ raw_lines ws)
+at_line bounds xs ys zs ws l0 l1 raw h same f = h ∙ ap (λ (l : Bytes). numbered_left bounds l1 l) (sym same) ∙ ap (numbered_by (takes_payload bounds) l1 None) f
+
+by_line : (bounds : Bounds) (k m n : Known) (g0 g1 g2 l0 l1 l2 : ℕ) (raw : Bytes) → PassedBy bounds k m g0 g1 l0 l1 → Consumes m n raw → Rises m g1 g2 (length raw) → IfSome m (λ xs. IfSome n (λ ys. raw_lines xs ≡ raw ∷ raw_lines ys)) → l2 ≡ l1 + 1 → is_skipped (content raw) ≡ true
+    → PassedBy bounds k n g0 g2 l0 l2
+by_line bounds None m n g0 g1 g2 l0 l1 l2 raw h c g f l e = tt
+by_line bounds (Some xs) None n g0 g1 g2 l0 l1 l2 raw h c g f l e = let q = h.1 in absurd cc
+by_line bounds (Some xs) (Some zs) None g0 g1 g2 l0 l1 l2 raw h c g f l e = absurd c
+by_line bounds (Some xs) (Some zs) (Some ws) g0 g1 g2 l0 l1 l2 raw h c g f l e =
     let same : zs ≡ h.0 = some_is zs h.0 h.1 in
     let len : length zs ≡ length raw + length ws = ap length c ∙ length-append raw ws in
     let len1 : length zs ≡ length h.0 = ap length same in
     let len2 : g1 + length h.0 ≡ g0 + length xs = h.3 in
-    (ws, refl, h.2 ∙ ap (λ (l : Bytes). first_entry bounds (raw_lines l)) (sym same) ∙ ap (first_entry bounds) f ∙ first_skipped bounds raw (raw_lines ws) e, omega arith)
+    let next : suc l1 ≡ l2 = omega arith in (
+      ws,
+      refl,
+      h.2 ∙ ap (λ (l : Bytes). first_entry bounds (raw_lines l)) (sym same) ∙ ap (first_entry bounds) f ∙ first_skipped bounds raw (raw_lines ws) e,
+      omega arith,
+      at_line bounds xs h.0 zs ws l0 l1 raw h.4 same f ∙ skipped_line (takes_payload bounds) l1 raw (raw_lines ws) e ∙ ap (λ (j : ℕ). numbered_left bounds j ws) next,
+    )
 
 pub passed_line : (bounds : Bounds) (a b c : Stream) (line : OpenLine) (t : TookLine bounds b c line) → Passed bounds a b → is_skipped (content t.raw) ≡ true → Passed bounds a c
-passed_line bounds a b c line t h e = by_line bounds a.left b.left c.left a.given b.given c.given t.raw h t.taken.bytes_are t.taken.counted t.first e
+passed_line bounds a b c line t h e = by_line bounds a.left b.left c.left a.given b.given c.given a.lines b.lines c.lines t.raw h t.taken.bytes_are t.taken.counted t.first t.lines e
 
-by_end : (bounds : Bounds) (k m n : Known) (g0 g1 g2 : ℕ) → PassedBy bounds k m g0 g1 → Consumes m n [] → IsAtEnd m → Rises m g1 g2 0 → IfSome k (λ xs. (items_left bounds xs ≡ []) × (n ≡ Some [])) × IfSome k (λ xs. IfSome n (λ ys. g2 + length ys ≡ g0 + length xs))
-by_end bounds None m n g0 g1 g2 h c e g = (tt, tt)
-by_end bounds (Some xs) None n g0 g1 g2 h c e g = let q = h.1 in absurd cc
-by_end bounds (Some xs) (Some zs) None g0 g1 g2 h c e g = absurd c
-by_end bounds (Some xs) (Some zs) (Some ws) g0 g1 g2 h c e g =
+by_end : (bounds : Bounds) (k m n : Known) (g0 g1 g2 l0 l1 : ℕ) → PassedBy bounds k m g0 g1 l0 l1 → Consumes m n [] → IsAtEnd m → Rises m g1 g2 0 → IfSome k (λ xs. (items_left bounds xs ≡ []) × (n ≡ Some [])) × IfSome k (λ xs. IfSome n (λ ys. g2 + length ys ≡ g0 + length xs))
+by_end bounds None m n g0 g1 g2 l0 l1 h c e g = (tt, tt)
+by_end bounds (Some xs) None n g0 g1 g2 l0 l1 h c e g = let q = h.1 in absurd cc
+by_end bounds (Some xs) (Some zs) None g0 g1 g2 l0 l1 h c e g = absurd c
+by_end bounds (Some xs) (Some zs) (Some ws) g0 g1 g2 l0 l1 h c e g =
     let same : zs ≡ h.0 = some_is zs h.0 h.1 in
     let none : h.0 ≡ [] = sym same ∙ e in
     let none1 : ws ≡ [] = sym c ∙ e in
@@ -134,18 +146,20 @@ by_end bounds (Some xs) (Some zs) (Some ws) g0 g1 g2 h c e g =
     ((none_left bounds (raw_lines xs) (h.2 ∙ ap (λ (l : Bytes). first_entry bounds (raw_lines l)) none), ap Some none1), omega arith)
 
 pub passed_all : (bounds : Bounds) (a b c : Stream) → Passed bounds a b → Takes b c [] → IsAtEnd b.left → IfSome a.left (λ xs. (items_left bounds xs ≡ []) × (c.left ≡ Some [])) × Counts a c
-passed_all bounds a b c h t e = by_end bounds a.left b.left c.left a.given b.given c.given h t.bytes_are e t.counted
+passed_all bounds a b c h t e = by_end bounds a.left b.left c.left a.given b.given c.given a.lines b.lines h t.bytes_are e t.counted
 
-by_item : (bounds : Bounds) (k m n : Known) (g0 g1 g2 : ℕ) (raw : Bytes) (it : Item) → PassedBy bounds k m g0 g1 → Consumes m n raw → Rises m g1 g2 (length raw) → IfSome m (λ xs. IfSome n (λ ys. raw_lines xs ≡ raw ∷ raw_lines ys)) → is_skipped (content raw) ≡ false → takes_payload bounds (content raw) ≡ false
-    → IsReadAs bounds (Plain (content raw)) it → IfSome k (λ xs. Gave bounds xs n it) × IfSome k (λ xs. IfSome n (λ ys. g2 + length ys ≡ g0 + length xs))
-by_item bounds None m n g0 g1 g2 raw it h c g f e q i = (tt, tt)
-by_item bounds (Some xs) None n g0 g1 g2 raw it h c g f e q i = let none = h.1 in absurd cc
-by_item bounds (Some xs) (Some zs) None g0 g1 g2 raw it h c g f e q i = absurd c
-by_item bounds (Some xs) (Some zs) (Some ws) g0 g1 g2 raw it h c g f e q i =
+by_item : (bounds : Bounds) (k m n : Known) (g0 g1 g2 l0 l1 l2 number : ℕ) (raw : Bytes) (it : Item) → PassedBy bounds k m g0 g1 l0 l1 → Consumes m n raw → Rises m g1 g2 (length raw) → IfSome m (λ xs. IfSome n (λ ys. raw_lines xs ≡ raw ∷ raw_lines ys)) → l2 ≡ l1 + 1 → number ≡ l2 → is_skipped (content raw) ≡ false → takes_payload bounds (content raw) ≡ false
+    → IsReadAs bounds (Plain (content raw)) it → IfSome k (λ xs. Gave bounds l0 xs n l2 number it) × IfSome k (λ xs. IfSome n (λ ys. g2 + length ys ≡ g0 + length xs))
+by_item bounds None m n g0 g1 g2 l0 l1 l2 number raw it h c g f l num e q i = (tt, tt)
+by_item bounds (Some xs) None n g0 g1 g2 l0 l1 l2 number raw it h c g f l num e q i = let none = h.1 in absurd cc
+by_item bounds (Some xs) (Some zs) None g0 g1 g2 l0 l1 l2 number raw it h c g f l num e q i = absurd c
+by_item bounds (Some xs) (Some zs) (Some ws) g0 g1 g2 l0 l1 l2 number raw it h c g f l num e q i =
     let same : zs ≡ h.0 = some_is zs h.0 h.1 in
     let len : length zs ≡ length raw + length ws = ap length c ∙ length-append raw ws in
     let len1 : length zs ≡ length h.0 = ap length same in
     let len2 : g1 + length h.0 ≡ g0 + length xs = h.3 in
+    let next : suc l1 ≡ l2 = omega arith in
+    let named : suc l1 ≡ number = omega arith in
     let told : first_entry bounds (raw_lines xs) ≡ Some (Plain (content raw), raw_lines ws) = h.2 ∙ ap (λ (y : Bytes). first_entry bounds (raw_lines y)) (sym same) ∙ ap (first_entry bounds) f ∙ first_of bounds raw (raw_lines ws) false e q in (
       record {
         entry = Plain (content raw);
@@ -153,27 +167,43 @@ by_item bounds (Some xs) (Some zs) (Some ws) g0 g1 g2 raw it h c g f e q i =
         first = told;
         left_is = refl;
         order = next_left bounds (raw_lines xs) (Plain (content raw)) (raw_lines ws) told;
+        numbered =
+            at_line bounds xs h.0 zs ws l0 l1 raw h.4 same f
+            ∙ plain_line (takes_payload bounds) l1 raw (raw_lines ws) e q
+            ∙ ap (λ (j : ℕ). (record { number = suc l1; entry = Plain (content raw) }) ∷ numbered_left bounds j ws) next
+            ∙ ap (λ (j : ℕ). (record { number = j; entry = Plain (content raw) }) ∷ numbered_left bounds l2 ws) named;
         reads = i;
       },
       omega arith,
     )
 
-pub passed_to : (bounds : Bounds) (a b c : Stream) (line : OpenLine) (t : TookLine bounds b c line) (it : Item) → Passed bounds a b → is_skipped (content t.raw) ≡ false → takes_payload bounds (content t.raw) ≡ false → IsReadAs bounds (Plain (content t.raw)) it → IfSome a.left (λ xs. Gave bounds xs c.left it) × Counts a c
-passed_to bounds a b c line t it h e q i = by_item bounds a.left b.left c.left a.given b.given c.given t.raw it h t.taken.bytes_are t.taken.counted t.first e q i
+pub passed_to : (bounds : Bounds) (a b c : Stream) (line : OpenLine) (t : TookLine bounds b c line) (number : ℕ) (it : Item) → number ≡ c.lines → Passed bounds a b → is_skipped (content t.raw) ≡ false → takes_payload bounds (content t.raw) ≡ false → IsReadAs bounds (Plain (content t.raw)) it → IfSome a.left (λ xs. Gave bounds a.lines xs c.left c.lines number it) × Counts a c
+passed_to bounds a b c line t number it num h e q i = by_item bounds a.left b.left c.left a.given b.given c.given a.lines b.lines c.lines number t.raw it h t.taken.bytes_are t.taken.counted t.first t.lines num e q i
 
 -- a line with its payload
 
-gave_told : (bounds : Bounds) (xs : Bytes) (line : Bytes) (o : Option (Bytes × List Bytes)) (left : Known) (p : Option Kept) (it : Item) → first_entry bounds (raw_lines xs) ≡ with_told line o → IsPayloadOf bounds.payload o left p
-    → ((told : Option Bytes) → KeptTold bounds.payload told p → IsReadAs bounds (Loading line told) it) → Gave bounds xs left it
-gave_told bounds xs line None left p it e is reads = record {
+-- as many lines were counted as are no longer left, where a payload ends
+abbrev CountsLines : Known → Known → ℕ → ℕ → Option Kept → Type 0
+CountsLines n o l2 l3 p = IfSome p (λ _. IfSome n (λ xs. IfSome o (λ ys. l3 + length (raw_lines ys) ≡ l2 + length (raw_lines xs))))
+
+gave_told : (bounds : Bounds) (xs ws line : Bytes) (o : Option (Bytes × List Bytes)) (left : Known) (l0 l2 l3 number : ℕ) (p : Option Kept) (it : Item) → payload_of (raw_lines ws) ≡ o → first_entry bounds (raw_lines xs) ≡ with_told line o
+    → numbered_left bounds l0 xs ≡ numbered_by (takes_payload bounds) l2 (Some (begun_at number line)) (raw_lines ws) → IsPayloadOf bounds.payload o left p → CountsLines (Some ws) left l2 l3 p
+    → ((told : Option Bytes) → KeptTold bounds.payload told p → IsReadAs bounds (Loading line told) it) → Gave bounds l0 xs left l3 number it
+gave_told bounds xs ws line None left l0 l2 l3 number p it w e numbers is counts reads = record {
   entry = Loading line None;
   rest = [];
   first = e;
   left_is = is.1;
   order = next_left bounds (raw_lines xs) (Loading line None) [] e;
+  numbered =
+      numbers ∙ left_open (takes_payload bounds) l2 (begun_at number line) (raw_lines ws) w ∙ ap (λ (xs : List Numbered). (record { number = number; entry = Loading line None }) ∷ xs) (sym (no_items (takes_payload bounds) l3));
   reads = reads None is.0;
 }
-gave_told bounds xs line (Some x) left p it e is reads =
+gave_told bounds xs ws line (Some x) left l0 l2 l3 number None it w e numbers is counts reads = absurd is.3
+gave_told bounds xs ws line (Some x) left l0 l2 l3 number (Some p) it w e numbers is counts reads =
+    let few : l3 + length (raw_lines is.0) ≡ l2 + length (raw_lines ws) = subst (λ (o : Known). IfSome o (λ ys. l3 + length (raw_lines ys) ≡ l2 + length (raw_lines ws))) is.1 counts in
+    let same : length x.1 ≡ length (raw_lines is.0) = ap length is.2 in
+    let count : l3 + length x.1 ≡ l2 + length (raw_lines ws) = omega arith in
     let first : first_entry bounds (raw_lines xs) ≡ Some (Loading line (Some x.0), raw_lines is.0) = e ∙ ap (λ (ls : List Bytes). Some (Loading line (Some x.0), ls)) is.2 in
     record {
       entry = Loading line (Some x.0);
@@ -181,23 +211,32 @@ gave_told bounds xs line (Some x) left p it e is reads =
       first = first;
       left_is = is.1;
       order = next_left bounds (raw_lines xs) (Loading line (Some x.0)) (raw_lines is.0) first;
+      numbered =
+          numbers ∙ closed_after (takes_payload bounds) l2 l3 (begun_at number line) (raw_lines ws) x w count ∙ ap (λ (ls : List Bytes). (record { number = number; entry = Loading line (Some x.0) }) ∷ numbered_by (takes_payload bounds) l3 None ls) is.2;
       reads = reads (Some x.0) is.3;
     }
 
-by_load : (bounds : Bounds) (k m n o : Known) (g0 g1 g2 g3 : ℕ) (raw : Bytes) (p : Option Kept) (it : Item) → PassedBy bounds k m g0 g1 → Consumes m n raw → Rises m g1 g2 (length raw) → IfSome m (λ xs. IfSome n (λ ys. raw_lines xs ≡ raw ∷ raw_lines ys)) → is_skipped (content raw) ≡ false → takes_payload bounds (content raw) ≡ true
+by_load : (bounds : Bounds) (k m n o : Known) (g0 g1 g2 g3 l0 l1 l2 l3 number : ℕ) (raw : Bytes) (p : Option Kept) (it : Item) → PassedBy bounds k m g0 g1 l0 l1 → Consumes m n raw → Rises m g1 g2 (length raw) → IfSome m (λ xs. IfSome n (λ ys. raw_lines xs ≡ raw ∷ raw_lines ys)) → l2 ≡ l1 + 1 → number ≡ l2 → CountsLines n o l2 l3 p → is_skipped (content raw) ≡ false → takes_payload bounds (content raw) ≡ true
     → IfSome n (λ xs. IsPayloadOf bounds.payload (payload_of (raw_lines xs)) o p) → IfSome n (λ xs. IfSome o (λ ys. g3 + length ys ≡ g2 + length xs)) → ((told : Option Bytes) → KeptTold bounds.payload told p → IsReadAs bounds (Loading (content raw) told) it)
-    → IfSome k (λ xs. Gave bounds xs o it) × IfSome k (λ xs. IfSome o (λ ys. g3 + length ys ≡ g0 + length xs))
-by_load bounds None m n o g0 g1 g2 g3 raw p it h c g f e q is d reads = (tt, tt)
-by_load bounds (Some xs) None n o g0 g1 g2 g3 raw p it h c g f e q is d reads = let none = h.1 in absurd cc
-by_load bounds (Some xs) (Some zs) None o g0 g1 g2 g3 raw p it h c g f e q is d reads = absurd c
-by_load bounds (Some xs) (Some zs) (Some ws) o g0 g1 g2 g3 raw p it h c g f e q is d reads =
+    → IfSome k (λ xs. Gave bounds l0 xs o l3 number it) × IfSome k (λ xs. IfSome o (λ ys. g3 + length ys ≡ g0 + length xs))
+by_load bounds None m n o g0 g1 g2 g3 l0 l1 l2 l3 number raw p it h c g f l num counts e q is d reads = (tt, tt)
+by_load bounds (Some xs) None n o g0 g1 g2 g3 l0 l1 l2 l3 number raw p it h c g f l num counts e q is d reads = let none = h.1 in absurd cc
+by_load bounds (Some xs) (Some zs) None o g0 g1 g2 g3 l0 l1 l2 l3 number raw p it h c g f l num counts e q is d reads = absurd c
+by_load bounds (Some xs) (Some zs) (Some ws) o g0 g1 g2 g3 l0 l1 l2 l3 number raw p it h c g f l num counts e q is d reads =
     let same : zs ≡ h.0 = some_is zs h.0 h.1 in
     let len : length zs ≡ length raw + length ws = ap length c ∙ length-append raw ws in
     let len1 : length zs ≡ length h.0 = ap length same in
     let len2 : g1 + length h.0 ≡ g0 + length xs = h.3 in
     let first : first_entry bounds (raw_lines xs) ≡ with_told (content raw) (payload_of (raw_lines ws)) =
     h.2 ∙ ap (λ (y : Bytes). first_entry bounds (raw_lines y)) (sym same) ∙ ap (first_entry bounds) f ∙ first_of bounds raw (raw_lines ws) true e q in
-    (gave_told bounds xs (content raw) (payload_of (raw_lines ws)) o p it first is reads, by_left o d)
+    let next : suc l1 ≡ l2 = omega arith in
+    let named : suc l1 ≡ number = omega arith in
+    let numbers : numbered_left bounds l0 xs ≡ numbered_by (takes_payload bounds) l2 (Some (begun_at number (content raw))) (raw_lines ws) =
+    at_line bounds xs h.0 zs ws l0 l1 raw h.4 same f
+    ∙ load_line (takes_payload bounds) l1 raw (raw_lines ws) e q
+    ∙ ap (λ (j : ℕ). numbered_by (takes_payload bounds) j (Some (begun_at (suc l1) (content raw))) (raw_lines ws)) next
+    ∙ ap (λ (j : ℕ). numbered_by (takes_payload bounds) l2 (Some (begun_at j (content raw))) (raw_lines ws)) named in
+    (gave_told bounds xs ws (content raw) (payload_of (raw_lines ws)) o l0 l2 l3 number p it refl first numbers is counts reads, by_left o d)
   where
     by_left : (o : Known) → IfSome o (λ ys. g3 + length ys ≡ g2 + length ws) → IfSome o (λ ys. g3 + length ys ≡ g0 + length xs)
     by_left None d = tt
@@ -208,7 +247,7 @@ by_load bounds (Some xs) (Some zs) (Some ws) o g0 g1 g2 g3 raw p it h c g f e q 
         let len2 : g1 + length h.0 ≡ g0 + length xs = h.3 in
         omega arith
 
-pub passed_load : (bounds : Bounds) (a b c d : Stream) (line : OpenLine) (t : TookLine bounds b c line) (p : Option Kept) (it : Item) → Passed bounds a b → is_skipped (content t.raw) ≡ false → takes_payload bounds (content t.raw) ≡ true → TookPayload bounds.payload c d p
-    → ((told : Option Bytes) → KeptTold bounds.payload told p → IsReadAs bounds (Loading (content t.raw) told) it) → IfSome a.left (λ xs. Gave bounds xs d.left it) × Counts a d
-passed_load bounds a b c d line t p it h e q k reads =
-    by_load bounds a.left b.left c.left d.left a.given b.given c.given d.given t.raw p it h t.taken.bytes_are t.taken.counted t.first e q k.is k.counted reads
+pub passed_load : (bounds : Bounds) (a b c d : Stream) (line : OpenLine) (t : TookLine bounds b c line) (number : ℕ) (p : Option Kept) (it : Item) → number ≡ c.lines → Passed bounds a b → is_skipped (content t.raw) ≡ false → takes_payload bounds (content t.raw) ≡ true → TookPayload bounds.payload c d p
+    → ((told : Option Bytes) → KeptTold bounds.payload told p → IsReadAs bounds (Loading (content t.raw) told) it) → IfSome a.left (λ xs. Gave bounds a.lines xs d.left d.lines number it) × Counts a d
+passed_load bounds a b c d line t number p it num h e q k reads =
+    by_load bounds a.left b.left c.left d.left a.given b.given c.given d.given a.lines b.lines c.lines d.lines number t.raw p it h t.taken.bytes_are t.taken.counted t.first t.lines num k.lines e q k.is k.counted reads

@@ -12,6 +12,7 @@ use Rattle.gq_command.specs.declared.command.Command.TheVariants.{Load}
 use Rattle.gq_command.specs.Commands.{Bytes, is_command, is_open, as_said, fits}
 use Rattle.gq_command.specs.Lines.{Says}
 use Rattle.gq_script.specs.Script.{Entry, Plain, Loading, line_of, raw_lines, first_entry, items_left}
+use Rattle.gq_script.specs.Numbering.{numbered_left}
 
 -- what stands for the payload told, which is None where it is open
 abbrev pub StandsFor : ℕ → Option Bytes → Payload → Type 0
@@ -59,13 +60,14 @@ abbrev pub IsReady : Bounds → Item → Type 0
 IsReady b (item.Command c) = (is_command (as_said c) ≡ true) × (fits b c ≡ true)
 IsReady b (item.Refused r) = Unit {0}
 
--- of the bytes that were left the first entry was taken, with the blank lines and comments before it and nothing behind it, and this item was read from it
-pub record Gave (b : Bounds) (bytes : Bytes) (left : Option Bytes) (it : Item) : Type 0 where
+-- of the bytes that were left after n lines the first entry was taken, with the blank lines and comments before it and nothing after it; its line has this number, m lines came in all, and this item was read from it
+pub record Gave (b : Bounds) (n : ℕ) (bytes : Bytes) (left : Option Bytes) (m number : ℕ) (it : Item) : Type 0 where
   pub entry : Entry
   pub rest : Bytes
   pub first : first_entry b (raw_lines bytes) ≡ Some (entry, raw_lines rest)
   pub left_is : left ≡ Some rest
   pub order : items_left b bytes ≡ entry ∷ items_left b rest
+  pub numbered : numbered_left b n bytes ≡ (record { number = number; entry = entry }) ∷ numbered_left b m rest
   pub reads : IsReadAs b entry it
 
 -- the item with this payload, where it is a load
@@ -73,8 +75,10 @@ abbrev pub with_payload : Payload → Item → Item
 with_payload p (item.Command (Load table carried)) = item.Command (Load table p)
 with_payload p it = it
 
--- a reader, by the bytes that it has left, how many it gave, and whether a read failed
+-- a reader, by the bytes that it has left, how many it gave, how many lines came, the line of the last item, and whether a read failed
 pub record Pending : Type 0 where
   pub left : Option Bytes
   pub given : ℕ
+  pub lines : ℕ
+  pub line : ℕ
   pub failed : Bool

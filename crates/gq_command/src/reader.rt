@@ -88,7 +88,7 @@ fn next_item<R: Read>(
     number: &mut u64,
     limits: &Limits,
 ) -> Result<Option<Item>, ReadFault>
-    ensures item { IfOk result (λ x. IfSome x (λ item. IfSome source.old.left (λ bytes. Gave limits.now.bounds bytes source.new.left item))) }
+    ensures item { IfOk result (λ x. IfSome x (λ item. IfSome source.old.left (λ bytes. Gave limits.now.bounds source.old.lines bytes source.new.left source.new.lines number.new item))) }
     ensures ready { IfOk result (λ x. IfSome x (λ item. IsReady limits.now.bounds item)) }
     ensures end { IfOk result (λ x. IfNone x (IfSome source.old.left (λ bytes. (items_left limits.now.bounds bytes ≡ []) × (source.new.left ≡ Some [])))) }
     ensures counted { OnOk result (Counts source.old source.new) }
@@ -130,7 +130,7 @@ impl<R: Read> Model for CommandReader<R> {
 
     ghost Value = { Pending };
 
-    ghost view = { λ s. record { left = s.source.left; given = s.source.given; failed = s.failed } };
+    ghost view = { λ s. record { left = s.source.left; given = s.source.given; lines = s.source.lines; line = s.line; failed = s.failed } };
 }
 
 impl<R: Read> CommandReader<R> {
@@ -143,6 +143,7 @@ impl<R: Read> CommandReader<R> {
         ensures left { IfSome (R.remaining reader) (λ bytes. result.left ≡ Some (without_mark bytes)) }
         // The bytes of a mark are given before all others.
         ensures given { IfSome (R.remaining reader) (λ bytes. result.given + length (without_mark bytes) ≡ length bytes) }
+        ensures lines { result.lines ≡ 0 }
         ensures failed { result.failed ≡ false }
     {
         CommandReader {
@@ -153,15 +154,17 @@ impl<R: Read> CommandReader<R> {
     }
 
     /// The number of the line of the item that came last; the first line of a script is 1.
-    pub fn line(&self) -> u64 {
+    pub fn line(&self) -> u64
+        ensures { result ≡ self.now.line }
+    {
         self.line
     }
 
     /// The next command or refusal, or `None` at the script's end.
     pub fn next(&mut self, alloc: Global, limits: &Limits) -> Result<Option<Item>, ReadFault>
         // What it gives is read from the first of the items that are left, and that item's bytes are
-        // consumed, whatever it refuses.
-        ensures item { IfOk result (λ x. IfSome x (λ item. IfSome self.old.left (λ bytes. Gave limits.now.bounds bytes self.new.left item))) }
+        // consumed, whatever it refuses. The line is that item's.
+        ensures item { IfOk result (λ x. IfSome x (λ item. IfSome self.old.left (λ bytes. Gave limits.now.bounds self.old.lines bytes self.new.left self.new.lines self.new.line item))) }
         // A command keeps the grammar, its rules and the limits, also where the bytes aren't known.
         ensures ready { IfOk result (λ x. IfSome x (λ item. IsReady limits.now.bounds item)) }
         // None comes only where no item is left.

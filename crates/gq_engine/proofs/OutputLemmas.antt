@@ -4,10 +4,12 @@ use Rattle.std.specs.Prelude.{◌||◌, ⊤, flat_map}
 use Rattle.std.specs.List.{list_any}
 use Rattle.std.specs.Io.KnownBytes.{Appends}
 use Rattle.std.proofs.Math.Bool.{or_assoc}
-use Rattle.std.proofs.lemmas.List.{append-nil}
+use Rattle.std.proofs.lemmas.List.{append-nil, map-append}
 use Rattle.std.proofs.lemmas.List.Folds.{list_any-append}
 use Rattle.gq_command.specs.Commands.{Bytes}
-use Rattle.gq_command.specs.Script.{Entry}
+use Rattle.gq_row.specs.declared.limits.Bounds.{Bounds}
+use Rattle.gq_command.specs.Script.{Entry, Numbered, entries_of, items, numbered, without_mark}
+use Rattle.gq_command.proofs.NumberLemmas.{numbered_items}
 use Rattle.gq_reply.specs.declared.reply.Reply.{Reply}
 use Rattle.gq_reply.specs.declared.reply.Reply.TheVariants as reply
 use Rattle.gq_reply.specs.Replies.{text}
@@ -39,12 +41,12 @@ texts_more output earlier (x ∷ xs) r =
 pub texts_push : (output : Output) (rs : List Reply) (r : Reply) → texts output (rs ++ r ∷ []) ≡ texts output rs ++ text_as output (list_any is_result rs) r
 texts_push output rs r = texts_more output false rs r
 
-pub complaints_push : (output : Output) (lines : List ℕ) (line : ℕ) (rs : List Reply) (r : Reply) → length lines ≡ length rs → complaints output (lines ++ line ∷ []) (rs ++ r ∷ []) ≡ complaints output lines rs ++ complaint output line r
-complaints_push output [] line [] r e = append-nil (complaint output line r)
-complaints_push output [] line (x ∷ xs) r e = absurd (omega (arith, e))
-complaints_push output (n ∷ ns) line [] r e = absurd (omega (arith, e))
-complaints_push output (n ∷ ns) line (x ∷ xs) r e =
-    ap (λ l. complaint output n x ++ l) (complaints_push output ns line xs r (omega (arith, e))) ∙ sym (append_assoc (complaint output n x) (complaints output ns xs) (complaint output line r))
+pub complaints_push : (output : Output) (items : List Numbered) (item : Numbered) (rs : List Reply) (r : Reply) → length items ≡ length rs → complaints output (items ++ item ∷ []) (rs ++ r ∷ []) ≡ complaints output items rs ++ complaint output item.number r
+complaints_push output [] item [] r e = append-nil (complaint output item.number r)
+complaints_push output [] item (x ∷ xs) r e = absurd (omega (arith, e))
+complaints_push output (n ∷ ns) item [] r e = absurd (omega (arith, e))
+complaints_push output (n ∷ ns) item (x ∷ xs) r e =
+    ap (λ l. complaint output n.number x ++ l) (complaints_push output ns item xs r (omega (arith, e))) ∙ sym (append_assoc (complaint output n.number x) (complaints output ns xs) (complaint output item.number r))
 
 -- a stream has all of the bytes while it takes them, and a front once it has failed
 abbrev pub Told : Bool → Option Bytes → Option Bytes → Bytes → Type 0
@@ -94,6 +96,10 @@ plain_after : (earlier : Bool) (rs : List Reply) → texts_after Replies earlier
 plain_after earlier [] = refl
 plain_after earlier (r ∷ rs) = ap (λ l. l ++ texts_after Replies (earlier || is_result r) rs) (plain earlier r) ∙ ap (λ l. text r ++ l) (plain_after (earlier || is_result r) rs)
 
+-- the items of a script, of which the first were answered
+items_done : (limits : Bounds) (script : Bytes) (done left : List Numbered) → numbered limits script ≡ done ++ left → items limits script ≡ entries_of done ++ entries_of left
+items_done limits script done left e = sym (numbered_items limits 0 (without_mark script)) ∙ ap entries_of e ∙ map-append (λ (x : Numbered). x.entry) done left
+
 -- a run that writes replies as they are
 pub ran_plainly : (setting : Setting) (old : State) (script : Option Bytes) (new : State) (before after errors told : Option Bytes) (ended : Result Summary Fault) → RanAs Replies setting old script new before after errors told ended → Ran setting old script new before after ended
 ran_plainly setting old None new before after errors told ended h = tt
@@ -103,7 +109,7 @@ ran_plainly setting old (Some script) new before after errors told (Ok summary) 
     record {
       within = h.ends.within;
       replies = h.replies;
-      answered = subst Q (sym (h.first ∙ ap (λ l. h.done ++ l) h.ends.nothing_left ∙ append-nil h.done)) h.answered;
+      answered = subst Q (sym (items_done setting.limits script h.done h.left h.first ∙ ap (λ (l : List Numbered). entries_of h.done ++ entries_of l) h.ends.nothing_left ∙ append-nil (entries_of h.done))) h.answered;
       written = subst P (plain_after false h.replies) h.wrote;
       commands = h.ends.commands;
       refused = h.ends.refused;
@@ -111,20 +117,20 @@ ran_plainly setting old (Some script) new before after errors told (Ok summary) 
 ran_plainly setting old (Some script) new before after errors told (Err fault.Read) h =
     let P : Bytes → Type 0 = λ l. Appends before after l in
     record {
-      done = h.done;
-      left = h.left;
-      first = h.first;
+      done = entries_of h.done;
+      left = entries_of h.left;
+      first = items_done setting.limits script h.done h.left h.first;
       replies = h.replies;
       answered = h.answered;
       written = subst P (plain_after false h.replies) h.wrote;
     }
 ran_plainly setting old (Some script) new before after errors told (Err fault.Write) h =
     let P : Bytes → Type 0 = λ l. Appends before after (l ++ h.wrote.front) in
-    let A : List Reply → Type 0 = λ l. Answered setting old h.done new l in
+    let A : List Reply → Type 0 = λ l. Answered setting old (entries_of h.done) new l in
     record {
-      done = h.done;
-      left = h.left;
-      first = h.first;
+      done = entries_of h.done;
+      left = entries_of h.left;
+      first = items_done setting.limits script h.done h.left h.first;
       replies = h.wrote.first;
       last = h.wrote.last;
       answered = subst A h.wrote.is h.answered;

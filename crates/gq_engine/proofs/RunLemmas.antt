@@ -3,15 +3,16 @@ use Rattle.std.proofs.Common.{◌≡◌, ◌+◌, inl, inr, ◌≤◌, ℕ, Bool
 use Rattle.std.specs.Prelude.{count_by, ⊤, IfSome, ◌||◌}
 use Rattle.std.specs.List.{list_any}
 use Rattle.std.specs.Io.KnownBytes.{Appends}
-use Rattle.std.proofs.lemmas.List.{append-nil}
+use Rattle.std.proofs.lemmas.List.{append-nil, map-append}
 use Rattle.std.proofs.lemmas.List.Sums.{fold-append, sum_by-cons}
 use Rattle.gq_row.specs.declared.limits.Bounds.{Bounds}
 use Rattle.gq_command.specs.declared.reader.Item.{Item}
 use Rattle.gq_command.specs.declared.reader.Item.TheVariants as item
 use Rattle.gq_command.specs.declared.lines.LineRefusal.TheVariants as line
 use Rattle.gq_command.specs.Commands.{Bytes}
-use Rattle.gq_command.specs.Script.{Entry, items, items_left, without_mark}
+use Rattle.gq_command.specs.Script.{Entry, Numbered, entries_of, items_left, numbered, numbered_left, without_mark}
 use Rattle.gq_command.specs.Items.{Gave, IsReadAs, Pending}
+use Rattle.gq_command.proofs.NumberLemmas.{none_numbered}
 use Rattle.gq_reply.specs.declared.refusal.Refusal.TheVariants.{Memory}
 use Rattle.gq_reply.specs.declared.reply.Reply.{Reply}
 use Rattle.gq_engine.specs.declared.run.Summary.{Summary}
@@ -55,19 +56,18 @@ pub record SoFar (c : Course) (script : Bytes) (p : Point) : Type 0 where
   pub rest : Bytes
   pub counted : p.reader.given + length rest ≡ length script
   pub left_is : p.reader.left ≡ Some rest
-  pub done : List Entry
-  pub first : items c.setting.limits script ≡ done ++ items_left c.setting.limits rest
+  pub done : List Numbered
+  pub first : numbered c.setting.limits script ≡ done ++ numbered_left c.setting.limits p.reader.lines rest
   pub replies : List Reply
+  pub answers : length done ≡ length replies
   pub last : Database
-  pub legal : LegalRun c.setting c.old.database done replies last
+  pub legal : LegalRun c.setting c.old.database (entries_of done) replies last
   pub same : SameTables last p.now.database
   pub keyed : IsKeyed last
   pub faults : FaultsHappened replies c.old.failures p.now.failures
   pub written : Appends c.before p.after (texts c.output replies)
   pub earlier_is : p.earlier ≡ list_any is_result replies
-  pub lines : List ℕ
-  pub numbered : length lines ≡ length replies
-  pub complained : Told p.is_open c.errors p.told (complaints c.output lines replies)
+  pub complained : Told p.is_open c.errors p.told (complaints c.output done replies)
   pub commands : p.commands ≡ length replies
   pub refusals : p.refused ≡ count_by is_refusal replies
 
@@ -84,6 +84,15 @@ run_more setting old [] [] between entry reply new h s = (new, let P : Database 
 run_more setting old [] (a ∷ rs) between entry reply new h s = absurd h
 run_more setting old (l ∷ ls) [] between entry reply new h s = absurd h
 run_more setting old (l ∷ ls) (a ∷ rs) between entry reply new h s = (h.0, h.1, run_more setting h.0 ls rs between entry reply new h.2 s)
+
+-- with one item more
+entries_push : (xs : List Numbered) (x : Numbered) → entries_of (xs ++ x ∷ []) ≡ entries_of xs ++ x.entry ∷ []
+entries_push xs x = map-append (λ (x : Numbered). x.entry) xs (x ∷ [])
+
+items_more : (setting : Setting) (old : Database) (items : List Numbered) (replies : List Reply) (between : Database) (item : Numbered) (reply : Reply) (new : Database)
+    → LegalRun setting old (entries_of items) replies between → LegalStep setting between item.entry reply new → LegalRun setting old (entries_of (items ++ item ∷ [])) (replies ++ reply ∷ []) new
+items_more setting old items replies between item reply new h s =
+    subst (λ (entries : List Entry). LegalRun setting old entries (replies ++ reply ∷ []) new) (sym (entries_push items item)) (run_more setting old (entries_of items) replies between item.entry reply new h s)
 
 -- a refusal of a line groups nothing
 no_store : (setting : Setting) (between : Database) (reply : Reply) (new : Database) → LegalAnswer setting between (item.Refused line.Memory) reply new → (new ≡ between) × (reply ≡ refused Memory)
@@ -102,9 +111,9 @@ step_of setting between entry it reply new r h =
       | inr (inr lost) ↦ inr (answer_lost setting between new lost.table reply (subst P lost.is h))
     ]
 
-pub begin : (c : Course) (reader : Pending) → IsKeyed c.old.database → IfSome c.script (λ bytes. reader.left ≡ Some (without_mark bytes)) → IfSome c.script (λ bytes. reader.given + length (without_mark bytes) ≡ length bytes)
+pub begin : (c : Course) (reader : Pending) → IsKeyed c.old.database → IfSome c.script (λ bytes. reader.left ≡ Some (without_mark bytes)) → IfSome c.script (λ bytes. reader.given + length (without_mark bytes) ≡ length bytes) → reader.lines ≡ 0
     → Going c (record { now = c.old; reader = reader; after = c.before; told = c.errors; earlier = false; is_open = true; commands = 0; refused = 0 })
-begin c reader k h counted = begin_at c.script h counted
+begin c reader k h counted none = begin_at c.script h counted
   where
     start : Point
     start = record { now = c.old; reader = reader; after = c.before; told = c.errors; earlier = false; is_open = true; commands = 0; refused = 0 }
@@ -116,8 +125,9 @@ begin c reader k h counted = begin_at c.script h counted
       counted = counted;
       left_is = h;
       done = [];
-      first = refl;
+      first = ap (λ (n : ℕ). numbered_left c.setting.limits n (without_mark script)) (sym none);
       replies = [];
+      answers = refl;
       last = c.old.database;
       legal = refl;
       same = same_tables c.old.database;
@@ -125,8 +135,6 @@ begin c reader k h counted = begin_at c.script h counted
       faults = omega arith;
       written = appends_nothing c.before;
       earlier_is = refl;
-      lines = [];
-      numbered = refl;
       complained = told_nothing c.errors;
       commands = refl;
       refusals = refl;
@@ -165,24 +173,30 @@ counted_on reader reader' xs ys e f counted =
     let Q : Option Bytes → Type 0 = λ o. IfSome o (λ ys. reader'.given + length ys ≡ reader.given + length xs) in
     subst Q f (subst P e counted)
 
+-- the next item of the bytes that are left, with the number of its line
+abbrev GaveNext : Bounds → Pending → Bytes → Pending → Item → Type 0
+GaveNext b reader bytes reader' it = Gave b reader.lines bytes reader'.left reader'.lines reader'.line it
+
 -- one more item was answered, its text written, and a refusal told
-go_on : (c : Course) (script : Option Bytes) (p : Point) (reader' : Pending) (after' told' : Option Bytes) (is_open' : Bool) (it : Item) (line : ℕ) (reply : Reply) (new : State)
-    → going c script p → IfSome p.reader.left (λ bytes. Gave c.setting.limits bytes reader'.left it) → Counted p.reader reader' → Wrote c.output p.earlier c.setting p.now it new p.after after' reply → TellsOn p.is_open is_open' p.told told' (complaint c.output line reply)
+go_on : (c : Course) (script : Option Bytes) (p : Point) (reader' : Pending) (after' told' : Option Bytes) (is_open' : Bool) (it : Item) (reply : Reply) (new : State)
+    → going c script p → IfSome p.reader.left (λ bytes. GaveNext c.setting.limits p.reader bytes reader' it) → Counted p.reader reader' → Wrote c.output p.earlier c.setting p.now it new p.after after' reply → TellsOn p.is_open is_open' p.told told' (complaint c.output reader'.line reply)
     → going c script (record { now = new; reader = reader'; after = after'; told = told'; earlier = p.earlier || is_result reply; is_open = is_open'; commands = p.commands + 1; refused = cond (is_refusal reply) (p.refused + 1) p.refused })
-go_on c None p reader' after' told' is_open' it line reply new h given counted wrote told = tt
-go_on c (Some script) p reader' after' told' is_open' it line reply new h given counted wrote told =
-    let P : Option Bytes → Type 0 = λ o. IfSome o (λ bytes. Gave c.setting.limits bytes reader'.left it) in
-    let gave : Gave c.setting.limits h.rest reader'.left it = subst P h.left_is given in
+go_on c None p reader' after' told' is_open' it reply new h given counted wrote told = tt
+go_on c (Some script) p reader' after' told' is_open' it reply new h given counted wrote told =
+    let P : Option Bytes → Type 0 = λ o. IfSome o (λ bytes. GaveNext c.setting.limits p.reader bytes reader' it) in
+    let gave : GaveNext c.setting.limits p.reader h.rest reader' it = subst P h.left_is given in
+    let item : Numbered = record { number = reader'.line; entry = gave.entry } in
     let next : AnsweredAlike c.setting h.last it reply new.database = answered_from c.setting h.last p.now.database new.database it reply h.keyed h.same wrote.legal in
     record {
       rest = gave.rest;
       counted = counted_on p.reader reader' h.rest gave.rest h.left_is gave.left_is counted ∙ h.counted;
       left_is = gave.left_is;
-      done = h.done ++ gave.entry ∷ [];
-      first = h.first ∙ ap (λ l. h.done ++ l) gave.order ∙ sym (append_assoc h.done (gave.entry ∷ []) (items_left c.setting.limits gave.rest));
+      done = h.done ++ item ∷ [];
+      first = h.first ∙ ap (λ l. h.done ++ l) gave.numbered ∙ sym (append_assoc h.done (item ∷ []) (numbered_left c.setting.limits reader'.lines gave.rest));
       replies = h.replies ++ reply ∷ [];
+      answers = omega (arith, h.answers, length-append h.done (item ∷ []), length-append h.replies (reply ∷ []));
       last = next.last;
-      legal = run_more c.setting c.old.database h.done h.replies h.last gave.entry reply next.last h.legal (step_of c.setting h.last gave.entry it reply next.last gave.reads next.legal);
+      legal = items_more c.setting c.old.database h.done h.replies h.last item reply next.last h.legal (step_of c.setting h.last gave.entry it reply next.last gave.reads next.legal);
       same = next.same;
       keyed = keyed_after c.setting h.last next.last it reply h.keyed next.legal;
       faults = faults_more h.replies reply c.old.failures p.now.failures new.failures h.faults wrote.faults;
@@ -191,11 +205,9 @@ go_on c (Some script) p reader' after' told' is_open' it line reply new h given 
           let own : Appends p.after after' text = let Q : Bool → Type 0 = λ b. Appends p.after after' (text_as c.output b reply) in subst Q h.earlier_is wrote.written in
           let Q : Bytes → Type 0 = λ l. Appends c.before after' l in subst Q (sym (texts_push c.output h.replies reply)) (appends_more c.before p.after after' (texts c.output h.replies) text h.written own);
       earlier_is = ap (λ b. b || is_result reply) h.earlier_is ∙ sym (any_push h.replies reply);
-      lines = h.lines ++ line ∷ [];
-      numbered = omega (arith, h.numbered, length-append h.lines (line ∷ []), length-append h.replies (reply ∷ []));
       complained =
           let Q : Bytes → Type 0 = λ l. Told is_open' c.errors told' l in
-          subst Q (sym (complaints_push c.output h.lines line h.replies reply h.numbered)) (told_more p.is_open is_open' c.errors p.told told' (complaints c.output h.lines h.replies) (complaint c.output line reply) h.complained told);
+          subst Q (sym (complaints_push c.output h.done item h.replies reply h.answers)) (told_more p.is_open is_open' c.errors p.told told' (complaints c.output h.done h.replies) (complaint c.output reader'.line reply) h.complained told);
       commands = omega (arith, h.commands, length-append h.replies (reply ∷ []));
       refusals = ap (λ k. cond (is_refusal reply) (k + 1) k) h.refusals ∙ sym (count_by-push is_refusal h.replies reply);
     }
@@ -214,18 +226,16 @@ ended c None p reader' h none counted few = tt
 ended c (Some script) p reader' h none counted few =
     let P : Option Bytes → Type 0 = λ o. IfSome o (λ bytes. (items_left c.setting.limits bytes ≡ []) × (reader'.left ≡ Some [])) in
     let there = subst P h.left_is none in
-    let over : items_left c.setting.limits h.rest ≡ [] = there.0 in
+    let over : numbered_left c.setting.limits p.reader.lines h.rest ≡ [] = none_numbered c.setting.limits p.reader.lines h.rest there.0 in
     let all : reader'.given + 0 ≡ p.reader.given + length h.rest = counted_on p.reader reader' h.rest [] h.left_is there.1 counted in
     record {
       done = h.done;
-      left = items_left c.setting.limits h.rest;
+      left = numbered_left c.setting.limits p.reader.lines h.rest;
       first = h.first;
       replies = h.replies;
       answered = record { last = h.last; legal = h.legal; same = h.same; faults = h.faults };
       wrote = h.written;
-      lines = h.lines;
-      numbered = h.numbered;
-      complained = told_as_front p.is_open c.errors p.told (complaints c.output h.lines h.replies) h.complained;
+      complained = told_as_front p.is_open c.errors p.told (complaints c.output h.done h.replies) h.complained;
       ends = record {
         within = omega (arith, all, h.counted, few);
         nothing_left = over;
@@ -239,14 +249,12 @@ stopped : (c : Course) (script : Option Bytes) (p : Point) → going c script p 
 stopped c None p h = tt
 stopped c (Some script) p h = record {
   done = h.done;
-  left = items_left c.setting.limits h.rest;
+  left = numbered_left c.setting.limits p.reader.lines h.rest;
   first = h.first;
   replies = h.replies;
   answered = record { last = h.last; legal = h.legal; same = h.same; faults = h.faults };
   wrote = h.written;
-  lines = h.lines;
-  numbered = h.numbered;
-  complained = told_as_front p.is_open c.errors p.told (complaints c.output h.lines h.replies) h.complained;
+  complained = told_as_front p.is_open c.errors p.told (complaints c.output h.done h.replies) h.complained;
   ends = tt;
 }
 
@@ -255,22 +263,23 @@ stopped_reading c p h = stopped c c.script p h
 
 -- a write failed
 cut : (c : Course) (script : Option Bytes) (p : Point) (reader' : Pending) (after' : Option Bytes) (it : Item) (new : State)
-    → going c script p → IfSome p.reader.left (λ bytes. Gave c.setting.limits bytes reader'.left it) → WroteFront c.output p.earlier c.setting p.now it new p.after after'
+    → going c script p → IfSome p.reader.left (λ bytes. GaveNext c.setting.limits p.reader bytes reader' it) → WroteFront c.output p.earlier c.setting p.now it new p.after after'
     → RanAs c.output c.setting c.old script new c.before after' c.errors p.told (Err fault.Write)
 cut c None p reader' after' it new h given wrote = tt
 cut c (Some script) p reader' after' it new h given wrote =
-    let P : Option Bytes → Type 0 = λ o. IfSome o (λ bytes. Gave c.setting.limits bytes reader'.left it) in
-    let gave : Gave c.setting.limits h.rest reader'.left it = subst P h.left_is given in
+    let P : Option Bytes → Type 0 = λ o. IfSome o (λ bytes. GaveNext c.setting.limits p.reader bytes reader' it) in
+    let gave : GaveNext c.setting.limits p.reader h.rest reader' it = subst P h.left_is given in
+    let item : Numbered = record { number = reader'.line; entry = gave.entry } in
     let next : AnsweredAlike c.setting h.last it wrote.answer new.database = answered_from c.setting h.last p.now.database new.database it wrote.answer h.keyed h.same wrote.legal in
     let own : AppendsFront p.after after' (text_as c.output (list_any is_result h.replies) wrote.answer) = let Q : Bool → Type 0 = λ b. AppendsFront p.after after' (text_as c.output b wrote.answer) in subst Q h.earlier_is wrote.written in
     record {
-      done = h.done ++ gave.entry ∷ [];
-      left = items_left c.setting.limits gave.rest;
-      first = h.first ∙ ap (λ l. h.done ++ l) gave.order ∙ sym (append_assoc h.done (gave.entry ∷ []) (items_left c.setting.limits gave.rest));
+      done = h.done ++ item ∷ [];
+      left = numbered_left c.setting.limits reader'.lines gave.rest;
+      first = h.first ∙ ap (λ l. h.done ++ l) gave.numbered ∙ sym (append_assoc h.done (item ∷ []) (numbered_left c.setting.limits reader'.lines gave.rest));
       replies = h.replies ++ wrote.answer ∷ [];
       answered = record {
         last = next.last;
-        legal = run_more c.setting c.old.database h.done h.replies h.last gave.entry wrote.answer next.last h.legal (step_of c.setting h.last gave.entry it wrote.answer next.last gave.reads next.legal);
+        legal = items_more c.setting c.old.database h.done h.replies h.last item wrote.answer next.last h.legal (step_of c.setting h.last gave.entry it wrote.answer next.last gave.reads next.legal);
         same = next.same;
         faults = faults_more h.replies wrote.answer c.old.failures p.now.failures new.failures h.faults wrote.faults;
       };
@@ -283,11 +292,9 @@ cut c (Some script) p reader' after' it new h given wrote =
         cut = own.is;
         written = appends_more c.before p.after after' (texts c.output h.replies) own.front h.written own.appends;
       };
-      lines = h.lines ++ 0 ∷ [];
-      numbered = omega (arith, h.numbered, length-append h.lines (0 ∷ []), length-append h.replies (wrote.answer ∷ []));
       complained =
           let Q : Bytes → Type 0 = λ l. AppendsFront c.errors p.told l in
-          subst Q (sym (complaints_push c.output h.lines 0 h.replies wrote.answer h.numbered)) (front_longer c.errors p.told (complaints c.output h.lines h.replies) (complaint c.output 0 wrote.answer) (told_as_front p.is_open c.errors p.told (complaints c.output h.lines h.replies) h.complained));
+          subst Q (sym (complaints_push c.output h.done item h.replies wrote.answer h.answers)) (front_longer c.errors p.told (complaints c.output h.done h.replies) (complaint c.output reader'.line wrote.answer) (told_as_front p.is_open c.errors p.told (complaints c.output h.done h.replies) h.complained));
       ends = tt;
     }
 
@@ -302,20 +309,21 @@ ended_at c p here b reader' e f h none counted few =
 
 pub go_on_at : (c : Course) (p : Point) (here : Setting) (b : Bounds) (reader' : Pending) (after' told' : Option Bytes) (earlier' is_open' : Bool) (n' m' : ℕ) (it : Item) (line : ℕ) (reply : Reply) (new : State) → here ≡ c.setting → b ≡ here.limits
     → n' ≡ p.commands + 1 → m' ≡ cond (is_refusal reply) (p.refused + 1) p.refused → earlier' ≡ (p.earlier || is_result reply)
-    → Going c p → IfSome p.reader.left (λ bytes. Gave b bytes reader'.left it) → Counted p.reader reader' → Wrote c.output p.earlier here p.now it new p.after after' reply → TellsOn p.is_open is_open' p.told told' (complaint c.output line reply)
+    → line ≡ reader'.line → Going c p → IfSome p.reader.left (λ bytes. GaveNext b p.reader bytes reader' it) → Counted p.reader reader' → Wrote c.output p.earlier here p.now it new p.after after' reply → TellsOn p.is_open is_open' p.told told' (complaint c.output line reply)
     → Going c (record { now = new; reader = reader'; after = after'; told = told'; earlier = earlier'; is_open = is_open'; commands = n'; refused = m' })
-go_on_at c p here b reader' after' told' earlier' is_open' n' m' it line reply new e f q r t h given counted wrote told =
-    let P : Bounds → Type 0 = λ k. IfSome p.reader.left (λ bytes. Gave k bytes reader'.left it) in
+go_on_at c p here b reader' after' told' earlier' is_open' n' m' it line reply new e f q r t at h given counted wrote told =
+    let P : Bounds → Type 0 = λ k. IfSome p.reader.left (λ bytes. GaveNext k p.reader bytes reader' it) in
+    let T : ℕ → Type 0 = λ k. TellsOn p.is_open is_open' p.told told' (complaint c.output k reply) in
     let Q : Setting → Type 0 = λ s. Wrote c.output p.earlier s p.now it new p.after after' reply in
     let N : ℕ → Type 0 = λ k. Going c (record { now = new; reader = reader'; after = after'; told = told'; earlier = p.earlier || is_result reply; is_open = is_open'; commands = k; refused = cond (is_refusal reply) (p.refused + 1) p.refused }) in
     let M : ℕ → Type 0 = λ k. Going c (record { now = new; reader = reader'; after = after'; told = told'; earlier = p.earlier || is_result reply; is_open = is_open'; commands = n'; refused = k }) in
     let B : Bool → Type 0 = λ k. Going c (record { now = new; reader = reader'; after = after'; told = told'; earlier = k; is_open = is_open'; commands = n'; refused = m' }) in
-    subst B (sym t) (subst M (sym r) (subst N (sym q) (go_on c c.script p reader' after' told' is_open' it line reply new h (subst P (f ∙ ap (λ (s : Setting). s.limits) e) given) counted (subst Q e wrote) told)))
+    subst B (sym t) (subst M (sym r) (subst N (sym q) (go_on c c.script p reader' after' told' is_open' it reply new h (subst P (f ∙ ap (λ (s : Setting). s.limits) e) given) counted (subst Q e wrote) (subst T at told))))
 
 pub stopped_writing_at : (c : Course) (p : Point) (here : Setting) (b : Bounds) (reader' : Pending) (after' : Option Bytes) (it : Item) (new : State) → here ≡ c.setting → b ≡ here.limits
-    → Going c p → IfSome p.reader.left (λ bytes. Gave b bytes reader'.left it) → WroteFront c.output p.earlier here p.now it new p.after after' → RanAs c.output c.setting c.old c.script new c.before after' c.errors p.told (Err fault.Write)
+    → Going c p → IfSome p.reader.left (λ bytes. GaveNext b p.reader bytes reader' it) → WroteFront c.output p.earlier here p.now it new p.after after' → RanAs c.output c.setting c.old c.script new c.before after' c.errors p.told (Err fault.Write)
 stopped_writing_at c p here b reader' after' it new e f h given wrote =
-    let P : Bounds → Type 0 = λ k. IfSome p.reader.left (λ bytes. Gave k bytes reader'.left it) in
+    let P : Bounds → Type 0 = λ k. IfSome p.reader.left (λ bytes. GaveNext k p.reader bytes reader' it) in
     let Q : Setting → Type 0 = λ s. WroteFront c.output p.earlier s p.now it new p.after after' in
     cut c c.script p reader' after' it new h (subst P (f ∙ ap (λ (s : Setting). s.limits) e) given) (subst Q e wrote)
 

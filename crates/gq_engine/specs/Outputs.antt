@@ -4,7 +4,7 @@ use Rattle.std.specs.List.{list_any}
 use Rattle.std.specs.Io.KnownBytes.{Appends}
 use Rattle.gq_row.specs.declared.value.Value.{Value}
 use Rattle.gq_command.specs.Commands.{Bytes}
-use Rattle.gq_command.specs.Script.{Entry, items}
+use Rattle.gq_command.specs.Script.{Numbered, entries_of, numbered}
 use Rattle.gq_reply.specs.declared.reply.Reply.{Reply}
 use Rattle.gq_reply.specs.declared.reply.Reply.TheVariants as reply
 use Rattle.gq_reply.specs.Replies.{text, is_refusal}
@@ -66,11 +66,11 @@ complaint (Results format) line (reply.Done n) = []
 complaint (Results format) line (reply.Rows header rows) = []
 complaint (Results format) line (reply.Refused why number) = refusal_text line why number
 
--- what it is told of replies to commands on these lines
-abbrev pub complaints : Output → List ℕ → List Reply → Bytes
+-- what it is told of the replies to these items, each with the number of its item's line
+abbrev pub complaints : Output → List Numbered → List Reply → Bytes
 complaints output [] replies = []
-complaints output (line ∷ lines) [] = []
-complaints output (line ∷ lines) (r ∷ rs) = complaint output line r ++ complaints output lines rs
+complaints output (x ∷ xs) [] = []
+complaints output (x ∷ xs) (r ∷ rs) = complaint output x.number r ++ complaints output xs rs
 
 -- all texts were written but for the last, and a front of that
 pub record WroteInPart (output : Output) (replies : List Reply) (before after : Option Bytes) : Type 0 where
@@ -89,27 +89,25 @@ WroteTexts output replies before after (Err fault.Read) = Appends before after (
 WroteTexts output replies before after (Err fault.Write) = WroteInPart output replies before after
 
 -- a run that came to the end of a script within the limit left nothing, and counted its replies
-pub record CameToEnd (setting : Setting) (script : Bytes) (left : List Entry) (replies : List Reply) (summary : Summary) : Type 0 where
+pub record CameToEnd (setting : Setting) (script : Bytes) (left : List Numbered) (replies : List Reply) (summary : Summary) : Type 0 where
   pub within : length script ≤ setting.limits.script
   pub nothing_left : left ≡ []
   pub commands : summary.commands ≡ length replies
   pub refused : summary.refused ≡ count_by is_refusal replies
 
-abbrev pub Ends : Setting → Bytes → List Entry → List Reply → Result Summary Fault → Type 0
+abbrev pub Ends : Setting → Bytes → List Numbered → List Reply → Result Summary Fault → Type 0
 Ends setting script left replies (Ok summary) = CameToEnd setting script left replies summary
 Ends setting script left replies (Err why) = ⊤
 
--- Some first items of the script were answered, their texts written, and the refusals among them told with the numbers of some lines, as far as the standard error took it; where no fault came, all items.
+-- Some first items of the script were answered, their texts written, and the refusals among them told with the numbers of their lines, as far as the standard error took it; where no fault came, all items.
 pub record RanInto (output : Output) (setting : Setting) (old : State) (script : Bytes) (new : State) (before after errors told : Option Bytes) (ended : Result Summary Fault) : Type 0 where
-  pub done : List Entry
-  pub left : List Entry
-  pub first : items setting.limits script ≡ done ++ left
+  pub done : List Numbered
+  pub left : List Numbered
+  pub first : numbered setting.limits script ≡ done ++ left
   pub replies : List Reply
-  pub answered : Answered setting old done new replies
+  pub answered : Answered setting old (entries_of done) new replies
   pub wrote : WroteTexts output replies before after ended
-  pub lines : List ℕ
-  pub numbered : length lines ≡ length replies
-  pub complained : AppendsFront errors told (complaints output lines replies)
+  pub complained : AppendsFront errors told (complaints output done replies)
   pub ends : Ends setting script left replies ended
 
 -- the same where the script's bytes are known

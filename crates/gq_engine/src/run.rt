@@ -83,7 +83,7 @@ impl<H: KeyHash<Key> + Copy, S: RunStore> Engine<H, S> {
 
     /// Answers the items of a script like [`Engine::run`], and writes of each reply what an output
     /// has of it: all of it, or a query's result. Then what is refused is told to `errors`, with the
-    /// number of its line; a fault there ends that, and not the run.
+    /// number of its item's line; a fault there ends that, and not the run.
     pub fn run_as<R: Read + Drop, W: Write, E: Write>(
         &mut self,
         output: Output,

@@ -1,5 +1,5 @@
 -- A payload, piece by piece and line by line.
-use Rattle.std.proofs.Common.{◌≡◌, ℕ, ◌+◌, ◌<◌, Bool, true, false, cond, List, [], ◌∷◌, ◌++◌, length, take, drop, get_or, eqb, Option, Some, None, refl, sym, ap, subst, ◌∙◌, arith, append_assoc, length-append}
+use Rattle.std.proofs.Common.{◌≡◌, ℕ, suc, ◌+◌, ◌<◌, Bool, true, false, cond, List, [], ◌∷◌, ◌++◌, length, take, drop, get_or, eqb, Option, Some, None, refl, sym, ap, subst, ◌∙◌, arith, append_assoc, length-append}
 use Rattle.std.proofs.lemmas.List.{append-nil, get_or-drop, get_or-take}
 use Rattle.std.proofs.Math.Seq.{take-add}
 use Rattle.std.specs.Prelude.{IfSome, ◌&&◌}
@@ -9,11 +9,11 @@ use Rattle.gq_script.specs.declared.payload.EndMark.{EndMark}
 use Rattle.gq_script.specs.declared.payload.EndMark.TheVariants as mark
 use Rattle.gq_script.specs.declared.payload.Kept.{Kept}
 use Rattle.gq_token.specs.Texts.{Bytes}
-use Rattle.gq_script.specs.Payloads.{mark_after, mark_of, is_other, is_closing, held, is_plain, prefixed, GoesOn, Holds, IsPiece, IsPayloadOf, TookLines, TookPayloadLine, TookPayload, Unclosed}
-use Rattle.gq_script.specs.Script.{Counts, Stream, Takes, raw_lines, content, is_end_mark, payload_of}
+use Rattle.gq_script.specs.Payloads.{mark_after, mark_of, is_other, is_closing, held, is_plain, prefixed, GoesOn, HasLines, Holds, IsPiece, IsPayloadOf, TookLines, TookPayloadLine, TookPayload, Unclosed}
+use Rattle.gq_script.specs.Script.{Counts, Stream, Takes, with_lines, raw_lines, content, is_end_mark, payload_of}
 use Rattle.gq_script.proofs.Front.{Known, Rises}
 use Rattle.gq_script.proofs.Ends.{raw_ended, raw_unended}
-use Rattle.gq_script.proofs.Gathered.{took_none, took_more, first_ended, first_unended}
+use Rattle.gq_script.proofs.Gathered.{once_counted, took_none, took_more, first_ended, first_unended}
 use Rattle.gq_script.proofs.Marks.{mark_of-append, is_the_other, was_not_other, held_is, closes_unended, closes_ended, ended_other, closing_is_not_other, opens_other}
 
 -- the pieces of a line, as far as they came
@@ -73,8 +73,8 @@ fed most a b c old mid new m m1 raw piece t more is add plain = record {
 }
 
 pub ended : (most : ℕ) (a b c : Stream) (old mid new : Kept) (m m1 : EndMark) (raw piece : Bytes) (ends : Bool) → Collecting most a b old mid m raw → Takes b c piece → m1 ≡ mark_of m piece → Added most m piece mid new → IsPiece true piece
-    → ends ≡ is_closing m1 → TookPayloadLine most a c old new ends
-ended most a b c old mid new m m1 raw piece ends t more is add p told =
+    → ends ≡ is_closing m1 → c.lines ≡ a.lines → TookPayloadLine most a (with_lines c 1) old new ends
+ended most a b c old mid new m m1 raw piece ends t more is add p told lines =
     let plain : Bytes = p.0 in
     let front : Bytes = raw ++ plain in
     let fine : list_all is_plain front ≡ true = plain_append raw plain t.plain p.2 in
@@ -84,8 +84,9 @@ ended most a b c old mid new m m1 raw piece ends t more is add p told =
     let last : m1 ≡ mark_after (mark_of mark.Start front) 10 = now ∙ mark_of-append mark.Start front (10 ∷ []) in
     record {
       raw = raw ++ piece;
-      taken = all;
+      taken = once_counted a c (raw ++ piece) 1 all;
       first = subst (λ (l : Bytes). IfSome a.left (λ xs. IfSome c.left (λ ys. raw_lines xs ≡ l ∷ raw_lines ys))) (sym line) (first_ended a.left c.left front fine (subst (Consumes a.left c.left) line all.bytes_are));
+      counted = ap (λ (n : ℕ). n + 1) lines;
       told = told ∙ ap is_closing now ∙ closes_ended front fine ∙ ap (λ (l : Bytes). is_end_mark (content l)) (sym line);
       mark = λ e. still_may_be most a b old mid new m raw piece t add (sym (ap is_other is) ∙ closing_is_not_other m1 (sym told ∙ e));
       line = λ e. grown most a b old mid new m raw piece t add (sym (ap is_other is) ∙ ap is_other last ∙ ended_other (mark_of mark.Start front) (sym (ap is_closing last) ∙ sym told ∙ e));
@@ -97,13 +98,14 @@ some_bytes : (raw : Bytes) → is_closing (mark_of mark.Start raw) ≡ true → 
 some_bytes [] e = absurd cc
 some_bytes (b ∷ raw) e = omega arith
 
-pub marked_at_end : (most : ℕ) (a b c : Stream) (old new : Kept) (m : EndMark) (raw : Bytes) → Collecting most a b old new m raw → Takes b c [] → IsAtEnd b.left → is_closing m ≡ true → TookPayloadLine most a c old new true
-marked_at_end most a b c old new m raw t more e closes =
+pub marked_at_end : (most : ℕ) (a b c : Stream) (old new : Kept) (m : EndMark) (raw : Bytes) → Collecting most a b old new m raw → Takes b c [] → IsAtEnd b.left → is_closing m ≡ true → c.lines ≡ a.lines → TookPayloadLine most a (with_lines c 1) old new true
+marked_at_end most a b c old new m raw t more e closes lines =
     let all : Takes a c raw = subst (Takes a c) (append-nil raw) (took_more a b c raw [] t.taken more) in
     record {
       raw = raw;
-      taken = all;
+      taken = once_counted a c raw 1 all;
       first = first_unended a.left b.left c.left raw t.plain (some_bytes raw (sym (ap is_closing t.mark_is) ∙ closes)) t.taken.bytes_are e more.bytes_are;
+      counted = ap (λ (n : ℕ). n + 1) lines;
       told = sym closes ∙ ap is_closing t.mark_is ∙ closes_unended raw t.plain;
       mark = λ f. t.may_be (closing_is_not_other m closes);
       line = λ f. absurd cc;
@@ -149,23 +151,27 @@ unclosed most a b c old new m raw t more e none =
 some_is : {A : Type 0} (x y : A) → Some x ≡ Some y → x ≡ y
 some_is x y e = cc
 
-abbrev pub PassedBy : Bytes → Known → Known → ℕ → ℕ → Type 0
-PassedBy front k m g0 g1 = IfSome k (λ xs. (ys : Bytes) × (m ≡ Some ys) × (payload_of (raw_lines xs) ≡ prefixed front (payload_of (raw_lines ys))) × (g1 + length ys ≡ g0 + length xs))
+-- so many lines were counted
+abbrev Numbers : ℕ → ℕ → Bytes → Bytes → Type 0
+Numbers l0 l1 xs ys = l1 + length (raw_lines ys) ≡ l0 + length (raw_lines xs)
+
+abbrev pub PassedBy : Bytes → Known → Known → ℕ → ℕ → ℕ → ℕ → Type 0
+PassedBy front k m g0 g1 l0 l1 = IfSome k (λ xs. (ys : Bytes) × (m ≡ Some ys) × (payload_of (raw_lines xs) ≡ prefixed front (payload_of (raw_lines ys))) × (g1 + length ys ≡ g0 + length xs) × Numbers l0 l1 xs ys)
 
 pub record Within (most : ℕ) (a b : Stream) (k : Kept) (front : Bytes) : Type 0 where
   pub holds : Holds most k front
-  pub passed : PassedBy front a.left b.left a.given b.given
+  pub passed : PassedBy front a.left b.left a.given b.given a.lines b.lines
 
 prefixed_none : (o : Option (Bytes × List Bytes)) → o ≡ prefixed [] o
 prefixed_none None = refl
 prefixed_none (Some x) = refl
 
-begun : (k : Known) (g : ℕ) → PassedBy [] k k g g
-begun None g = tt
-begun (Some xs) g = (xs, refl, prefixed_none (payload_of (raw_lines xs)), refl)
+begun : (k : Known) (g l : ℕ) → PassedBy [] k k g g l l
+begun None g l = tt
+begun (Some xs) g l = (xs, refl, prefixed_none (payload_of (raw_lines xs)), refl, refl)
 
 pub within_none : (most : ℕ) (s : Stream) (k : Kept) → Holds most k [] → Within most s s k []
-within_none most s k h = record { holds = h; passed = begun s.left s.given }
+within_none most s k h = record { holds = h; passed = begun s.left s.given s.lines }
 
 line_passed : (raw : Bytes) (ls : List Bytes) → is_end_mark (content raw) ≡ false → payload_of (raw ∷ ls) ≡ prefixed raw (payload_of ls)
 line_passed raw ls e = closes_not raw ls e ∙ as_prefixed (payload_of ls)
@@ -182,22 +188,29 @@ twice front raw None = refl
 twice front raw (Some x) = ap (λ (l : Bytes). Some (l, x.1)) (sym (append_assoc front raw x.0))
 
 -- one more line, of which goal tells what it comes to
-by_line : (front : Bytes) (k m n : Known) (g0 g1 g2 : ℕ) (raw : Bytes) (P : Bytes → Bytes → Type 0) → PassedBy front k m g0 g1 → Consumes m n raw → Rises m g1 g2 (length raw) → IfSome m (λ xs. IfSome n (λ ys. raw_lines xs ≡ raw ∷ raw_lines ys))
-    → ((xs ws : Bytes) → payload_of (raw_lines xs) ≡ prefixed front (payload_of (raw ∷ raw_lines ws)) → P xs ws) → IfSome k (λ xs. (ys : Bytes) × (n ≡ Some ys) × P xs ys × (g2 + length ys ≡ g0 + length xs))
-by_line front None m n g0 g1 g2 raw P h c g f goal = tt
-by_line front (Some xs) None n g0 g1 g2 raw P h c g f goal = let q = h.1 in absurd cc
-by_line front (Some xs) (Some zs) None g0 g1 g2 raw P h c g f goal = absurd c
-by_line front (Some xs) (Some zs) (Some ws) g0 g1 g2 raw P h c g f goal =
+by_line : (front : Bytes) (k m n : Known) (g0 g1 g2 l0 l1 l2 : ℕ) (raw : Bytes) (P : Bytes → Bytes → Type 0) → PassedBy front k m g0 g1 l0 l1 → Consumes m n raw → Rises m g1 g2 (length raw) → IfSome m (λ xs. IfSome n (λ ys. raw_lines xs ≡ raw ∷ raw_lines ys)) → l2 ≡ l1 + 1
+    → ((xs ws : Bytes) → payload_of (raw_lines xs) ≡ prefixed front (payload_of (raw ∷ raw_lines ws)) → P xs ws) → IfSome k (λ xs. (ys : Bytes) × (n ≡ Some ys) × P xs ys × (g2 + length ys ≡ g0 + length xs) × Numbers l0 l2 xs ys)
+by_line front None m n g0 g1 g2 l0 l1 l2 raw P h c g f l goal = tt
+by_line front (Some xs) None n g0 g1 g2 l0 l1 l2 raw P h c g f l goal = let q = h.1 in absurd cc
+by_line front (Some xs) (Some zs) None g0 g1 g2 l0 l1 l2 raw P h c g f l goal = absurd c
+by_line front (Some xs) (Some zs) (Some ws) g0 g1 g2 l0 l1 l2 raw P h c g f l goal =
     let same : zs ≡ h.0 = some_is zs h.0 h.1 in
     let len : length zs ≡ length raw + length ws = ap length c ∙ length-append raw ws in
     let len1 : length zs ≡ length h.0 = ap length same in
     let len2 : g1 + length h.0 ≡ g0 + length xs = h.3 in
-    (ws, refl, goal xs ws (h.2 ∙ ap (λ (l : Bytes). prefixed front (payload_of (raw_lines l))) (sym same) ∙ ap (λ (l : List Bytes). prefixed front (payload_of l)) f), omega arith)
+    (ws, refl, goal xs ws (h.2 ∙ ap (λ (l : Bytes). prefixed front (payload_of (raw_lines l))) (sym same) ∙ ap (λ (l : List Bytes). prefixed front (payload_of l)) f), omega arith, numbers)
+  where
+    numbers : Numbers l0 l2 xs ws
+    numbers =
+        let one : length (raw_lines zs) ≡ suc (length (raw_lines ws)) = ap length f in
+        let same : length (raw_lines zs) ≡ length (raw_lines h.0) = ap (λ (l : Bytes). length (raw_lines l)) (some_is zs h.0 h.1) in
+        let so_far : l1 + length (raw_lines h.0) ≡ l0 + length (raw_lines xs) = h.4 in
+        omega arith
 
 pub within_more : (most : ℕ) (a b c : Stream) (p q : Kept) (ends : Bool) (front : Bytes) (t : TookPayloadLine most b c p q ends) → Within most a b p front → ends ≡ false → Within most a c q (front ++ t.raw)
 within_more most a b c p q ends front t w e = record {
   holds = t.line e front w.holds;
-  passed = by_line front a.left b.left c.left a.given b.given c.given t.raw (λ (xs ys : Bytes). payload_of (raw_lines xs) ≡ prefixed (front ++ t.raw) (payload_of (raw_lines ys))) w.passed t.taken.bytes_are t.taken.counted t.first
+  passed = by_line front a.left b.left c.left a.given b.given c.given a.lines b.lines c.lines t.raw (λ (xs ys : Bytes). payload_of (raw_lines xs) ≡ prefixed (front ++ t.raw) (payload_of (raw_lines ys))) w.passed t.taken.bytes_are t.taken.counted t.first t.counted
       (λ xs ws h. h ∙ ap (prefixed front) (line_passed t.raw (raw_lines ws) (sym t.told ∙ e)) ∙ twice front t.raw (payload_of (raw_lines ws)));
 }
 
@@ -226,49 +239,81 @@ one_line_more bytes len n f p first =
     let start : get_or line 0 0 ≡ get_or bytes len 0 = get_or-take (n + 1) (drop len bytes) 0 0 (omega arith) ∙ get_or-drop len bytes 0 0 ∙ ap (λ (k : ℕ). get_or bytes k 0) at in
     subst GoesOn (sym (take-add len (n + 1) bytes)) (both_on (take len bytes) line f (one_line line p.0 p.1 p.2 (ap (λ (v : ℕ). eqb v 92) start ∙ first)))
 
-lines_by : (front : Bytes) (k m n : Known) (g0 g1 g2 : ℕ) (raw : Bytes) → PassedBy front k m g0 g1 → Consumes m n raw → Rises m g1 g2 (length raw) → GoesOn raw → PassedBy (front ++ raw) k n g0 g2
-lines_by front None m n g0 g1 g2 raw h c g on = tt
-lines_by front (Some xs) None n g0 g1 g2 raw h c g on = let q = h.1 in absurd cc
-lines_by front (Some xs) (Some zs) None g0 g1 g2 raw h c g on = absurd c
-lines_by front (Some xs) (Some zs) (Some ws) g0 g1 g2 raw h c g on =
+-- how many lines they are
+
+pub no_count : HasLines 0 []
+no_count ys = omega arith
+
+one_count : (line plain : Bytes) → line ≡ plain ++ 10 ∷ [] → list_all is_plain plain ≡ true → HasLines 1 line
+one_count line plain is fine ys =
+    let cut : raw_lines (line ++ ys) ≡ line ∷ raw_lines ys =
+    ap (λ (l : Bytes). raw_lines (l ++ ys)) is ∙ ap raw_lines (append_assoc plain (10 ∷ []) ys) ∙ raw_ended plain ys fine ∙ ap (λ (l : Bytes). l ∷ raw_lines ys) (sym is) in
+    let more : length (raw_lines (line ++ ys)) ≡ suc (length (raw_lines ys)) = ap length cut in
+    omega arith
+
+both_count : (n m : ℕ) (front line : Bytes) → HasLines n front → HasLines m line → HasLines (n + m) (front ++ line)
+both_count n m front line f l ys =
+    let all : length (raw_lines ((front ++ line) ++ ys)) ≡ length (raw_lines (front ++ (line ++ ys))) = ap (λ (v : Bytes). length (raw_lines v)) (append_assoc front line ys) in
+    let first : length (raw_lines (front ++ (line ++ ys))) ≡ n + length (raw_lines (line ++ ys)) = f (line ++ ys) in
+    let last : length (raw_lines (line ++ ys)) ≡ m + length (raw_lines ys) = l ys in
+    omega arith
+
+pub one_count_more : (bytes : Bytes) (len n k : ℕ) → HasLines k (take len bytes) → IsPiece true (take (n + 1) (drop len bytes)) → HasLines (k + 1) (take (len + (n + 1)) bytes)
+one_count_more bytes len n k f p =
+    let line : Bytes = take (n + 1) (drop len bytes) in
+    subst (HasLines (k + 1)) (sym (take-add len (n + 1) bytes)) (both_count k 1 (take len bytes) line f (one_count line p.0 p.1 p.2))
+
+lines_by : (front : Bytes) (k m n : Known) (g0 g1 g2 l0 l1 l2 count : ℕ) (raw : Bytes) → PassedBy front k m g0 g1 l0 l1 → Consumes m n raw → Rises m g1 g2 (length raw) → GoesOn raw → HasLines count raw → l2 ≡ l1 + count → PassedBy (front ++ raw) k n g0 g2 l0 l2
+lines_by front None m n g0 g1 g2 l0 l1 l2 count raw h c g on has l = tt
+lines_by front (Some xs) None n g0 g1 g2 l0 l1 l2 count raw h c g on has l = let q = h.1 in absurd cc
+lines_by front (Some xs) (Some zs) None g0 g1 g2 l0 l1 l2 count raw h c g on has l = absurd c
+lines_by front (Some xs) (Some zs) (Some ws) g0 g1 g2 l0 l1 l2 count raw h c g on has l =
     let same : zs ≡ h.0 = some_is zs h.0 h.1 in
     let len : length zs ≡ length raw + length ws = ap length c ∙ length-append raw ws in
     let len1 : length zs ≡ length h.0 = ap length same in
     let len2 : g1 + length h.0 ≡ g0 + length xs = h.3 in
     let lines : payload_of (raw_lines xs) ≡ prefixed (front ++ raw) (payload_of (raw_lines ws)) =
     h.2 ∙ ap (λ (l : Bytes). prefixed front (payload_of (raw_lines l))) (sym same ∙ c) ∙ ap (prefixed front) (on ws) ∙ twice front raw (payload_of (raw_lines ws)) in
-    (ws, refl, lines, omega arith)
+    (ws, refl, lines, omega arith, numbers)
+  where
+    numbers : Numbers l0 l2 xs ws
+    numbers =
+        let more : length (raw_lines (raw ++ ws)) ≡ count + length (raw_lines ws) = has ws in
+        let all : length (raw_lines zs) ≡ length (raw_lines (raw ++ ws)) = ap (λ (l : Bytes). length (raw_lines l)) c in
+        let same : length (raw_lines zs) ≡ length (raw_lines h.0) = ap (λ (l : Bytes). length (raw_lines l)) (some_is zs h.0 h.1) in
+        let so_far : l1 + length (raw_lines h.0) ≡ l0 + length (raw_lines xs) = h.4 in
+        omega arith
 
 pub within_lines : (most : ℕ) (a b c : Stream) (p q : Kept) (front : Bytes) (t : TookLines most b c p q) → Within most a b p front → Within most a c q (front ++ t.raw)
 within_lines most a b c p q front t w = record {
   holds = t.lines front w.holds;
-  passed = lines_by front a.left b.left c.left a.given b.given c.given t.raw w.passed t.taken.bytes_are t.taken.counted t.on;
+  passed = lines_by front a.left b.left c.left a.given b.given c.given a.lines b.lines c.lines t.count t.raw w.passed t.taken.bytes_are t.taken.counted t.on t.has t.counted;
 }
 
-closed_by : (most : ℕ) (front : Bytes) (k n : Known) (g0 g2 : ℕ) (q : Kept) → IfSome k (λ xs. (ys : Bytes) × (n ≡ Some ys) × (payload_of (raw_lines xs) ≡ Some (front, raw_lines ys)) × (g2 + length ys ≡ g0 + length xs)) → Holds most q front
-    → IfSome k (λ xs. IsPayloadOf most (payload_of (raw_lines xs)) n (Some q)) × IfSome k (λ xs. IfSome n (λ ys. g2 + length ys ≡ g0 + length xs))
-closed_by most front None n g0 g2 q h s = (tt, tt)
-closed_by most front (Some xs) None g0 g2 q h s = let none = h.1 in absurd cc
-closed_by most front (Some xs) (Some ys) g0 g2 q h s =
+closed_by : (most : ℕ) (front : Bytes) (k n : Known) (g0 g2 l0 l2 : ℕ) (q : Kept) → IfSome k (λ xs. (ys : Bytes) × (n ≡ Some ys) × (payload_of (raw_lines xs) ≡ Some (front, raw_lines ys)) × (g2 + length ys ≡ g0 + length xs) × Numbers l0 l2 xs ys) → Holds most q front
+    → IfSome k (λ xs. IsPayloadOf most (payload_of (raw_lines xs)) n (Some q)) × IfSome k (λ xs. IfSome n (λ ys. g2 + length ys ≡ g0 + length xs)) × IfSome k (λ xs. IfSome n (λ ys. Numbers l0 l2 xs ys))
+closed_by most front None n g0 g2 l0 l2 q h s = (tt, tt, tt)
+closed_by most front (Some xs) None g0 g2 l0 l2 q h s = let none = h.1 in absurd cc
+closed_by most front (Some xs) (Some ys) g0 g2 l0 l2 q h s =
     let len : length ys ≡ length h.0 = ap length (some_is ys h.0 h.1) in
     let len1 : g2 + length h.0 ≡ g0 + length xs = h.3 in
-    (subst (λ (o : Option (Bytes × List Bytes)). IsPayloadOf most o (Some ys) (Some q)) (sym h.2) (h.0, h.1, refl, s), omega arith)
+    (subst (λ (o : Option (Bytes × List Bytes)). IsPayloadOf most o (Some ys) (Some q)) (sym h.2) (h.0, h.1, refl, s), omega arith, subst (Numbers l0 l2 xs) (sym (some_is ys h.0 h.1)) h.4)
 
 pub payload_closed : (most : ℕ) (a b c : Stream) (k q : Kept) (ends : Bool) (front : Bytes) (t : TookPayloadLine most b c k q ends) → Within most a b k front → ends ≡ true → TookPayload most a c (Some q)
 payload_closed most a b c k q ends front t w e =
     let holds : Holds most q front = subst (λ (v : Kept). Holds most v front) (sym (t.mark e)) w.holds in
-    let r = closed_by most front a.left c.left a.given c.given q
-    (by_line front a.left b.left c.left a.given b.given c.given t.raw (λ (xs ys : Bytes). payload_of (raw_lines xs) ≡ Some (front, raw_lines ys)) w.passed t.taken.bytes_are t.taken.counted t.first
+    let r = closed_by most front a.left c.left a.given c.given a.lines c.lines q
+    (by_line front a.left b.left c.left a.given b.given c.given a.lines b.lines c.lines t.raw (λ (xs ys : Bytes). payload_of (raw_lines xs) ≡ Some (front, raw_lines ys)) w.passed t.taken.bytes_are t.taken.counted t.first t.counted
     (λ xs ws h. h ∙ ap (prefixed front) (line_closes t.raw (raw_lines ws) (sym t.told ∙ e)) ∙ ap (λ (l : Bytes). Some (l, raw_lines ws)) (append-nil front)))
     holds in
-    record { is = r.0; counted = r.1 }
+    record { is = r.0; counted = r.1; lines = r.2 }
 
-open_by : (most : ℕ) (front : Bytes) (k m n : Known) (g0 g1 g2 : ℕ) → PassedBy front k m g0 g1 → IfSome m (λ xs. (payload_of (raw_lines xs) ≡ None) × (n ≡ Some [])) → IfSome m (λ xs. IfSome n (λ ys. g2 + length ys ≡ g1 + length xs))
+open_by : (most : ℕ) (front : Bytes) (k m n : Known) (g0 g1 g2 l0 l1 : ℕ) → PassedBy front k m g0 g1 l0 l1 → IfSome m (λ xs. (payload_of (raw_lines xs) ≡ None) × (n ≡ Some [])) → IfSome m (λ xs. IfSome n (λ ys. g2 + length ys ≡ g1 + length xs))
     → IfSome k (λ xs. IsPayloadOf most (payload_of (raw_lines xs)) n None) × IfSome k (λ xs. IfSome n (λ ys. g2 + length ys ≡ g0 + length xs))
-open_by most front None m n g0 g1 g2 h u c = (tt, tt)
-open_by most front (Some xs) None n g0 g1 g2 h u c = let q = h.1 in absurd cc
-open_by most front (Some xs) (Some zs) None g0 g1 g2 h u c = let q = u.1 in absurd cc
-open_by most front (Some xs) (Some zs) (Some ys) g0 g1 g2 h u c =
+open_by most front None m n g0 g1 g2 l0 l1 h u c = (tt, tt)
+open_by most front (Some xs) None n g0 g1 g2 l0 l1 h u c = let q = h.1 in absurd cc
+open_by most front (Some xs) (Some zs) None g0 g1 g2 l0 l1 h u c = let q = u.1 in absurd cc
+open_by most front (Some xs) (Some zs) (Some ys) g0 g1 g2 l0 l1 h u c =
     let same : zs ≡ h.0 = some_is zs h.0 h.1 in
     let len : length zs ≡ length h.0 = ap length same in
     let len1 : g1 + length h.0 ≡ g0 + length xs = h.3 in
@@ -277,5 +322,5 @@ open_by most front (Some xs) (Some zs) (Some ys) g0 g1 g2 h u c =
 
 pub payload_open : (most : ℕ) (a b c : Stream) (k : Kept) (front : Bytes) → Within most a b k front → Unclosed b c → TookPayload most a c None
 payload_open most a b c k front w u =
-    let r = open_by most front a.left b.left c.left a.given b.given c.given w.passed u.open_is u.counted in
-    record { is = r.0; counted = r.1 }
+    let r = open_by most front a.left b.left c.left a.given b.given c.given a.lines b.lines w.passed u.open_is u.counted in
+    record { is = r.0; counted = r.1; lines = tt }

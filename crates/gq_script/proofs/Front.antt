@@ -70,10 +70,10 @@ part_length : (xs : List ℕ) (i j : ℕ) → j ≤ length xs → length (slice_
 part_length xs i j le = length-take-le (j - i) (drop i xs) (omega (arith, length-drop i xs))
 
 -- the first bytes of those that were read ahead
-pub passes : (mark : Bool) (now : List ℕ) (s e n g : ℕ) (known : Known) → n ≤ length (slice_range now s e) → s ≤ e → e ≤ length now → (mark ≡ false → (s ≡ e) × (g ≡ 0))
-    → Takes (record { left = waiting mark (slice_range now s e) known; given = given_with_mark mark g known; ahead = slice_range now s e })
-    (record { left = waiting mark (slice_range now (s + n) e) known; given = given_with_mark mark (g + n) known; ahead = slice_range now (s + n) e }) (take n (slice_range now s e))
-passes true now s e n g known few le in_range first =
+pub passes : (mark : Bool) (now : List ℕ) (s e n g l : ℕ) (known : Known) → n ≤ length (slice_range now s e) → s ≤ e → e ≤ length now → (mark ≡ false → (s ≡ e) × (g ≡ 0))
+    → Takes (record { left = waiting mark (slice_range now s e) known; given = given_with_mark mark g known; lines = l; ahead = slice_range now s e })
+    (record { left = waiting mark (slice_range now (s + n) e) known; given = given_with_mark mark (g + n) known; lines = l; ahead = slice_range now (s + n) e }) (take n (slice_range now s e))
+passes true now s e n g l known few le in_range first =
     let len = part_length now s e in_range in
     let front : length (take n (slice_range now s e)) ≡ n = length-take-le n (slice_range now s e) few in
     record {
@@ -84,7 +84,7 @@ passes true now s e n g known few le in_range first =
     rises : (k : Known) (m : ℕ) → m ≡ n → Rises k g (g + n) m
     rises None m is = tt
     rises (Some xs) m is = omega arith
-passes false now s e n g known few le in_range first =
+passes false now s e n g l known few le in_range first =
     let len = part_length now s e in_range in
     let same : s ≡ e = (first refl).0 in
     let none : n ≡ 0 = omega arith in

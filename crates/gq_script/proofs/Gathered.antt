@@ -18,7 +18,7 @@ use Rattle.gq_script.specs.FirstWords.{word_after, word_of}
 use Rattle.gq_token.specs.Texts.{Bytes}
 use Rattle.gq_token.specs.Lexing.{is_blank, skip_blanks}
 use Rattle.gq_token.proofs.Trimmed.{blank_first, no_blank_first}
-use Rattle.gq_script.specs.Script.{Stream, Takes, raw_lines, is_skipped}
+use Rattle.gq_script.specs.Script.{Stream, Takes, with_lines, raw_lines, is_skipped}
 use Rattle.gq_script.specs.Gathering.{opening_after, opening_of, is_skippable, kept_at, kept_from, Gathers, GathersRaw, TookLine, KeepsBehind}
 use Rattle.gq_script.proofs.Front.{consumes_more, rises_none, rises_more, Known}
 use Rattle.gq_script.proofs.Ends.{ends_pushed, strip_pushed, strip_and_last, strip_none, content_ended, content_unended, raw_ended, raw_unended, is_plain, plain_push}
@@ -219,6 +219,10 @@ took_more a b c xs ys h k = record {
   counted = rises_more a.left b.left c.left xs ys a.given b.given c.given h.bytes_are k.bytes_are h.counted k.counted;
 }
 
+-- the lines make no difference to the bytes
+pub once_counted : (a b : Stream) (raw : Bytes) (n : ℕ) → Takes a b raw → Takes a (with_lines b n) raw
+once_counted a b raw n h = record { bytes_are = h.bytes_are; counted = h.counted }
+
 pub started : (most : ℕ) (s : Stream) (line : OpenLine) → Gathers most line [] → Taking most s s line false false []
 started most s line h = record { taken = took_none s; plain = refl; gathers = record { front = h; cr = refl }; some = refl }
 
@@ -238,13 +242,14 @@ first_ended None n raw plain h = tt
 first_ended (Some xs) None raw plain h = tt
 first_ended (Some xs) (Some ys) raw plain h = ap raw_lines (h ∙ append_assoc raw (10 ∷ []) ys) ∙ raw_ended raw ys plain
 
-pub ended : (l : Bounds) (a b c : Stream) (line : OpenLine) (cr any : Bool) (raw : Bytes) (x : ℕ) → Taking l.line a b line cr any raw → Takes b c (x ∷ []) → x ≡ 10 → TookLine l a c line
-ended l a b c line cr any raw x t more is =
+pub ended : (l : Bounds) (a b c : Stream) (line : OpenLine) (cr any : Bool) (raw : Bytes) (x : ℕ) → Taking l.line a b line cr any raw → Takes b c (x ∷ []) → x ≡ 10 → c.lines ≡ a.lines → TookLine l a (with_lines c 1) line
+ended l a b c line cr any raw x t more is lines =
     let all : Takes a c (raw ++ 10 ∷ []) = took_more a b c raw (10 ∷ []) t.taken (subst (λ (v : ℕ). Takes b c (v ∷ [])) is more) in
     record {
       raw = raw ++ 10 ∷ [];
-      taken = all;
+      taken = once_counted a c (raw ++ 10 ∷ []) 1 all;
       first = first_ended a.left c.left raw t.plain all.bytes_are;
+      lines = ap (λ (n : ℕ). n + 1) lines;
       gathers = subst (Gathers l.line line) (sym (content_ended raw)) t.gathers.front;
     }
 
@@ -259,14 +264,15 @@ first_unended (Some xs) (Some zs) (Some ys) (b ∷ raw) plain some h e k =
     ap raw_lines all ∙ raw_unended b raw plain ∙ ap (λ (l : Bytes). (b ∷ raw) ∷ raw_lines l) (sym none)
 
 pub unended : (l : Bounds) (a b c : Stream) (line new : OpenLine) (cr any : Bool) (raw : Bytes) → Taking l.line a b line cr any raw → Takes b c [] → IsAtEnd b.left → any ≡ true
-    → ((m : ℕ) (r : Bytes) → GathersRaw m line cr r → Gathers m new r) → TookLine l a c new
-unended l a b c line new cr any raw t more e some close =
+    → ((m : ℕ) (r : Bytes) → GathersRaw m line cr r → Gathers m new r) → c.lines ≡ a.lines → TookLine l a (with_lines c 1) new
+unended l a b c line new cr any raw t more e some close lines =
     let lt : 0 < length raw = ltb-true 0 (length raw) (sym t.some ∙ some) in
     let all : Takes a c raw = subst (Takes a c) (append-nil raw) (took_more a b c raw [] t.taken more) in
     record {
       raw = raw;
-      taken = all;
+      taken = once_counted a c raw 1 all;
       first = first_unended a.left b.left c.left raw t.plain lt t.taken.bytes_are e more.bytes_are;
+      lines = ap (λ (n : ℕ). n + 1) lines;
       gathers = subst (Gathers l.line new) (sym (content_unended raw t.plain)) (close l.line raw t.gathers);
     }
 

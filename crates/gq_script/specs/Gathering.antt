@@ -1,5 +1,5 @@
 -- What a line is known by while its bytes come.
-use Rattle.std.specs.Prelude.{◌≡◌, ℕ, ◌-◌, nat_lt, ◌==◌, Bool, true, false, [], ◌∷◌, ◌++◌, length, take, IfSome, if◌then◌else◌}
+use Rattle.std.specs.Prelude.{◌≡◌, ℕ, ◌+◌, ◌-◌, nat_lt, ◌==◌, Bool, true, false, [], ◌∷◌, ◌++◌, length, take, IfSome, if◌then◌else◌}
 use Rattle.std.specs.Io.BufRead.{ends_with_byte, strip_last}
 use Rattle.gq_row.specs.declared.limits.Bounds.{Bounds}
 use Rattle.gq_script.specs.declared.gather.Opening.{Opening}
@@ -52,11 +52,12 @@ pub record GathersRaw (most : ℕ) (line : OpenLine) (behind_cr : Bool) (raw : B
   pub front : Gathers most line (strip_last 13 raw)
   pub cr : behind_cr ≡ ends_with_byte 13 raw
 
--- the first line was taken
+-- the first line was taken, and counted
 pub record TookLine (b : Bounds) (old new : Stream) (line : OpenLine) : Type 0 where
   pub raw : Bytes
   pub taken : Takes old new raw
   pub first : IfSome old.left (λ xs. IfSome new.left (λ ys. raw_lines xs ≡ raw ∷ raw_lines ys))
+  pub lines : new.lines ≡ old.lines + 1
   pub gathers : Gathers b.line line (content raw)
 
 -- the byte was kept, unless there was no memory

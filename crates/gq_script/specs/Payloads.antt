@@ -1,5 +1,5 @@
 -- What a payload is known by while its bytes come.
-use Rattle.std.specs.Prelude.{◌≡◌, ℕ, ◌≤◌, ◌<◌, ◌==◌, Bool, true, false, not, List, [], ◌∷◌, ◌++◌, length, Option, Some, None, IfSome, if◌then◌else◌}
+use Rattle.std.specs.Prelude.{◌≡◌, ℕ, ◌+◌, ◌≤◌, ◌<◌, ◌==◌, Bool, true, false, not, List, [], ◌∷◌, ◌++◌, length, Option, Some, None, IfSome, if◌then◌else◌}
 use Rattle.std.specs.List.{list_all}
 use Rattle.gq_script.specs.declared.payload.EndMark.{EndMark}
 use Rattle.gq_script.specs.declared.payload.EndMark.TheVariants as mark
@@ -71,11 +71,12 @@ abbrev pub IsPiece : Bool → Bytes → Type 0
 IsPiece true piece = (plain : Bytes) × (piece ≡ plain ++ 10 ∷ []) × (list_all is_plain plain ≡ true)
 IsPiece false piece = list_all is_plain piece ≡ true
 
--- the first line was taken, and kept where it doesn't end the payload
+-- the first line was taken and counted, and kept where it doesn't end the payload
 pub record TookPayloadLine (most : ℕ) (old new : Stream) (before after : Kept) (ends : Bool) : Type 0 where
   pub raw : Bytes
   pub taken : Takes old new raw
   pub first : IfSome old.left (λ xs. IfSome new.left (λ ys. raw_lines xs ≡ raw ∷ raw_lines ys))
+  pub counted : new.lines ≡ old.lines + 1
   pub told : ends ≡ is_end_mark (content raw)
   pub mark : ends ≡ true → after ≡ before
   pub line : ends ≡ false → (front : Bytes) → Holds most before front → Holds most after (front ++ raw)
@@ -89,11 +90,18 @@ prefixed front (Some x) = Some (front ++ x.0, x.1)
 abbrev pub GoesOn : Bytes → Type 0
 GoesOn front = (ys : Bytes) → payload_of (raw_lines (front ++ ys)) ≡ prefixed front (payload_of (raw_lines ys))
 
--- such lines were taken, and kept
+-- the bytes are n whole lines, whatever follows them
+abbrev pub HasLines : ℕ → Bytes → Type 0
+HasLines n front = (ys : Bytes) → length (raw_lines (front ++ ys)) ≡ n + length (raw_lines ys)
+
+-- such lines were taken, counted and kept
 pub record TookLines (most : ℕ) (old new : Stream) (before after : Kept) : Type 0 where
   pub raw : Bytes
   pub taken : Takes old new raw
   pub on : GoesOn raw
+  pub count : ℕ
+  pub has : HasLines count raw
+  pub counted : new.lines ≡ old.lines + count
   pub lines : (front : Bytes) → Holds most before front → Holds most after (front ++ raw)
 
 -- all was taken, and no line of it ends a payload
@@ -106,7 +114,8 @@ abbrev pub IsPayloadOf : ℕ → Option (Bytes × List Bytes) → Option Bytes �
 IsPayloadOf most None left k = (k ≡ None) × (left ≡ Some [])
 IsPayloadOf most (Some told) left k = (rest : Bytes) × (left ≡ Some rest) × (told.1 ≡ raw_lines rest) × KeptOf most told.0 k
 
--- a payload was taken, with the line that ends it
+-- a payload was taken, with the line that ends it, and its lines were counted
 pub record TookPayload (most : ℕ) (old new : Stream) (k : Option Kept) : Type 0 where
   pub is : IfSome old.left (λ xs. IsPayloadOf most (payload_of (raw_lines xs)) new.left k)
   pub counted : Counts old new
+  pub lines : IfSome k (λ _. IfSome old.left (λ xs. IfSome new.left (λ ys. new.lines + length (raw_lines ys) ≡ old.lines + length (raw_lines xs))))

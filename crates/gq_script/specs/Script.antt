@@ -101,10 +101,11 @@ IsMarkOf true passed remaining = passed ≡ 0
 IsMarkOf false passed None = passed ≤ 3
 IsMarkOf false passed (Some bytes) = passed ≡ mark_length bytes
 
--- a source of bytes, by those that it has left behind any mark, how many it gave with the mark, and those that it read ahead
+-- a source of bytes, by those that it has left behind any mark, how many it gave with the mark, how many lines it took, and those that it read ahead
 pub record Stream : Type 0 where
   pub left : Option Bytes
   pub given : ℕ
+  pub lines : ℕ
   pub ahead : Bytes
 
 -- the source gave these bytes
@@ -112,13 +113,13 @@ pub record Takes (old new : Stream) (bytes : Bytes) : Type 0 where
   pub bytes_are : Consumes old.left new.left bytes
   pub counted : IfSome old.left (λ _. new.given ≡ old.given + length bytes)
 
+-- the source once n more lines were counted
+abbrev pub with_lines : Stream → ℕ → Stream
+with_lines s n = record s { lines = s.lines + n }
+
 -- what the source gave is no longer left
 abbrev pub Counts : Stream → Stream → Type 0
 Counts old new = IfSome old.left (λ xs. IfSome new.left (λ ys. new.given + length ys ≡ old.given + length xs))
-
--- the source passed blank lines and comments alone
-abbrev pub Passed : Bounds → Stream → Stream → Type 0
-Passed b old new = IfSome old.left (λ xs. (ys : Bytes) × (new.left ≡ Some ys) × (first_entry b (raw_lines xs) ≡ first_entry b (raw_lines ys)) × (new.given + length ys ≡ old.given + length xs))
 
 -- the entries of lines come one after the other, as first_entry_by gives them, whichever lines have a payload
 abbrev pub InOrder : Type 0

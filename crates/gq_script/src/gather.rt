@@ -3,7 +3,7 @@ ghost use Rattle.std.specs.Prelude.{◌≡◌, ◌≤◌, ◌<◌, ◌+◌, ℕ,
 ghost use Rattle.std.specs.Io.KnownBytes.{IsAtEnd};
 ghost use Rattle.gq_row.specs.declared.limits.Bounds.{Bounds};
 ghost use Rattle.gq_token.specs.Texts.{Bytes};
-ghost use Rattle.gq_script.specs.Script.{Takes, is_skipped, takes_payload};
+ghost use Rattle.gq_script.specs.Script.{Takes, is_skipped, takes_payload, with_lines};
 ghost use Rattle.gq_script.specs.Gathering.{opening_after, Gathers, GathersRaw, TookLine, is_skippable, Keeps, KeepsBehind};
 
 use crate::first_word::FirstWord;
@@ -165,11 +165,13 @@ pub fn take_line<R: Read>(
     ensures end { IfOk result (λ x. IfNone x (Takes source.old source.new [] × IsAtEnd source.old.left)) }
     ensures within { OnOk result (source.new.given ≤ bounds.now.script) }
 {
-    let line = gather_line(alloc, source, bounds)?;
-    if line.is_some() {
-        source.count_line();
+    match gather_line(alloc, source, bounds)? {
+        None => Ok(None),
+        Some(line) => {
+            source.count_lines(1)?;
+            Ok(Some(line))
+        }
     }
-    Ok(line)
 }
 
 // Takes the line, and doesn't count it.
@@ -178,7 +180,7 @@ fn gather_line<R: Read>(
     source: &mut Source<R>,
     bounds: &Bounds,
 ) -> Result<Option<OpenLine>, ReadFault>
-    ensures line { IfOk result (λ x. IfSome x (λ line. TookLine bounds.now source.old source.new line)) }
+    ensures line { IfOk result (λ x. IfSome x (λ line. TookLine bounds.now source.old (with_lines source.new 1) line)) }
     ensures end { IfOk result (λ x. IfNone x (Takes source.old source.new [] × IsAtEnd source.old.left)) }
     ensures within { OnOk result (source.new.given ≤ bounds.now.script) }
 {

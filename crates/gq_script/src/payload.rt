@@ -1,7 +1,8 @@
 //! Payloads while their bytes come.
 ghost use Rattle.std.specs.Prelude.{◌≡◌, ◌≤◌, ◌<◌, ℕ, ◌++◌, [], true, false, length, take, IfOk, IfSome, IfNone, OnOk, slice_index};
 ghost use Rattle.gq_token.specs.Texts.{Bytes};
-ghost use Rattle.gq_script.specs.Payloads.{mark_after, mark_of, is_other, is_closing, held, Holds, GoesOn, IsPiece, TookLines, TookPayloadLine, TookPayload, Unclosed};
+ghost use Rattle.gq_script.specs.Script.{with_lines};
+ghost use Rattle.gq_script.specs.Payloads.{mark_after, mark_of, is_other, is_closing, held, Holds, GoesOn, HasLines, IsPiece, TookLines, TookPayloadLine, TookPayload, Unclosed};
 
 use crate::source::{ReadFault, Source};
 use gq_row::Bounds;
@@ -146,6 +147,25 @@ pub fn take_payload_line<R: Read>(
     ensures end { IfOk result (λ x. IfNone x (Unclosed source.old source.new)) }
     ensures within { OnOk result (source.new.given ≤ bounds.now.script) }
 {
+    match gather_payload_line(source, kept, bounds)? {
+        None => Ok(None),
+        Some(ends) => {
+            source.count_lines(1)?;
+            Ok(Some(ends))
+        }
+    }
+}
+
+// Takes the line, and doesn't count it.
+fn gather_payload_line<R: Read>(
+    source: &mut Source<R>,
+    kept: &mut Kept,
+    bounds: &Bounds,
+) -> Result<Option<bool>, ReadFault>
+    ensures line { IfOk result (λ x. IfSome x (λ ends. TookPayloadLine bounds.now.payload source.old (with_lines source.new 1) kept.old kept.new ends)) }
+    ensures end { IfOk result (λ x. IfNone x (Unclosed source.old source.new)) }
+    ensures within { OnOk result (source.new.given ≤ bounds.now.script) }
+{
     let mut mark = EndMark::Start;
     for _ in 0..u64::MAX {
         if !source.fill(bounds.script)? {
@@ -156,7 +176,7 @@ pub fn take_payload_line<R: Read>(
         let before = mark;
         mark = before.behind(&piece[..len]);
         kept.add_piece(bounds.payload, before, mark, &piece[..len]);
-        source.pass(len, u64::from(ended), bounds.script)?;
+        source.pass(len, bounds.script)?;
         if ended {
             return Ok(Some(mark.is_closing()));
         }
@@ -169,6 +189,8 @@ pub fn take_payload_line<R: Read>(
 fn lines_len(bytes: &[u8]) -> (usize, u64)
     ensures within { result.0 ≤ length bytes.now }
     ensures lines { GoesOn (take result.0 bytes.now) }
+    ensures count { HasLines result.1 (take result.0 bytes.now) }
+    ensures few { result.1 ≤ result.0 }
 {
     let mut len = 0;
     let mut count: u64 = 0;
@@ -177,7 +199,7 @@ fn lines_len(bytes: &[u8]) -> (usize, u64)
             None => return (len, count),
             Some(index) => len += index + 1,
         }
-        count = count.wrapping_add(1);
+        count += 1;
     }
     (len, count)
 }
@@ -193,7 +215,8 @@ fn take_lines<R: Read>(
     let waiting = source.ahead();
     let (len, count) = lines_len(waiting);
     kept.add(bounds.payload, &waiting[..len]);
-    source.pass(len, count, bounds.script)?;
+    source.pass(len, bounds.script)?;
+    source.count_lines(count)?;
     Ok(())
 }
 

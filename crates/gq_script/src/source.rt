@@ -84,19 +84,20 @@ impl<R: Read> Model for Source<R> {
 
     ghost Value = { Stream };
 
-    ghost view = { λ s. record { left = waiting s.behind_mark (slice_range s.buffer s.start s.end) (R.remaining s.reader); given = given_with_mark s.behind_mark s.given (R.remaining s.reader); ahead = slice_range s.buffer s.start s.end } };
+    ghost view = { λ s. record { left = waiting s.behind_mark (slice_range s.buffer s.start s.end) (R.remaining s.reader); given = given_with_mark s.behind_mark s.given (R.remaining s.reader); lines = s.lines; ahead = slice_range s.buffer s.start s.end } };
 
     ghost invariant = { λ s. (s.start ≤ s.end) × (s.end ≤ length s.buffer) × (s.behind_mark ≡ false → (s.start ≡ s.end) × (s.given ≡ 0)) };
 }
 
 impl<R: Read> Source<R> {
-    ghost use Rattle.gq_script.specs.Script.{Takes, given_with_mark, waiting};
+    ghost use Rattle.gq_script.specs.Script.{Takes, given_with_mark, waiting, with_lines};
     ghost use Rattle.std.specs.Io.KnownBytes.{IsAtEnd};
     ghost use Rattle.std.specs.Prelude.{◌≡◌, ◌+◌, ◌≤◌, ◌<◌, [], ◌∷◌, IfOk, IfSome, IfNone, OnOk, OnErr, false, true, length, take};
 
     pub fn new(reader: R) -> Source<R>
         ensures left { result.left ≡ waiting false [] (R.remaining reader) }
         ensures given { result.given ≡ given_with_mark false 0 (R.remaining reader) }
+        ensures lines { result.lines ≡ 0 }
     {
         Source {
             reader,
@@ -110,15 +111,21 @@ impl<R: Read> Source<R> {
     }
 
     /// The number of lines taken so far, those of payloads included.
-    pub fn lines(&self) -> u64 {
+    pub fn lines(&self) -> u64
+        ensures { result ≡ self.now.lines }
+    {
         self.lines
     }
 
-    /// Counts a line that was taken.
-    pub fn count_line(&mut self)
-        ensures { self.new ≡ self.old }
+    /// Counts lines that were taken. 2^64 lines are a fault.
+    pub fn count_lines(&mut self, lines: u64) -> Result<(), ReadFault>
+        ensures { OnOk result (self.new ≡ with_lines self.old lines) }
     {
-        self.lines = self.lines.saturating_add(1);
+        let Some(lines) = self.lines.checked_add(lines) else {
+            return Err(ReadFault);
+        };
+        self.lines = lines;
+        Ok(())
     }
 
     /// Reads, where no byte waits that was read ahead. Answers whether one waits then; where none
@@ -127,6 +134,7 @@ impl<R: Read> Source<R> {
     #[inline]
     pub fn fill(&mut self, most: u64) -> Result<bool, ReadFault>
         ensures same { OnOk result (Takes self.old self.new []) }
+        ensures lines { OnOk result (self.new.lines ≡ self.old.lines) }
         ensures within { OnOk result (self.new.given ≤ most) }
         ensures waits { IfOk result (λ waits. waits ≡ true → 0 < length self.new.ahead) }
         ensures end { IfOk result (λ waits. waits ≡ false → IsAtEnd self.old.left) }
@@ -155,12 +163,13 @@ impl<R: Read> Source<R> {
         &buffer[self.start..self.end]
     }
 
-    /// Takes the first `len` of the bytes that wait, within which `lines` lines end. A byte past the
-    /// first `most` of the script, a mark among them, is a fault, and nothing else is.
+    /// Takes the first `len` of the bytes that wait. A byte past the first `most` of the script, a mark
+    /// among them, is a fault, and nothing else is. Lines are not counted.
     #[inline]
-    pub fn pass(&mut self, len: usize, lines: u64, most: u64) -> Result<(), ReadFault>
+    pub fn pass(&mut self, len: usize, most: u64) -> Result<(), ReadFault>
         requires { len ≤ length self.old.ahead }
         ensures taken { OnOk result (Takes self.old self.new (take len self.old.ahead)) }
+        ensures lines { OnOk result (self.new.lines ≡ self.old.lines) }
         ensures within { OnOk result (self.old.given ≤ most → self.new.given ≤ most) }
         ensures fault { OnErr result (most < self.old.given + len) }
     {
@@ -169,14 +178,14 @@ impl<R: Read> Source<R> {
         }
         self.start += len;
         self.given += len as u64;
-        self.lines = self.lines.saturating_add(lines);
         Ok(())
     }
 
-    /// The next byte, or `None` at the end.
+    /// The next byte, or `None` at the end. Lines are not counted.
     #[inline]
     pub fn next_byte(&mut self, most: u64) -> Result<Option<u8>, ReadFault>
         ensures some { IfOk result (λ b. IfSome b (λ b. Takes self.old self.new (b ∷ []))) }
+        ensures lines { OnOk result (self.new.lines ≡ self.old.lines) }
         ensures within { OnOk result (self.new.given ≤ most) }
         ensures end { IfOk result (λ b. IfNone b (Takes self.old self.new [] × IsAtEnd self.old.left)) }
     {
@@ -184,7 +193,7 @@ impl<R: Read> Source<R> {
             return Ok(None);
         }
         let byte = self.ahead()[0];
-        self.pass(1, 0, most)?;
+        self.pass(1, most)?;
         Ok(Some(byte))
     }
 }

@@ -10,7 +10,7 @@ use Rattle.gq_command.specs.Script.{without_mark}
 use Rattle.gq_engine.specs.Sending.{AppendsFront}
 use Rattle.gq_engine.proofs.Bytes.{appends_more}
 use Rattle.gq_check.specs.declared.report.Report.{Report}
-use Rattle.gq_check.specs.Numbering.{Numbered, numbered_left}
+use Rattle.gq_script.specs.Numbering.{Numbered, numbered_left}
 use Rattle.gq_check.specs.Reports.{Between, Place, Reports, report_text}
 use Rattle.gq_check.proofs.Steps.{end-from, on-from}
 use Rattle.gq_shell.specs.Checking.{Begins, ToldAll, ToldFront, texts}

@@ -1,4 +1,4 @@
-use Rattle.gq_check.specs.Numbering.{numbered}
+use Rattle.gq_script.specs.Numbering.{numbered}
 use Rattle.gq_check.proofs.NumberLemmas.{all-clean, none-told}
 use Rattle.gq_check.proofs.laws.clean_tells.Goals as goal
 

@@ -1,4 +1,4 @@
-use Rattle.gq_script.specs.Script.{Passed}
+use Rattle.gq_script.specs.Numbering.{Passed}
 use Rattle.gq_command.proofs.reader.next_item.Given as goal
 
 abbrev pub invariant-loop : goal.invariant-loop

@@ -2,7 +2,7 @@ use Rattle.std.proofs.Common.{◌≡◌, ◌∙◌, ◌+◌, ◌-◌, ℕ, true,
 use Rattle.std.proofs.lemmas.Bool.Decides.{nat_tests}
 use Rattle.std.proofs.lemmas.List.{take_all, length-drop}
 use Rattle.gq_script.specs.Payloads.{IsPiece}
-use Rattle.gq_script.proofs.Collected.{one_line_more}
+use Rattle.gq_script.proofs.Collected.{one_count_more, one_line_more}
 use Rattle.gq_script.proofs.Marks.{piece_end}
 use Rattle.gq_script.proofs.payload.lines_len.Goals as goal
 
@@ -20,4 +20,6 @@ loop-len-preserved c =
     record {
       within = omega (arith, c.in-Some.ensures.0.high, size, c.loop-len.invariant.within);
       lines = one_line_more bytes len index c.loop-len.invariant.lines piece first;
+      count = one_count_more bytes len index c.loop-len.count c.loop-len.invariant.count piece;
+      few = omega (arith, c.loop-len.invariant.few);
     }

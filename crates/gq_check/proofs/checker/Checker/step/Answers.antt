@@ -2,7 +2,7 @@ use Rattle.std.proofs.Common.{◌≡◌, [], ◌∷◌, true, false, sym, subst,
 use Rattle.gq_script.specs.Script.{content, is_skipped}
 use Rattle.gq_script.specs.Gathering.{TookLine}
 use Rattle.gq_check.specs.declared.fault.Fault.{Fault}
-use Rattle.gq_check.specs.Numbering.{numbered_left}
+use Rattle.gq_script.specs.Numbering.{numbered_left}
 use Rattle.gq_check.specs.Reports.{Between, Place, Reports}
 use Rattle.std.specs.Prelude.{IfSome}
 use Rattle.gq_check.proofs.Steps.{Tells, at-end, item-taken, made-report, passed-over}

@@ -13,7 +13,7 @@ loop-turn-init g c = record {
   few = omega arith;
   output = refl;
   quiet = λ _. refl;
-  going = begin _ c.new-script.result c.tables-tables.ensures c.new-script.ensures.left c.new-script.ensures.given;
+  going = begin _ c.new-script.result c.tables-tables.ensures c.new-script.ensures.left c.new-script.ensures.given c.new-script.ensures.lines;
 }
 
 pub returns-in-Ok-None-clause-ran : goal.returns-in-Ok-None-clause-ran
@@ -46,5 +46,5 @@ loop-turn-preserved g c =
       quiet = λ is. c.tell.ensures.quiet (c.loop-turn.invariant.output ∙ is) ∙ c.loop-turn.invariant.quiet is;
       going = go_on_at _ _ (setting_of g.S.RunStore.runs c.loop-turn.self) c.limits.result.now.bounds c.next.new.self (g.W.Write.contents c.serve.new.writer) (g.E.Write.contents c.tell.new.errors) c.had_result-earlier.result c.tell.new.self.is_open c.add.new.self.commands c.add.new.self.refused
           c.in-Ok-Some.item c.line.result c.in-Ok.reply (state_of g.S.RunStore.runs c.serve.new.self)
-          c.loop-turn.invariant.setting c.limits.ensures c.add.ensures.commands c.add.ensures.refused c.had_result-earlier.ensures c.loop-turn.invariant.going given.item given.counted c.in-Ok.ensures.served (subst P c.loop-turn.invariant.output c.tell.ensures.told);
+          c.loop-turn.invariant.setting c.limits.ensures c.add.ensures.commands c.add.ensures.refused c.had_result-earlier.ensures c.line.ensures c.loop-turn.invariant.going given.item given.counted c.in-Ok.ensures.served (subst P c.loop-turn.invariant.output c.tell.ensures.told);
     }

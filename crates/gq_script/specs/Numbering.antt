@@ -1,14 +1,18 @@
 -- The items of a script, each with the number of its line.
-use Rattle.std.specs.Prelude.{◌≡◌, ℕ, suc, Bool, List, [], ◌∷◌, ◌++◌, length, map, Option, Some, None, if◌then◌else◌}
+use Rattle.std.specs.Prelude.{◌≡◌, ℕ, suc, ◌+◌, Bool, List, [], ◌∷◌, ◌++◌, length, map, Option, Some, None, IfSome, if◌then◌else◌}
 use Rattle.std.specs.List.{All}
 use Rattle.gq_row.specs.declared.limits.Bounds.{Bounds}
 use Rattle.gq_token.specs.Texts.{Bytes}
-use Rattle.gq_script.specs.Script.{Entry, Plain, Loading, raw_lines, content, is_skipped, is_end_mark, line_of, takes_payload, without_mark, items}
+use Rattle.gq_script.specs.Script.{Entry, Plain, Loading, Stream, first_entry, raw_lines, content, is_skipped, is_end_mark, line_of, takes_payload, without_mark, items}
 
 -- an item and the number of its line, of which the first has the number 1
 pub record Numbered : Type 0 where
   pub number : ℕ
   pub entry : Entry
+
+-- the items without their numbers
+abbrev pub entries_of : List Numbered → List Entry
+entries_of xs = map (λ (x : Numbered). x.entry) xs
 
 -- a load, by the number of its line, its line, and what its payload has so far
 pub record Begun : Type 0 where
@@ -37,6 +41,10 @@ numbered_left b n bytes = numbered_by (takes_payload b) n None (raw_lines bytes)
 abbrev pub numbered : Bounds → Bytes → List Numbered
 numbered b script = numbered_left b 0 (without_mark script)
 
+-- the source passed blank lines and comments alone, and counted them
+abbrev pub Passed : Bounds → Stream → Stream → Type 0
+Passed b old new = IfSome old.left (λ xs. (ys : Bytes) × (new.left ≡ Some ys) × (first_entry b (raw_lines xs) ≡ first_entry b (raw_lines ys)) × (new.given + length ys ≡ old.given + length xs) × (numbered_left b old.lines xs ≡ numbered_left b new.lines ys))
+
 -- the item's line stands among these lines, behind as many as its number says but one
 pub record StandsAt (lines : List Bytes) (x : Numbered) : Type 0 where
   pub front : List Bytes
@@ -48,5 +56,5 @@ pub record StandsAt (lines : List Bytes) (x : Numbered) : Type 0 where
 
 -- without their numbers they are the items of the script; each stands at the line of its number
 pub record NumbersTell : Type 0 where
-  pub items : (b : Bounds) (script : Bytes) → map (λ (x : Numbered). x.entry) (numbered b script) ≡ items b script
+  pub items : (b : Bounds) (script : Bytes) → entries_of (numbered b script) ≡ items b script
   pub lines : (b : Bounds) (script : Bytes) → All (StandsAt (raw_lines (without_mark script))) (numbered b script)
