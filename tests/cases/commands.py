@@ -62,11 +62,25 @@ NO_ROWS_AS_BOX = """┌───┬───┐
 
 REFUSALS = {"refusals": "creat t\n\n-- nothing\ncreate t (a int)\nload t\na\n1\nx\n\\.\nshow t\nshow u"}
 REPORTED = """groupsh: line 1: err 1 Syntax
-  the line is not a command
+  column 1: expected 'create', 'drop', 'load', 'upsert', 'delete', 'show', 'group' or 'distinct', found 'creat'
 groupsh: line 5: err 11 BadInt 2
   a field is not a whole number of 64 bits
 groupsh: line 11: err 3 NoTable
   no table has that name
+"""
+
+# Lines that are no commands: after a byte-order mark and blanks, a dash alone, a load with its payload, and the last line.
+WRONG = {"wrong": "\ufeff  show\r\n-\nload 7\na\n\n\\.\ncreate t (a int)\n\tshow t u\nshow"}
+DIAGNOSED = """groupsh: line 1: err 1 Syntax
+  column 7: expected a name, found the end of the line
+groupsh: line 2: err 1 Syntax
+  column 1: expected 'create', 'drop', 'load', 'upsert', 'delete', 'show', 'group' or 'distinct', found '-'
+groupsh: line 3: err 1 Syntax
+  column 6: expected a name, found '7'
+groupsh: line 8: err 1 Syntax
+  column 9: expected the end of the line, found 'u'
+groupsh: line 9: err 1 Syntax
+  column 5: expected a name, found the end of the line
 """
 
 CASES = [
@@ -112,6 +126,10 @@ CASES = [
     Case("no rows in a box", ["-o", "box", "-c", NO_ROWS], stdout=NO_ROWS_AS_BOX),
     Case("refusals under -o csv", ["-o", "csv", "refusals"], status=1, stdout="a\n", stderr=REPORTED, files=REFUSALS),
     Case("refusals under -o json", ["-o", "json", "refusals"], status=1, stderr=REPORTED, files=REFUSALS),
+    *[
+        Case(f"lines that are no commands under -o {format}", ["-o", format, "wrong"], status=1, stderr=DIAGNOSED, files=WRONG)
+        for format in ("csv", "json", "box")
+    ],
     Case(
         "refusals with replies",
         ["refusals"],

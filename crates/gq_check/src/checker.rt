@@ -60,7 +60,7 @@ fn column_of(line: &OpenLine, at: usize, most: usize) -> u64
 }
 
 /// The report of a line with this fault.
-fn report_of(
+pub fn report_of(
     alloc: Global,
     number: u64,
     fault: Fault,

@@ -27,6 +27,6 @@ mod pieces;
 mod refusal;
 mod report;
 
-pub use checker::Checker;
+pub use checker::{Checker, report_of};
 pub use fault::{CheckFault, Fault};
 pub use report::Report;

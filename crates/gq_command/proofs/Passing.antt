@@ -10,7 +10,7 @@ use Rattle.gq_command.specs.Commands.{Bytes}
 use Rattle.gq_script.specs.Script.{Stream, Takes, raw_lines, content, is_skipped, first_entry, Counts, Plain, Entry, Loading, first_entry_by, entries_by, InOrder, payload_of, is_end_mark, items_left, takes_payload}
 use Rattle.gq_script.specs.Numbering.{Numbered, Passed, numbered_by, numbered_left}
 use Rattle.gq_script.specs.declared.payload.Kept.{Kept}
-use Rattle.gq_script.specs.Gathering.{TookLine}
+use Rattle.gq_script.specs.Gathering.{Gathers, TookLine}
 use Rattle.gq_script.specs.Payloads.{IsPayloadOf, KeptTold, TookPayload}
 use Rattle.gq_command.specs.Items.{Gave, IsReadAs}
 use Rattle.gq_command.proofs.NumberLemmas.{begun_at, closed_after, left_open, load_line, no_items, plain_line, skipped_line}
@@ -148,12 +148,17 @@ by_end bounds (Some xs) (Some zs) (Some ws) g0 g1 g2 l0 l1 h c e g =
 pub passed_all : (bounds : Bounds) (a b c : Stream) → Passed bounds a b → Takes b c [] → IsAtEnd b.left → IfSome a.left (λ xs. (items_left bounds xs ≡ []) × (c.left ≡ Some [])) × Counts a c
 passed_all bounds a b c h t e = by_end bounds a.left b.left c.left a.given b.given c.given a.lines b.lines h t.bytes_are e t.counted
 
-by_item : (bounds : Bounds) (k m n : Known) (g0 g1 g2 l0 l1 l2 number : ℕ) (raw : Bytes) (it : Item) → PassedBy bounds k m g0 g1 l0 l1 → Consumes m n raw → Rises m g1 g2 (length raw) → IfSome m (λ xs. IfSome n (λ ys. raw_lines xs ≡ raw ∷ raw_lines ys)) → l2 ≡ l1 + 1 → number ≡ l2 → is_skipped (content raw) ≡ false → takes_payload bounds (content raw) ≡ false
-    → IsReadAs bounds (Plain (content raw)) it → IfSome k (λ xs. Gave bounds l0 xs n l2 number it) × IfSome k (λ xs. IfSome n (λ ys. g2 + length ys ≡ g0 + length xs))
-by_item bounds None m n g0 g1 g2 l0 l1 l2 number raw it h c g f l num e q i = (tt, tt)
-by_item bounds (Some xs) None n g0 g1 g2 l0 l1 l2 number raw it h c g f l num e q i = let none = h.1 in absurd cc
-by_item bounds (Some xs) (Some zs) None g0 g1 g2 l0 l1 l2 number raw it h c g f l num e q i = absurd c
-by_item bounds (Some xs) (Some zs) (Some ws) g0 g1 g2 l0 l1 l2 number raw it h c g f l num e q i =
+-- what is kept of a wrong line is kept of this line's text
+pub kept_of : (most : ℕ) (line : OpenLine) (text : Bytes) (wrong : Option OpenLine) → IfSome wrong (λ kept. kept ≡ line) → Gathers most line text → IfSome wrong (λ kept. Gathers most kept text)
+kept_of most line text None h g = tt
+kept_of most line text (Some kept) h g = subst (λ (l : OpenLine). Gathers most l text) (sym h) g
+
+by_item : (bounds : Bounds) (k m n : Known) (g0 g1 g2 l0 l1 l2 number : ℕ) (raw : Bytes) (wrong : Option OpenLine) (it : Item) → IfSome wrong (λ line. Gathers bounds.line line (content raw)) → PassedBy bounds k m g0 g1 l0 l1 → Consumes m n raw → Rises m g1 g2 (length raw) → IfSome m (λ xs. IfSome n (λ ys. raw_lines xs ≡ raw ∷ raw_lines ys)) → l2 ≡ l1 + 1 → number ≡ l2 → is_skipped (content raw) ≡ false → takes_payload bounds (content raw) ≡ false
+    → IsReadAs bounds (Plain (content raw)) it → IfSome k (λ xs. Gave bounds l0 xs n l2 number wrong it) × IfSome k (λ xs. IfSome n (λ ys. g2 + length ys ≡ g0 + length xs))
+by_item bounds None m n g0 g1 g2 l0 l1 l2 number raw wrong it kept h c g f l num e q i = (tt, tt)
+by_item bounds (Some xs) None n g0 g1 g2 l0 l1 l2 number raw wrong it kept h c g f l num e q i = let none = h.1 in absurd cc
+by_item bounds (Some xs) (Some zs) None g0 g1 g2 l0 l1 l2 number raw wrong it kept h c g f l num e q i = absurd c
+by_item bounds (Some xs) (Some zs) (Some ws) g0 g1 g2 l0 l1 l2 number raw wrong it kept h c g f l num e q i =
     let same : zs ≡ h.0 = some_is zs h.0 h.1 in
     let len : length zs ≡ length raw + length ws = ap length c ∙ length-append raw ws in
     let len1 : length zs ≡ length h.0 = ap length same in
@@ -172,13 +177,15 @@ by_item bounds (Some xs) (Some zs) (Some ws) g0 g1 g2 l0 l1 l2 number raw it h c
             ∙ plain_line (takes_payload bounds) l1 raw (raw_lines ws) e q
             ∙ ap (λ (j : ℕ). (record { number = suc l1; entry = Plain (content raw) }) ∷ numbered_left bounds j ws) next
             ∙ ap (λ (j : ℕ). (record { number = j; entry = Plain (content raw) }) ∷ numbered_left bounds l2 ws) named;
+        kept = kept;
         reads = i;
       },
       omega arith,
     )
 
-pub passed_to : (bounds : Bounds) (a b c : Stream) (line : OpenLine) (t : TookLine bounds b c line) (number : ℕ) (it : Item) → number ≡ c.lines → Passed bounds a b → is_skipped (content t.raw) ≡ false → takes_payload bounds (content t.raw) ≡ false → IsReadAs bounds (Plain (content t.raw)) it → IfSome a.left (λ xs. Gave bounds a.lines xs c.left c.lines number it) × Counts a c
-passed_to bounds a b c line t number it num h e q i = by_item bounds a.left b.left c.left a.given b.given c.given a.lines b.lines c.lines number t.raw it h t.taken.bytes_are t.taken.counted t.first t.lines num e q i
+pub passed_to : (bounds : Bounds) (a b c : Stream) (line : OpenLine) (t : TookLine bounds b c line) (number : ℕ) (wrong : Option OpenLine) (it : Item) → number ≡ c.lines → IfSome wrong (λ kept. kept ≡ line) → Passed bounds a b → is_skipped (content t.raw) ≡ false → takes_payload bounds (content t.raw) ≡ false → IsReadAs bounds (Plain (content t.raw)) it → IfSome a.left (λ xs. Gave bounds a.lines xs c.left c.lines number wrong it) × Counts a c
+passed_to bounds a b c line t number wrong it num kept h e q i =
+    by_item bounds a.left b.left c.left a.given b.given c.given a.lines b.lines c.lines number t.raw wrong it (kept_of bounds.line line (content t.raw) wrong kept t.gathers) h t.taken.bytes_are t.taken.counted t.first t.lines num e q i
 
 -- a line with its payload
 
@@ -186,10 +193,10 @@ passed_to bounds a b c line t number it num h e q i = by_item bounds a.left b.le
 abbrev CountsLines : Known → Known → ℕ → ℕ → Option Kept → Type 0
 CountsLines n o l2 l3 p = IfSome p (λ _. IfSome n (λ xs. IfSome o (λ ys. l3 + length (raw_lines ys) ≡ l2 + length (raw_lines xs))))
 
-gave_told : (bounds : Bounds) (xs ws line : Bytes) (o : Option (Bytes × List Bytes)) (left : Known) (l0 l2 l3 number : ℕ) (p : Option Kept) (it : Item) → payload_of (raw_lines ws) ≡ o → first_entry bounds (raw_lines xs) ≡ with_told line o
+gave_told : (bounds : Bounds) (xs ws line : Bytes) (o : Option (Bytes × List Bytes)) (left : Known) (l0 l2 l3 number : ℕ) (wrong : Option OpenLine) (p : Option Kept) (it : Item) → IfSome wrong (λ kept. Gathers bounds.line kept line) → payload_of (raw_lines ws) ≡ o → first_entry bounds (raw_lines xs) ≡ with_told line o
     → numbered_left bounds l0 xs ≡ numbered_by (takes_payload bounds) l2 (Some (begun_at number line)) (raw_lines ws) → IsPayloadOf bounds.payload o left p → CountsLines (Some ws) left l2 l3 p
-    → ((told : Option Bytes) → KeptTold bounds.payload told p → IsReadAs bounds (Loading line told) it) → Gave bounds l0 xs left l3 number it
-gave_told bounds xs ws line None left l0 l2 l3 number p it w e numbers is counts reads = record {
+    → ((told : Option Bytes) → KeptTold bounds.payload told p → IsReadAs bounds (Loading line told) it) → Gave bounds l0 xs left l3 number wrong it
+gave_told bounds xs ws line None left l0 l2 l3 number wrong p it kept w e numbers is counts reads = record {
   entry = Loading line None;
   rest = [];
   first = e;
@@ -197,10 +204,11 @@ gave_told bounds xs ws line None left l0 l2 l3 number p it w e numbers is counts
   order = next_left bounds (raw_lines xs) (Loading line None) [] e;
   numbered =
       numbers ∙ left_open (takes_payload bounds) l2 (begun_at number line) (raw_lines ws) w ∙ ap (λ (xs : List Numbered). (record { number = number; entry = Loading line None }) ∷ xs) (sym (no_items (takes_payload bounds) l3));
+  kept = kept;
   reads = reads None is.0;
 }
-gave_told bounds xs ws line (Some x) left l0 l2 l3 number None it w e numbers is counts reads = absurd is.3
-gave_told bounds xs ws line (Some x) left l0 l2 l3 number (Some p) it w e numbers is counts reads =
+gave_told bounds xs ws line (Some x) left l0 l2 l3 number wrong None it kept w e numbers is counts reads = absurd is.3
+gave_told bounds xs ws line (Some x) left l0 l2 l3 number wrong (Some p) it kept w e numbers is counts reads =
     let few : l3 + length (raw_lines is.0) ≡ l2 + length (raw_lines ws) = subst (λ (o : Known). IfSome o (λ ys. l3 + length (raw_lines ys) ≡ l2 + length (raw_lines ws))) is.1 counts in
     let same : length x.1 ≡ length (raw_lines is.0) = ap length is.2 in
     let count : l3 + length x.1 ≡ l2 + length (raw_lines ws) = omega arith in
@@ -213,16 +221,17 @@ gave_told bounds xs ws line (Some x) left l0 l2 l3 number (Some p) it w e number
       order = next_left bounds (raw_lines xs) (Loading line (Some x.0)) (raw_lines is.0) first;
       numbered =
           numbers ∙ closed_after (takes_payload bounds) l2 l3 (begun_at number line) (raw_lines ws) x w count ∙ ap (λ (ls : List Bytes). (record { number = number; entry = Loading line (Some x.0) }) ∷ numbered_by (takes_payload bounds) l3 None ls) is.2;
+      kept = kept;
       reads = reads (Some x.0) is.3;
     }
 
-by_load : (bounds : Bounds) (k m n o : Known) (g0 g1 g2 g3 l0 l1 l2 l3 number : ℕ) (raw : Bytes) (p : Option Kept) (it : Item) → PassedBy bounds k m g0 g1 l0 l1 → Consumes m n raw → Rises m g1 g2 (length raw) → IfSome m (λ xs. IfSome n (λ ys. raw_lines xs ≡ raw ∷ raw_lines ys)) → l2 ≡ l1 + 1 → number ≡ l2 → CountsLines n o l2 l3 p → is_skipped (content raw) ≡ false → takes_payload bounds (content raw) ≡ true
+by_load : (bounds : Bounds) (k m n o : Known) (g0 g1 g2 g3 l0 l1 l2 l3 number : ℕ) (raw : Bytes) (wrong : Option OpenLine) (p : Option Kept) (it : Item) → IfSome wrong (λ line. Gathers bounds.line line (content raw)) → PassedBy bounds k m g0 g1 l0 l1 → Consumes m n raw → Rises m g1 g2 (length raw) → IfSome m (λ xs. IfSome n (λ ys. raw_lines xs ≡ raw ∷ raw_lines ys)) → l2 ≡ l1 + 1 → number ≡ l2 → CountsLines n o l2 l3 p → is_skipped (content raw) ≡ false → takes_payload bounds (content raw) ≡ true
     → IfSome n (λ xs. IsPayloadOf bounds.payload (payload_of (raw_lines xs)) o p) → IfSome n (λ xs. IfSome o (λ ys. g3 + length ys ≡ g2 + length xs)) → ((told : Option Bytes) → KeptTold bounds.payload told p → IsReadAs bounds (Loading (content raw) told) it)
-    → IfSome k (λ xs. Gave bounds l0 xs o l3 number it) × IfSome k (λ xs. IfSome o (λ ys. g3 + length ys ≡ g0 + length xs))
-by_load bounds None m n o g0 g1 g2 g3 l0 l1 l2 l3 number raw p it h c g f l num counts e q is d reads = (tt, tt)
-by_load bounds (Some xs) None n o g0 g1 g2 g3 l0 l1 l2 l3 number raw p it h c g f l num counts e q is d reads = let none = h.1 in absurd cc
-by_load bounds (Some xs) (Some zs) None o g0 g1 g2 g3 l0 l1 l2 l3 number raw p it h c g f l num counts e q is d reads = absurd c
-by_load bounds (Some xs) (Some zs) (Some ws) o g0 g1 g2 g3 l0 l1 l2 l3 number raw p it h c g f l num counts e q is d reads =
+    → IfSome k (λ xs. Gave bounds l0 xs o l3 number wrong it) × IfSome k (λ xs. IfSome o (λ ys. g3 + length ys ≡ g0 + length xs))
+by_load bounds None m n o g0 g1 g2 g3 l0 l1 l2 l3 number raw wrong p it kept h c g f l num counts e q is d reads = (tt, tt)
+by_load bounds (Some xs) None n o g0 g1 g2 g3 l0 l1 l2 l3 number raw wrong p it kept h c g f l num counts e q is d reads = let none = h.1 in absurd cc
+by_load bounds (Some xs) (Some zs) None o g0 g1 g2 g3 l0 l1 l2 l3 number raw wrong p it kept h c g f l num counts e q is d reads = absurd c
+by_load bounds (Some xs) (Some zs) (Some ws) o g0 g1 g2 g3 l0 l1 l2 l3 number raw wrong p it kept h c g f l num counts e q is d reads =
     let same : zs ≡ h.0 = some_is zs h.0 h.1 in
     let len : length zs ≡ length raw + length ws = ap length c ∙ length-append raw ws in
     let len1 : length zs ≡ length h.0 = ap length same in
@@ -236,7 +245,7 @@ by_load bounds (Some xs) (Some zs) (Some ws) o g0 g1 g2 g3 l0 l1 l2 l3 number ra
     ∙ load_line (takes_payload bounds) l1 raw (raw_lines ws) e q
     ∙ ap (λ (j : ℕ). numbered_by (takes_payload bounds) j (Some (begun_at (suc l1) (content raw))) (raw_lines ws)) next
     ∙ ap (λ (j : ℕ). numbered_by (takes_payload bounds) l2 (Some (begun_at j (content raw))) (raw_lines ws)) named in
-    (gave_told bounds xs ws (content raw) (payload_of (raw_lines ws)) o l0 l2 l3 number p it refl first numbers is counts reads, by_left o d)
+    (gave_told bounds xs ws (content raw) (payload_of (raw_lines ws)) o l0 l2 l3 number wrong p it kept refl first numbers is counts reads, by_left o d)
   where
     by_left : (o : Known) → IfSome o (λ ys. g3 + length ys ≡ g2 + length ws) → IfSome o (λ ys. g3 + length ys ≡ g0 + length xs)
     by_left None d = tt
@@ -247,7 +256,7 @@ by_load bounds (Some xs) (Some zs) (Some ws) o g0 g1 g2 g3 l0 l1 l2 l3 number ra
         let len2 : g1 + length h.0 ≡ g0 + length xs = h.3 in
         omega arith
 
-pub passed_load : (bounds : Bounds) (a b c d : Stream) (line : OpenLine) (t : TookLine bounds b c line) (number : ℕ) (p : Option Kept) (it : Item) → number ≡ c.lines → Passed bounds a b → is_skipped (content t.raw) ≡ false → takes_payload bounds (content t.raw) ≡ true → TookPayload bounds.payload c d p
-    → ((told : Option Bytes) → KeptTold bounds.payload told p → IsReadAs bounds (Loading (content t.raw) told) it) → IfSome a.left (λ xs. Gave bounds a.lines xs d.left d.lines number it) × Counts a d
-passed_load bounds a b c d line t number p it num h e q k reads =
-    by_load bounds a.left b.left c.left d.left a.given b.given c.given d.given a.lines b.lines c.lines d.lines number t.raw p it h t.taken.bytes_are t.taken.counted t.first t.lines num k.lines e q k.is k.counted reads
+pub passed_load : (bounds : Bounds) (a b c d : Stream) (line : OpenLine) (t : TookLine bounds b c line) (number : ℕ) (wrong : Option OpenLine) (p : Option Kept) (it : Item) → number ≡ c.lines → IfSome wrong (λ kept. kept ≡ line) → Passed bounds a b → is_skipped (content t.raw) ≡ false → takes_payload bounds (content t.raw) ≡ true → TookPayload bounds.payload c d p
+    → ((told : Option Bytes) → KeptTold bounds.payload told p → IsReadAs bounds (Loading (content t.raw) told) it) → IfSome a.left (λ xs. Gave bounds a.lines xs d.left d.lines number wrong it) × Counts a d
+passed_load bounds a b c d line t number wrong p it num kept h e q k reads =
+    by_load bounds a.left b.left c.left d.left a.given b.given c.given d.given a.lines b.lines c.lines d.lines number t.raw wrong p it (kept_of bounds.line line (content t.raw) wrong kept t.gathers) h t.taken.bytes_are t.taken.counted t.first t.lines num k.lines e q k.is k.counted reads

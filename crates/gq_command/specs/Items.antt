@@ -1,5 +1,5 @@
 -- What a reader of commands answers.
-use Rattle.std.specs.Prelude.{◌≡◌, ℕ, ◌<◌, ◌≤◌, Bool, true, false, ◌∷◌, length, Option, Some, None, ◌⊎◌}
+use Rattle.std.specs.Prelude.{◌≡◌, ℕ, ◌<◌, ◌≤◌, Bool, true, false, ◌∷◌, length, Option, Some, None, ◌⊎◌, IfSome}
 use Rattle.gq_row.specs.declared.limits.Bounds.{Bounds}
 use Rattle.gq_command.specs.declared.lines.LineRefusal.{LineRefusal}
 use Rattle.gq_command.specs.declared.lines.LineRefusal.TheVariants as refusal
@@ -13,6 +13,8 @@ use Rattle.gq_command.specs.Commands.{Bytes, is_command, is_open, as_said, fits}
 use Rattle.gq_command.specs.Lines.{Says}
 use Rattle.gq_script.specs.Script.{Entry, Plain, Loading, line_of, raw_lines, first_entry, items_left}
 use Rattle.gq_script.specs.Numbering.{numbered_left}
+use Rattle.gq_script.specs.Gathering.{Gathers}
+use Rattle.gq_script.specs.declared.gather.OpenLine.{OpenLine}
 
 -- what stands for the payload told, which is None where it is open
 abbrev pub StandsFor : ℕ → Option Bytes → Payload → Type 0
@@ -60,14 +62,15 @@ abbrev pub IsReady : Bounds → Item → Type 0
 IsReady b (item.Command c) = (is_command (as_said c) ≡ true) × (fits b c ≡ true)
 IsReady b (item.Refused r) = Unit {0}
 
--- of the bytes that were left after n lines the first entry was taken, with the blank lines and comments before it and nothing after it; its line has this number, m lines came in all, and this item was read from it
-pub record Gave (b : Bounds) (n : ℕ) (bytes : Bytes) (left : Option Bytes) (m number : ℕ) (it : Item) : Type 0 where
+-- of the bytes that were left after n lines the first entry was taken, with the blank lines and comments before it and nothing after it; its line has this number, m lines came in all, this is kept of the line where it is wrong, and this item was read from it
+pub record Gave (b : Bounds) (n : ℕ) (bytes : Bytes) (left : Option Bytes) (m number : ℕ) (wrong : Option OpenLine) (it : Item) : Type 0 where
   pub entry : Entry
   pub rest : Bytes
   pub first : first_entry b (raw_lines bytes) ≡ Some (entry, raw_lines rest)
   pub left_is : left ≡ Some rest
   pub order : items_left b bytes ≡ entry ∷ items_left b rest
   pub numbered : numbered_left b n bytes ≡ (record { number = number; entry = entry }) ∷ numbered_left b m rest
+  pub kept : IfSome wrong (λ line. Gathers b.line line (line_of entry))
   pub reads : IsReadAs b entry it
 
 -- the item with this payload, where it is a load
@@ -75,10 +78,11 @@ abbrev pub with_payload : Payload → Item → Item
 with_payload p (item.Command (Load table carried)) = item.Command (Load table p)
 with_payload p it = it
 
--- a reader, by the bytes that it has left, how many it gave, how many lines came, the line of the last item, and whether a read failed
+-- a reader, by the bytes that it has left, how many it gave, how many lines came, the number of the last item's line, what is kept of it where it is wrong, and whether a read failed
 pub record Pending : Type 0 where
   pub left : Option Bytes
   pub given : ℕ
   pub lines : ℕ
   pub line : ℕ
+  pub wrong : Option OpenLine
   pub failed : Bool

@@ -37,6 +37,6 @@ mod reader;
 
 pub use command::{By, Command, Exists, Payload};
 pub use gq_clause::{Aggregate, Comparison, Operand, Test};
-pub use gq_script::ReadFault;
+pub use gq_script::{OpenLine, ReadFault};
 pub use lines::{LineRefusal, parse_line};
 pub use reader::{CommandReader, Item};

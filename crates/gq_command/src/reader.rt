@@ -21,11 +21,13 @@ pub enum Item {
     Refused(LineRefusal),
 }
 
-/// What a line gives that is no blank line and no comment.
-fn item_of(alloc: Global, line: OpenLine, limits: &Limits) -> Item
+/// What a line gives that is no blank line and no comment. `wrong` becomes the line, if it is no command.
+fn item_of(alloc: Global, line: OpenLine, wrong: &mut Option<OpenLine>, limits: &Limits) -> Item
     ensures reads { (text : Bytes) → Gathers limits.now.bounds.line line text → is_skipped text ≡ false → IsReadAs limits.now.bounds (Plain text) result }
     ensures ready { IsReady limits.now.bounds result }
+    ensures kept { IfSome wrong.new (λ kept. kept ≡ line) }
 {
+    *wrong = None;
     if line.too_long {
         return Item::Refused(LineRefusal::LineTooLong);
     }
@@ -34,11 +36,25 @@ fn item_of(alloc: Global, line: OpenLine, limits: &Limits) -> Item
     }
     // A dash alone is no token.
     if matches!(line.opening, Opening::Dash) {
+        *wrong = Some(line);
         return Item::Refused(LineRefusal::Syntax);
     }
     match parse_line(alloc, line.kept.as_slice(), limits) {
         Ok(command) => Item::Command(command),
-        Err(refusal) => Item::Refused(refusal),
+        Err(refusal) => {
+            *wrong = wrong_line(&refusal, line);
+            Item::Refused(refusal)
+        }
+    }
+}
+
+// A refused line, if it is no command.
+fn wrong_line(refusal: &LineRefusal, line: OpenLine) -> Option<OpenLine>
+    ensures { IfSome result (λ kept. kept ≡ line) }
+{
+    match refusal {
+        LineRefusal::Syntax => Some(line),
+        LineRefusal::LineTooLong | LineRefusal::Limit | LineRefusal::Memory => None,
     }
 }
 
@@ -81,14 +97,16 @@ fn with_payload(item: Item, payload: Payload) -> Item
     }
 }
 
-/// The first item of what is left, or `None` where there is none. `number` becomes that of its line.
+/// The first item of what is left, or `None` where there is none. `number` becomes that of its line,
+/// and `wrong` the line, if it is no command.
 fn next_item<R: Read>(
     alloc: Global,
     source: &mut Source<R>,
     number: &mut u64,
+    wrong: &mut Option<OpenLine>,
     limits: &Limits,
 ) -> Result<Option<Item>, ReadFault>
-    ensures item { IfOk result (λ x. IfSome x (λ item. IfSome source.old.left (λ bytes. Gave limits.now.bounds source.old.lines bytes source.new.left source.new.lines number.new item))) }
+    ensures item { IfOk result (λ x. IfSome x (λ item. IfSome source.old.left (λ bytes. Gave limits.now.bounds source.old.lines bytes source.new.left source.new.lines number.new wrong.new item))) }
     ensures ready { IfOk result (λ x. IfSome x (λ item. IsReady limits.now.bounds item)) }
     ensures end { IfOk result (λ x. IfNone x (IfSome source.old.left (λ bytes. (items_left limits.now.bounds bytes ≡ []) × (source.new.left ≡ Some [])))) }
     ensures counted { OnOk result (Counts source.old source.new) }
@@ -101,7 +119,7 @@ fn next_item<R: Read>(
         if !line.is_skipped() {
             *number = source.lines();
             let loads = line.takes_payload();
-            let item = item_of(alloc, line, limits);
+            let item = item_of(alloc, line, wrong, limits);
             if !loads {
                 return Ok(Some(item));
             }
@@ -122,6 +140,7 @@ fn next_item<R: Read>(
 pub struct CommandReader<R: Read> {
     source: Source<R>,
     line: u64,
+    wrong: Option<OpenLine>,
     failed: bool,
 }
 
@@ -130,7 +149,7 @@ impl<R: Read> Model for CommandReader<R> {
 
     ghost Value = { Pending };
 
-    ghost view = { λ s. record { left = s.source.left; given = s.source.given; lines = s.source.lines; line = s.line; failed = s.failed } };
+    ghost view = { λ s. record { left = s.source.left; given = s.source.given; lines = s.source.lines; line = s.line; wrong = s.wrong; failed = s.failed } };
 }
 
 impl<R: Read> CommandReader<R> {
@@ -149,6 +168,7 @@ impl<R: Read> CommandReader<R> {
         CommandReader {
             source: Source::new(reader),
             line: 0,
+            wrong: None,
             failed: false,
         }
     }
@@ -160,11 +180,18 @@ impl<R: Read> CommandReader<R> {
         self.line
     }
 
+    /// The line of the item that came last, if it is refused as no command.
+    pub fn wrong_line(&self) -> &Option<OpenLine>
+        ensures { result.now ≡ self.now.wrong }
+    {
+        &self.wrong
+    }
+
     /// The next command or refusal, or `None` at the script's end.
     pub fn next(&mut self, alloc: Global, limits: &Limits) -> Result<Option<Item>, ReadFault>
         // What it gives is read from the first of the items that are left, and that item's bytes are
         // consumed, whatever it refuses. The line is that item's.
-        ensures item { IfOk result (λ x. IfSome x (λ item. IfSome self.old.left (λ bytes. Gave limits.now.bounds self.old.lines bytes self.new.left self.new.lines self.new.line item))) }
+        ensures item { IfOk result (λ x. IfSome x (λ item. IfSome self.old.left (λ bytes. Gave limits.now.bounds self.old.lines bytes self.new.left self.new.lines self.new.line self.new.wrong item))) }
         // A command keeps the grammar, its rules and the limits, also where the bytes aren't known.
         ensures ready { IfOk result (λ x. IfSome x (λ item. IsReady limits.now.bounds item)) }
         // None comes only where no item is left.
@@ -180,7 +207,13 @@ impl<R: Read> CommandReader<R> {
         if self.failed {
             return Err(ReadFault);
         }
-        match next_item(alloc, &mut self.source, &mut self.line, limits) {
+        match next_item(
+            alloc,
+            &mut self.source,
+            &mut self.line,
+            &mut self.wrong,
+            limits,
+        ) {
             Ok(item) => Ok(item),
             Err(fault) => {
                 self.failed = true;

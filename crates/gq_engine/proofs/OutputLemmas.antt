@@ -1,6 +1,7 @@
 -- Texts and complaints with one reply more, and what streams have of them.
-use Rattle.std.proofs.Common.{◌≡◌, ℕ, Bool, true, false, List, [], ◌∷◌, ◌++◌, length, Option, Some, None, Result, Ok, Err, refl, sym, ap, ◌∙◌, subst, append_assoc, ◌+◌, arith}
-use Rattle.std.specs.Prelude.{◌||◌, ⊤, flat_map}
+use Rattle.std.proofs.Common.{◌≡◌, ℕ, Bool, true, false, List, [], ◌∷◌, ◌++◌, length, Option, Some, None, Result, Ok, Err, refl, sym, ap, ◌∙◌, subst, append_assoc, arith, inl}
+use Rattle.std.specs.Prelude.{◌||◌, flat_map, IfErr, OnOk}
+use Rattle.std.specs.Result.{is_ok}
 use Rattle.std.specs.List.{list_any}
 use Rattle.std.specs.Io.KnownBytes.{Appends}
 use Rattle.std.proofs.Math.Bool.{or_assoc}
@@ -8,21 +9,21 @@ use Rattle.std.proofs.lemmas.List.{append-nil, map-append}
 use Rattle.std.proofs.lemmas.List.Folds.{list_any-append}
 use Rattle.gq_command.specs.Commands.{Bytes}
 use Rattle.gq_row.specs.declared.limits.Bounds.{Bounds}
-use Rattle.gq_command.specs.Script.{Entry, Numbered, entries_of, items, numbered, without_mark}
+use Rattle.gq_command.specs.Script.{Entry, Numbered, OpenLine, entries_of, items, numbered, without_mark}
 use Rattle.gq_command.proofs.NumberLemmas.{numbered_items}
 use Rattle.gq_reply.specs.declared.reply.Reply.{Reply}
 use Rattle.gq_reply.specs.declared.reply.Reply.TheVariants as reply
-use Rattle.gq_reply.specs.Replies.{text}
+use Rattle.gq_reply.specs.Replies.{is_refusal, text}
 use Rattle.gq_engine.specs.declared.output.Output.{Output}
 use Rattle.gq_engine.specs.declared.output.Output.TheVariants.{Replies, Results}
 use Rattle.gq_engine.specs.declared.run.Summary.{Summary}
 use Rattle.gq_engine.specs.declared.run.Fault.{Fault}
+use Rattle.gq_engine.specs.declared.sending.WriteFault.{WriteFault}
 use Rattle.gq_engine.specs.declared.run.Fault.TheVariants as fault
 use Rattle.gq_engine.specs.Headline.{Answered, Ran, State}
-use Rattle.gq_engine.specs.Outputs.{IsResultIn, RanAs, RanInto, TellsOn, between, complaint, complaints, is_result, result_in, text_as, texts, texts_after}
+use Rattle.gq_engine.specs.Outputs.{AreComplaints, IsComplaint, IsResultIn, RanAs, Tells, TellsOn, between, complaint, is_result, result_in, text_as, texts, texts_after}
 use Rattle.gq_engine.specs.Runs.{Setting}
 use Rattle.gq_engine.specs.Sending.{AppendsFront}
-use Rattle.gq_reply.proofs.Texts.{flat_map-push}
 use Rattle.gq_engine.proofs.Bytes.{appends_more, appends_nothing}
 
 or_false : (b : Bool) → (b || false) ≡ b
@@ -41,12 +42,12 @@ texts_more output earlier (x ∷ xs) r =
 pub texts_push : (output : Output) (rs : List Reply) (r : Reply) → texts output (rs ++ r ∷ []) ≡ texts output rs ++ text_as output (list_any is_result rs) r
 texts_push output rs r = texts_more output false rs r
 
-pub complaints_push : (output : Output) (items : List Numbered) (item : Numbered) (rs : List Reply) (r : Reply) → length items ≡ length rs → complaints output (items ++ item ∷ []) (rs ++ r ∷ []) ≡ complaints output items rs ++ complaint output item.number r
-complaints_push output [] item [] r e = append-nil (complaint output item.number r)
-complaints_push output [] item (x ∷ xs) r e = absurd (omega (arith, e))
-complaints_push output (n ∷ ns) item [] r e = absurd (omega (arith, e))
-complaints_push output (n ∷ ns) item (x ∷ xs) r e =
-    ap (λ l. complaint output n.number x ++ l) (complaints_push output ns item xs r (omega (arith, e))) ∙ sym (append_assoc (complaint output n.number x) (complaints output ns xs) (complaint output item.number r))
+pub complaints_push : (output : Output) (items : List Numbered) (item : Numbered) (rs : List Reply) (r : Reply) (said text : Bytes) → length items ≡ length rs → AreComplaints output items rs said → IsComplaint output item r text → AreComplaints output (items ++ item ∷ []) (rs ++ r ∷ []) (said ++ text)
+complaints_push output [] item [] r said text e h k = (text, [], ap (λ (l : Bytes). l ++ text) h ∙ sym (append-nil text), k, refl)
+complaints_push output [] item (x ∷ xs) r said text e h k = absurd (omega (arith, e))
+complaints_push output (n ∷ ns) item [] r said text e h k = absurd (omega (arith, e))
+complaints_push output (n ∷ ns) item (x ∷ xs) r said text e h k =
+    (h.0, h.1 ++ text, ap (λ (l : Bytes). l ++ text) h.2 ∙ append_assoc h.0 h.1 text, h.3, complaints_push output ns item xs r h.1 text (omega (arith, e)) h.4 k)
 
 -- a stream has all of the bytes while it takes them, and a front once it has failed
 abbrev pub Told : Bool → Option Bytes → Option Bytes → Bytes → Type 0
@@ -85,6 +86,31 @@ told_more true true a b c x y h k = appends_more a b c x y h k
 told_more true false a b c x y h k = front_after a b c x y h k
 told_more false true a b c x y h k = absurd k
 told_more false false a b c x y h k = let P : Option Bytes → Type 0 = λ o. AppendsFront a o (x ++ y) in subst P (sym k) (front_longer a b x y h)
+
+-- bytes that were sent, by whether all were
+pub sent : (r : Result (Unit {0}) WriteFault) (ok : Bool) (a b : Option Bytes) (x : Bytes) → ok ≡ is_ok r → OnOk r (Appends a b x) → IfErr r (λ _. AppendsFront a b x) → TellsOn true ok a b x
+sent (Ok done) ok a b x e h k = let P : Bool → Type 0 = λ o. TellsOn true o a b x in subst P (sym e) h
+sent (Err why) ok a b x e h k = let P : Bool → Type 0 = λ o. TellsOn true o a b x in subst P (sym e) k
+
+pub told_fixed : (b : Bounds) (output : Output) (line : ℕ) (wrong : Option OpenLine) (r : Reply) (was_open is_open : Bool) (before after : Option Bytes) (text : Bytes) → text ≡ complaint output line r → TellsOn was_open is_open before after text
+    → Tells b output line wrong r was_open is_open before after
+told_fixed b output line wrong r was_open is_open before after text e t = record { text = text; about = λ item num kept. inl (e ∙ ap (λ (n : ℕ). complaint output n r) (sym num)); told = t }
+
+pub silent : (b : Bounds) (output : Output) (line : ℕ) (wrong : Option OpenLine) (r : Reply) (is_open : Bool) (before : Option Bytes) → is_open ≡ false → Tells b output line wrong r is_open is_open before before
+silent b output line wrong r is_open before e =
+    let P : Bool → Type 0 = λ o. TellsOn o o before before (complaint output line r) in
+    told_fixed b output line wrong r is_open is_open before before (complaint output line r) refl (subst P (sym e) refl)
+
+pub unrefused : (b : Bounds) (output : Output) (line : ℕ) (wrong : Option OpenLine) (r : Reply) (is_open : Bool) (before : Option Bytes) → is_open ≡ true → is_refusal r ≡ false → Tells b output line wrong r is_open is_open before before
+unrefused b output line wrong r is_open before e f =
+    let P : Bool → Type 0 = λ o. TellsOn o o before before [] in
+    told_fixed b output line wrong r is_open is_open before before [] (sym (nothing output r f)) (subst P (sym e) (appends_nothing before))
+  where
+    nothing : (output : Output) (r : Reply) → is_refusal r ≡ false → complaint output line r ≡ []
+    nothing Replies r f = refl
+    nothing (Results format) (reply.Done n) f = refl
+    nothing (Results format) (reply.Rows header rows) f = refl
+    nothing (Results format) (reply.Refused why number) f = absurd cc
 
 -- replies as they are bring their texts
 plain : (earlier : Bool) (r : Reply) → text_as Replies earlier r ≡ text r

@@ -3,7 +3,7 @@ use Rattle.std.proofs.Common.{◌≡◌, ◌+◌, inl, inr, ◌≤◌, ℕ, Bool
 use Rattle.std.specs.Prelude.{count_by, ⊤, IfSome, ◌||◌}
 use Rattle.std.specs.List.{list_any}
 use Rattle.std.specs.Io.KnownBytes.{Appends}
-use Rattle.std.proofs.lemmas.List.{append-nil, map-append}
+use Rattle.std.proofs.lemmas.List.{map-append}
 use Rattle.std.proofs.lemmas.List.Sums.{fold-append, sum_by-cons}
 use Rattle.gq_row.specs.declared.limits.Bounds.{Bounds}
 use Rattle.gq_command.specs.declared.reader.Item.{Item}
@@ -23,9 +23,9 @@ use Rattle.gq_engine.specs.Databases.{Database, IsKeyed}
 use Rattle.gq_reply.specs.Refusals.{refused}
 use Rattle.gq_reply.specs.Replies.{is_refusal}
 use Rattle.gq_engine.specs.Runs.{Setting, LegalAnswer, AsListsAnswer, WantsMemory, StoreFailed, StoreLied, AnsweredAlike, LegalStep, LegalRun, SameTables, FaultsHappened, is_store_fault}
-use Rattle.gq_engine.specs.Headline.{State, Answered}
+use Rattle.gq_engine.specs.Headline.{State}
 use Rattle.gq_engine.specs.declared.output.Output.{Output}
-use Rattle.gq_engine.specs.Outputs.{RanAs, TellsOn, complaint, complaints, is_result, text_as, texts}
+use Rattle.gq_engine.specs.Outputs.{AreComplaints, RanAs, Tells, complaint, is_result, text_as, texts}
 use Rattle.gq_engine.specs.Serving.{Wrote, WroteFront}
 use Rattle.gq_engine.proofs.OutputLemmas.{Told, front_longer, any_push, complaints_push, told_as_front, told_more, told_nothing, texts_push}
 use Rattle.gq_engine.proofs.OrderLemmas.{same_tables, answer_lost, answered_from, keyed_after}
@@ -67,7 +67,9 @@ pub record SoFar (c : Course) (script : Bytes) (p : Point) : Type 0 where
   pub faults : FaultsHappened replies c.old.failures p.now.failures
   pub written : Appends c.before p.after (texts c.output replies)
   pub earlier_is : p.earlier ≡ list_any is_result replies
-  pub complained : Told p.is_open c.errors p.told (complaints c.output done replies)
+  pub said : Bytes
+  pub complaints : AreComplaints c.output done replies said
+  pub complained : Told p.is_open c.errors p.told said
   pub commands : p.commands ≡ length replies
   pub refusals : p.refused ≡ count_by is_refusal replies
 
@@ -135,6 +137,8 @@ begin c reader k h counted none = begin_at c.script h counted
       faults = omega arith;
       written = appends_nothing c.before;
       earlier_is = refl;
+      said = [];
+      complaints = refl;
       complained = told_nothing c.errors;
       commands = refl;
       refusals = refl;
@@ -175,11 +179,11 @@ counted_on reader reader' xs ys e f counted =
 
 -- the next item of the bytes that are left, with the number of its line
 abbrev GaveNext : Bounds → Pending → Bytes → Pending → Item → Type 0
-GaveNext b reader bytes reader' it = Gave b reader.lines bytes reader'.left reader'.lines reader'.line it
+GaveNext b reader bytes reader' it = Gave b reader.lines bytes reader'.left reader'.lines reader'.line reader'.wrong it
 
 -- one more item was answered, its text written, and a refusal told
 go_on : (c : Course) (script : Option Bytes) (p : Point) (reader' : Pending) (after' told' : Option Bytes) (is_open' : Bool) (it : Item) (reply : Reply) (new : State)
-    → going c script p → IfSome p.reader.left (λ bytes. GaveNext c.setting.limits p.reader bytes reader' it) → Counted p.reader reader' → Wrote c.output p.earlier c.setting p.now it new p.after after' reply → TellsOn p.is_open is_open' p.told told' (complaint c.output reader'.line reply)
+    → going c script p → IfSome p.reader.left (λ bytes. GaveNext c.setting.limits p.reader bytes reader' it) → Counted p.reader reader' → Wrote c.output p.earlier c.setting p.now it new p.after after' reply → Tells c.setting.limits c.output reader'.line reader'.wrong reply p.is_open is_open' p.told told'
     → going c script (record { now = new; reader = reader'; after = after'; told = told'; earlier = p.earlier || is_result reply; is_open = is_open'; commands = p.commands + 1; refused = cond (is_refusal reply) (p.refused + 1) p.refused })
 go_on c None p reader' after' told' is_open' it reply new h given counted wrote told = tt
 go_on c (Some script) p reader' after' told' is_open' it reply new h given counted wrote told =
@@ -205,9 +209,9 @@ go_on c (Some script) p reader' after' told' is_open' it reply new h given count
           let own : Appends p.after after' text = let Q : Bool → Type 0 = λ b. Appends p.after after' (text_as c.output b reply) in subst Q h.earlier_is wrote.written in
           let Q : Bytes → Type 0 = λ l. Appends c.before after' l in subst Q (sym (texts_push c.output h.replies reply)) (appends_more c.before p.after after' (texts c.output h.replies) text h.written own);
       earlier_is = ap (λ b. b || is_result reply) h.earlier_is ∙ sym (any_push h.replies reply);
-      complained =
-          let Q : Bytes → Type 0 = λ l. Told is_open' c.errors told' l in
-          subst Q (sym (complaints_push c.output h.done item h.replies reply h.answers)) (told_more p.is_open is_open' c.errors p.told told' (complaints c.output h.done h.replies) (complaint c.output reader'.line reply) h.complained told);
+      said = h.said ++ told.text;
+      complaints = complaints_push c.output h.done item h.replies reply h.said told.text h.answers h.complaints (told.about item refl gave.kept);
+      complained = told_more p.is_open is_open' c.errors p.told told' h.said told.text h.complained told.told;
       commands = omega (arith, h.commands, length-append h.replies (reply ∷ []));
       refusals = ap (λ k. cond (is_refusal reply) (k + 1) k) h.refusals ∙ sym (count_by-push is_refusal h.replies reply);
     }
@@ -235,7 +239,9 @@ ended c (Some script) p reader' h none counted few =
       replies = h.replies;
       answered = record { last = h.last; legal = h.legal; same = h.same; faults = h.faults };
       wrote = h.written;
-      complained = told_as_front p.is_open c.errors p.told (complaints c.output h.done h.replies) h.complained;
+      said = h.said;
+      complaints = h.complaints;
+      complained = told_as_front p.is_open c.errors p.told h.said h.complained;
       ends = record {
         within = omega (arith, all, h.counted, few);
         nothing_left = over;
@@ -254,7 +260,9 @@ stopped c (Some script) p h = record {
   replies = h.replies;
   answered = record { last = h.last; legal = h.legal; same = h.same; faults = h.faults };
   wrote = h.written;
-  complained = told_as_front p.is_open c.errors p.told (complaints c.output h.done h.replies) h.complained;
+  said = h.said;
+  complaints = h.complaints;
+  complained = told_as_front p.is_open c.errors p.told h.said h.complained;
   ends = tt;
 }
 
@@ -292,9 +300,9 @@ cut c (Some script) p reader' after' it new h given wrote =
         cut = own.is;
         written = appends_more c.before p.after after' (texts c.output h.replies) own.front h.written own.appends;
       };
-      complained =
-          let Q : Bytes → Type 0 = λ l. AppendsFront c.errors p.told l in
-          subst Q (sym (complaints_push c.output h.done item h.replies wrote.answer h.answers)) (front_longer c.errors p.told (complaints c.output h.done h.replies) (complaint c.output reader'.line wrote.answer) (told_as_front p.is_open c.errors p.told (complaints c.output h.done h.replies) h.complained));
+      said = h.said ++ complaint c.output reader'.line wrote.answer;
+      complaints = complaints_push c.output h.done item h.replies wrote.answer h.said (complaint c.output reader'.line wrote.answer) h.answers h.complaints (inl refl);
+      complained = front_longer c.errors p.told h.said (complaint c.output reader'.line wrote.answer) (told_as_front p.is_open c.errors p.told h.said h.complained);
       ends = tt;
     }
 
@@ -307,18 +315,19 @@ ended_at c p here b reader' e f h none counted few =
     let g : b ≡ c.setting.limits = f ∙ ap (λ (s : Setting). s.limits) e in
     ended c c.script p reader' h (subst P g none) counted (subst Q g few)
 
-pub go_on_at : (c : Course) (p : Point) (here : Setting) (b : Bounds) (reader' : Pending) (after' told' : Option Bytes) (earlier' is_open' : Bool) (n' m' : ℕ) (it : Item) (line : ℕ) (reply : Reply) (new : State) → here ≡ c.setting → b ≡ here.limits
+pub go_on_at : (c : Course) (p : Point) (here : Setting) (b : Bounds) (reader' : Pending) (after' told' : Option Bytes) (earlier' is_open' : Bool) (n' m' : ℕ) (it : Item) (output : Output) (there : Bounds) (reply : Reply) (new : State) → here ≡ c.setting → b ≡ here.limits
     → n' ≡ p.commands + 1 → m' ≡ cond (is_refusal reply) (p.refused + 1) p.refused → earlier' ≡ (p.earlier || is_result reply)
-    → line ≡ reader'.line → Going c p → IfSome p.reader.left (λ bytes. GaveNext b p.reader bytes reader' it) → Counted p.reader reader' → Wrote c.output p.earlier here p.now it new p.after after' reply → TellsOn p.is_open is_open' p.told told' (complaint c.output line reply)
+    → output ≡ c.output → there ≡ c.setting.limits → Going c p → IfSome p.reader.left (λ bytes. GaveNext b p.reader bytes reader' it) → Counted p.reader reader' → Wrote c.output p.earlier here p.now it new p.after after' reply → Tells there output reader'.line reader'.wrong reply p.is_open is_open' p.told told'
     → Going c (record { now = new; reader = reader'; after = after'; told = told'; earlier = earlier'; is_open = is_open'; commands = n'; refused = m' })
-go_on_at c p here b reader' after' told' earlier' is_open' n' m' it line reply new e f q r t at h given counted wrote told =
+go_on_at c p here b reader' after' told' earlier' is_open' n' m' it output there reply new e f q r t o at h given counted wrote told =
     let P : Bounds → Type 0 = λ k. IfSome p.reader.left (λ bytes. GaveNext k p.reader bytes reader' it) in
-    let T : ℕ → Type 0 = λ k. TellsOn p.is_open is_open' p.told told' (complaint c.output k reply) in
+    let O : Output → Type 0 = λ k. Tells there k reader'.line reader'.wrong reply p.is_open is_open' p.told told' in
+    let A : Bounds → Type 0 = λ k. Tells k c.output reader'.line reader'.wrong reply p.is_open is_open' p.told told' in
     let Q : Setting → Type 0 = λ s. Wrote c.output p.earlier s p.now it new p.after after' reply in
     let N : ℕ → Type 0 = λ k. Going c (record { now = new; reader = reader'; after = after'; told = told'; earlier = p.earlier || is_result reply; is_open = is_open'; commands = k; refused = cond (is_refusal reply) (p.refused + 1) p.refused }) in
     let M : ℕ → Type 0 = λ k. Going c (record { now = new; reader = reader'; after = after'; told = told'; earlier = p.earlier || is_result reply; is_open = is_open'; commands = n'; refused = k }) in
     let B : Bool → Type 0 = λ k. Going c (record { now = new; reader = reader'; after = after'; told = told'; earlier = k; is_open = is_open'; commands = n'; refused = m' }) in
-    subst B (sym t) (subst M (sym r) (subst N (sym q) (go_on c c.script p reader' after' told' is_open' it reply new h (subst P (f ∙ ap (λ (s : Setting). s.limits) e) given) counted (subst Q e wrote) (subst T at told))))
+    subst B (sym t) (subst M (sym r) (subst N (sym q) (go_on c c.script p reader' after' told' is_open' it reply new h (subst P (f ∙ ap (λ (s : Setting). s.limits) e) given) counted (subst Q e wrote) (subst A at (subst O o told)))))
 
 pub stopped_writing_at : (c : Course) (p : Point) (here : Setting) (b : Bounds) (reader' : Pending) (after' : Option Bytes) (it : Item) (new : State) → here ≡ c.setting → b ≡ here.limits
     → Going c p → IfSome p.reader.left (λ bytes. GaveNext b p.reader bytes reader' it) → WroteFront c.output p.earlier here p.now it new p.after after' → RanAs c.output c.setting c.old c.script new c.before after' c.errors p.told (Err fault.Write)

@@ -1,15 +1,19 @@
 -- What a run writes of its replies: to the standard output their texts in an output, and to the standard error what is said of refusals.
-use Rattle.std.specs.Prelude.{◌≡◌, ◌≤◌, ⊤, ℕ, Bool, true, false, ◌||◌, List, [], ◌∷◌, ◌++◌, length, count_by, if◌then◌else◌, Option, Some, None, Result, Ok, Err}
+use Rattle.std.specs.Prelude.{◌≡◌, ◌≤◌, ◌+◌, ◌⊎◌, IfSome, ⊤, ℕ, Bool, true, false, ◌||◌, List, [], ◌∷◌, ◌++◌, length, count_by, if◌then◌else◌, Option, Some, None, Result, Ok, Err}
 use Rattle.std.specs.List.{list_any}
 use Rattle.std.specs.Io.KnownBytes.{Appends}
 use Rattle.gq_row.specs.declared.value.Value.{Value}
 use Rattle.gq_command.specs.Commands.{Bytes}
-use Rattle.gq_command.specs.Script.{Numbered, entries_of, numbered}
+use Rattle.gq_row.specs.declared.limits.Bounds.{Bounds}
+use Rattle.gq_command.specs.Script.{Gathers, Numbered, OpenLine, entries_of, line_of, numbered}
+use Rattle.gq_check.specs.Reports.{IsOneLine}
+use Rattle.gq_reply.specs.declared.refusal.Refusal.TheVariants as refusal
+use Rattle.gq_reply.specs.Refusals.{words_of}
 use Rattle.gq_reply.specs.declared.reply.Reply.{Reply}
 use Rattle.gq_reply.specs.declared.reply.Reply.TheVariants as reply
 use Rattle.gq_reply.specs.Replies.{text, is_refusal}
 use Rattle.gq_format.specs.Formats.{result_text, separator_of}
-use Rattle.gq_format.specs.Refusals.{refusal_text}
+use Rattle.gq_format.specs.Refusals.{diagnosis, refusal_text}
 use Rattle.gq_engine.specs.declared.output.Output.{Output}
 use Rattle.gq_engine.specs.declared.output.Output.TheVariants.{Replies, Results}
 use Rattle.gq_engine.specs.declared.run.Summary.{Summary}
@@ -59,18 +63,36 @@ texts_after output earlier (r ∷ rs) = text_as output earlier r ++ texts_after 
 abbrev pub texts : Output → List Reply → Bytes
 texts output replies = texts_after output false replies
 
--- what the standard error is told of the reply to the command on a line
+-- what the standard error is told of the reply to the command on a line, in fixed words
 abbrev pub complaint : Output → ℕ → Reply → Bytes
 complaint Replies line r = []
 complaint (Results format) line (reply.Done n) = []
 complaint (Results format) line (reply.Rows header rows) = []
-complaint (Results format) line (reply.Refused why number) = refusal_text line why number
+complaint (Results format) line (reply.Refused why number) = refusal_text line why number (words_of why)
 
--- what it is told of the replies to these items, each with the number of its item's line
-abbrev pub complaints : Output → List Numbered → List Reply → Bytes
-complaints output [] replies = []
-complaints output (x ∷ xs) [] = []
-complaints output (x ∷ xs) (r ∷ rs) = complaint output x.number r ++ complaints output xs rs
+-- a complaint about an item whose line is no command: a column in its line or right after it, of which the first byte's is 1, and a message of one line
+pub record Diagnosed (item : Numbered) (number : Option ℕ) (text : Bytes) : Type 0 where
+  pub column : ℕ
+  pub message : Bytes
+  pub is : text ≡ refusal_text item.number refusal.Syntax number (diagnosis column message)
+  pub within : (1 ≤ column) × (column ≤ length (line_of item.entry) + 1)
+  pub one_line : IsOneLine message
+
+abbrev pub IsDiagnosed : Output → Numbered → Reply → Bytes → Type 0
+IsDiagnosed Replies item r text = ⊥
+IsDiagnosed (Results format) item (reply.Done n) text = ⊥
+IsDiagnosed (Results format) item (reply.Rows header rows) text = ⊥
+IsDiagnosed (Results format) item (reply.Refused why number) text = (why ≡ refusal.Syntax) × Diagnosed item number text
+
+-- what it is told of the reply to an item: a line that is no command may be diagnosed
+abbrev pub IsComplaint : Output → Numbered → Reply → Bytes → Type 0
+IsComplaint output item r text = (text ≡ complaint output item.number r) ⊎ IsDiagnosed output item r text
+
+-- what it is told of the replies to these items
+abbrev pub AreComplaints : Output → List Numbered → List Reply → Bytes → Type 0
+AreComplaints output [] replies said = said ≡ []
+AreComplaints output (x ∷ xs) [] said = said ≡ []
+AreComplaints output (x ∷ xs) (r ∷ rs) said = (text : Bytes) × (rest : Bytes) × (said ≡ text ++ rest) × IsComplaint output x r text × AreComplaints output xs rs rest
 
 -- all texts were written but for the last, and a front of that
 pub record WroteInPart (output : Output) (replies : List Reply) (before after : Option Bytes) : Type 0 where
@@ -107,7 +129,9 @@ pub record RanInto (output : Output) (setting : Setting) (old : State) (script :
   pub replies : List Reply
   pub answered : Answered setting old (entries_of done) new replies
   pub wrote : WroteTexts output replies before after ended
-  pub complained : AppendsFront errors told (complaints output done replies)
+  pub said : Bytes
+  pub complaints : AreComplaints output done replies said
+  pub complained : AppendsFront errors told said
   pub ends : Ends setting script left replies ended
 
 -- the same where the script's bytes are known
@@ -121,3 +145,9 @@ TellsOn true true before after bytes = Appends before after bytes
 TellsOn true false before after bytes = AppendsFront before after bytes
 TellsOn false true before after bytes = ⊥
 TellsOn false false before after bytes = after ≡ before
+
+-- so was a complaint about any item with this number of whose line this is kept
+pub record Tells (b : Bounds) (output : Output) (line : ℕ) (wrong : Option OpenLine) (r : Reply) (was_open is_open : Bool) (before after : Option Bytes) : Type 0 where
+  pub text : Bytes
+  pub about : (item : Numbered) → item.number ≡ line → IfSome wrong (λ kept. Gathers b.line kept (line_of item.entry)) → IsComplaint output item r text
+  pub told : TellsOn was_open is_open before after text

@@ -1,18 +1,21 @@
 //! What a run writes of its replies.
 ghost use Rattle.std.specs.Option.{option_map_or};
-ghost use Rattle.std.specs.Prelude.{◌≡◌, ◌||◌, IfErr, IfOk, OnOk, [], false, is_some};
+ghost use Rattle.std.specs.Prelude.{◌≡◌, ◌||◌, IfErr, IfOk, IfSome, OnOk, [], false, is_some, string_bytes, true};
 ghost use Rattle.std.specs.Io.KnownBytes.{Appends};
 ghost use Rattle.gq_reply.specs.Replies.{IsLine};
-ghost use Rattle.gq_engine.specs.Outputs.{TellsOn, between, complaint, is_result, line_in, result_in, text_as};
+ghost use Rattle.gq_command.specs.Script.{Gathers, Numbered, line_of};
+ghost use Rattle.gq_engine.specs.Outputs.{Diagnosed, IsDiagnosed, Tells, between, complaint, is_result, line_in, result_in, text_as};
 ghost use Rattle.gq_engine.specs.Sending.{AppendsFront};
 
 use crate::sending::{WriteFault, send};
 use gq_cells::Rows;
-use gq_format::{Format, RefusalText, refusal_text, result_text, separator};
-use gq_reply::{Reply, line_of, rows_text};
-use gq_row::{Sequence, Text};
+use gq_check::{Fault, report_of};
+use gq_command::{CommandReader, OpenLine};
+use gq_format::{Format, RefusalText, diagnosis_text, refusal_text, result_text, separator};
+use gq_reply::{Refusal, Reply, line_of, rows_text};
+use gq_row::{Limits, Sequence, Text};
 use std::alloc::{AllocError, Global};
-use std::io::Write;
+use std::io::{Read, Write};
 
 /// What a run writes.
 #[derive(Clone, Copy, Debug, PartialEq, Eq)]
@@ -90,20 +93,100 @@ pub(crate) struct Complaints {
 }
 
 impl Complaints {
-    /// Tells of the reply to the command on a line, if it is refused.
-    pub(crate) fn tell<E: Write>(&mut self, line: u64, reply: &Reply, errors: &mut E)
+    /// Tells of the reply to the item that came last, if it is refused.
+    #[inline]
+    pub(crate) fn tell<R: Read, E: Write>(
+        &mut self,
+        alloc: Global,
+        limits: &Limits,
+        script: &CommandReader<R>,
+        reply: &Reply,
+        errors: &mut E,
+    )
         ensures output { self.new.output ≡ self.old.output }
-        ensures told { TellsOn self.old.is_open self.new.is_open (E.contents errors.old) (E.contents errors.new)
-            (complaint self.old.output line reply.now) }
+        ensures told { Tells limits.now.bounds self.old.output script.now.line script.now.wrong reply.now self.old.is_open self.new.is_open
+            (E.contents errors.old) (E.contents errors.new) }
         ensures quiet { self.old.output ≡ Output.Replies → errors.new ≡ errors.old }
     {
         if !self.is_open {
+            return;
+        }
+        if !reply.is_refusal() {
+            return;
+        }
+        self.tell_refusal(alloc, limits, script, reply, errors);
+    }
+
+    // Tells of a reply, if it is refused.
+    fn tell_refusal<R: Read, E: Write>(
+        &mut self,
+        alloc: Global,
+        limits: &Limits,
+        script: &CommandReader<R>,
+        reply: &Reply,
+        errors: &mut E,
+    )
+        requires { self.old.is_open ≡ true }
+        ensures output { self.new.output ≡ self.old.output }
+        ensures told { Tells limits.now.bounds self.old.output script.now.line script.now.wrong reply.now self.old.is_open self.new.is_open
+            (E.contents errors.old) (E.contents errors.new) }
+        ensures quiet { self.old.output ≡ Output.Replies → errors.new ≡ errors.old }
+    {
+        let line = script.line();
+        let wrong = script.wrong_line();
+        if let Some(text) = diagnosed(alloc, limits, self.output, line, wrong, reply) {
+            self.is_open = send(errors, text.as_bytes()).is_ok();
             return;
         }
         if let Some(text) = complaint(self.output, line, reply) {
             self.is_open = send(errors, text.as_str().as_bytes()).is_ok();
         }
     }
+}
+
+// The diagnosis of a line that is no command, if there is memory for it.
+fn diagnosed(
+    alloc: Global,
+    limits: &Limits,
+    output: Output,
+    line: u64,
+    wrong: &Option<OpenLine>,
+    reply: &Reply,
+) -> Option<String>
+    ensures text { IfSome result (λ text. (item : Numbered) → item.number ≡ line
+        → IfSome wrong.now (λ kept. Gathers limits.now.bounds.line kept (line_of item.entry))
+        → IsDiagnosed output item reply.now (string_bytes text)) }
+    ensures quiet { output ≡ Output.Replies → is_some result ≡ false }
+{
+    let Some(wrong) = wrong else {
+        return None;
+    };
+    match (output, reply) {
+        (
+            Output::Results(_),
+            Reply::Refused {
+                code: Refusal::Syntax,
+                number,
+            },
+        ) => { diagnosis_of(alloc, limits, line, wrong, *number).ok() }
+        _ => None,
+    }
+}
+
+// The text of that diagnosis.
+fn diagnosis_of(
+    alloc: Global,
+    limits: &Limits,
+    line: u64,
+    wrong: &OpenLine,
+    number: Option<u64>,
+) -> Result<String, AllocError>
+    ensures { IfOk result (λ text. (item : Numbered) → item.number ≡ line
+        → Gathers limits.now.bounds.line wrong.now (line_of item.entry) → Diagnosed item number (string_bytes text)) }
+{
+    let report = report_of(alloc, line, Fault::Syntax, wrong, limits)?;
+    let message = report.message.as_str();
+    diagnosis_text(alloc, line, Refusal::Syntax, number, report.column, message)
 }
 
 // What is told of the reply to the command on a line.

@@ -119,7 +119,7 @@ impl<H: KeyHash<Key> + Copy, S: RunStore> Engine<H, S> {
             match self.serve(output, earlier, item, writer) {
                 Ok(reply) => {
                     summary.add(&reply);
-                    complaints.tell(script.line(), &reply, errors);
+                    complaints.tell(self.alloc(), self.limits(), &script, &reply, errors);
                     earlier = had_result(earlier, &reply);
                 }
                 Err(WriteFault) => return Err(Fault::Write),

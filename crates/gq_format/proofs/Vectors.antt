@@ -11,17 +11,22 @@ use Rattle.gq_format.specs.declared.format.Format.TheVariants as format
 use Rattle.gq_format.specs.Boxes.{box_lines, count_text}
 use Rattle.gq_format.specs.Formats.{result_text}
 use Rattle.gq_format.specs.Names.{distinct_names}
-use Rattle.gq_format.specs.Refusals.{refusal_text}
+use Rattle.gq_format.specs.Refusals.{diagnosis, refusal_text}
+use Rattle.gq_reply.specs.Refusals.{words_of}
 
 -- refusals
 
-refused : refusal_text 3 refusal.NoColumn None ≡ codes "groupsh: line 3: err 5 NoColumn\n  no column of the table has that name\n"
+refused : refusal_text 3 refusal.NoColumn None (words_of refusal.NoColumn) ≡ codes "groupsh: line 3: err 5 NoColumn\n  no column of the table has that name\n"
 unfolding digits
 refused = refl
 
-refused_record : refusal_text 3 refusal.FieldCount (Some 17) ≡ codes "groupsh: line 3: err 10 FieldCount 17\n  the record has more or fewer fields than the header\n"
+refused_record : refusal_text 3 refusal.FieldCount (Some 17) (words_of refusal.FieldCount) ≡ codes "groupsh: line 3: err 10 FieldCount 17\n  the record has more or fewer fields than the header\n"
 unfolding digits
 refused_record = refl
+
+diagnosed : refusal_text 12 refusal.Syntax None (diagnosis 8 (codes "expected 'by'")) ≡ codes "groupsh: line 12: err 1 Syntax\n  column 8: expected 'by'\n"
+unfolding digits
+diagnosed = refl
 
 -- null, a number below zero, an empty text
 abbrev plain_header : List (List ℕ)

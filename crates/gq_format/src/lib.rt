@@ -21,4 +21,4 @@ mod refusal;
 mod shown;
 
 pub use format::{Format, result_text, separator};
-pub use refusal::{RefusalText, refusal_text};
+pub use refusal::{RefusalText, diagnosis_text, refusal_text};

@@ -1,19 +1,54 @@
 //! What standard error says of a refused command.
-ghost use Rattle.std.specs.Prelude.{◌≡◌, ◌≤◌, ◌++◌, ◌+◌, decimal, length};
+ghost use Rattle.std.specs.Prelude.{◌≡◌, ◌≤◌, ◌++◌, ◌+◌, IfOk, decimal, length, string_bytes};
 ghost use Rattle.arrayvec.specs.ArrayString.{array_string_len};
+ghost use Rattle.gq_reply.specs.Refusals.{words_of};
 ghost use Rattle.gq_reply.specs.Replies.{record_number};
-ghost use Rattle.gq_format.specs.Refusals.{refusal_text};
+ghost use Rattle.gq_format.specs.Refusals.{diagnosis, refusal_lead, refusal_text};
 
 use arrayvec::ArrayString;
 use gq_reply::Refusal;
 use itoa::Buffer;
+use std::alloc::{AllocError, Global};
 
 /// Two short lines, made without memory.
 pub type RefusalText = ArrayString<256>;
 
 /// The refusal of the command on a line of a script: the line's number, its reply, and what it means.
 pub fn refusal_text(line: u64, code: Refusal, number: Option<u64>) -> RefusalText
-    ensures { result.bytes ≡ refusal_text line code number }
+    ensures { result.bytes ≡ refusal_text line code number (words_of code) }
+{
+    let mut text = lead_of(line, code, number);
+    text.push_str(code.words());
+    text.push_str("\n");
+    text
+}
+
+/// The same with a diagnosis of the line in place of the words.
+pub fn diagnosis_text(
+    alloc: Global,
+    line: u64,
+    code: Refusal,
+    number: Option<u64>,
+    column: u64,
+    message: &str,
+) -> Result<String, AllocError>
+    ensures { IfOk result (λ text. string_bytes text ≡ refusal_text line code number (diagnosis column message.now)) }
+{
+    let lead = lead_of(line, code, number);
+    let mut digits = Buffer::new();
+    let mut text = String::from_str(alloc, lead.as_str())?;
+    text.push_str("column ")?;
+    text.push_str(digits.format(column))?;
+    text.push_str(": ")?;
+    text.push_str(message)?;
+    text.push_str("\n")?;
+    Ok(text)
+}
+
+// The line's number and the reply, and what comes before the words.
+fn lead_of(line: u64, code: Refusal, number: Option<u64>) -> RefusalText
+    ensures bytes { result.bytes ≡ refusal_lead line code number }
+    ensures short { array_string_len result ≤ 97 }
 {
     let mut text = RefusalText::new();
     push_number(&mut text, "groupsh: line ", line);
@@ -23,8 +58,6 @@ pub fn refusal_text(line: u64, code: Refusal, number: Option<u64>) -> RefusalTex
     push_record(&mut text, number);
     text.push_str("\n");
     text.push_str("  ");
-    text.push_str(code.words());
-    text.push_str("\n");
     text
 }
 

@@ -6,11 +6,10 @@ use Rattle.std.specs.Io.KnownBytes.{Appends}
 use Rattle.gq_row.specs.Limits.{GREATEST}
 use Rattle.gq_token.specs.Texts.{some}
 use Rattle.gq_command.specs.Commands.{Bytes}
-use Rattle.gq_command.specs.Script.{without_mark}
+use Rattle.gq_command.specs.Script.{Numbered, numbered_left, without_mark}
 use Rattle.gq_engine.specs.Sending.{AppendsFront}
 use Rattle.gq_engine.proofs.Bytes.{appends_more}
 use Rattle.gq_check.specs.declared.report.Report.{Report}
-use Rattle.gq_script.specs.Numbering.{Numbered, numbered_left}
 use Rattle.gq_check.specs.Reports.{Between, Place, Reports, report_text}
 use Rattle.gq_check.proofs.Steps.{end-from, on-from}
 use Rattle.gq_shell.specs.Checking.{Begins, ToldAll, ToldFront, texts}

@@ -4,9 +4,8 @@ use Rattle.std.specs.declared.io.Error.{Error}
 use Rattle.gq_row.specs.Limits.{GREATEST}
 use Rattle.gq_token.specs.Texts.{some}
 use Rattle.gq_command.specs.Commands.{Bytes}
-use Rattle.gq_command.specs.Script.{without_mark}
+use Rattle.gq_command.specs.Script.{Numbered, numbered, without_mark}
 use Rattle.gq_check.specs.declared.report.Report.{Report}
-use Rattle.gq_script.specs.Numbering.{Numbered, numbered}
 use Rattle.gq_check.specs.Reports.{Place, Reports, report_text}
 use Rattle.gq_options.specs.CommandLine.{Text}
 use Rattle.gq_shell.specs.Sources.{Sources, Stopped, StoppedBy, StoppedForMemory, script_of}

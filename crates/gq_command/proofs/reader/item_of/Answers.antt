@@ -24,8 +24,8 @@ returns-in-Ok-clause-reads c =
       | in_default w ↦ λ text h e. command c.args.limits.now.bounds c.args.line text h e c.if-line.false c.if-line-2.false w.in_default.not-Dash c.in-Ok.command said c.in-Ok.ensures.within
     ]
 
-pub returns-clause-reads : goal.returns-clause-reads
-returns-clause-reads c =
+pub returns-in-Err-clause-reads : goal.returns-in-Err-clause-reads
+returns-in-Err-clause-reads c =
     let b = c.args.limits.now.bounds in
     let r = c.in-Err.refusal in
     let syntax = subst (λ (l : Bytes). IsErrOf {T = Command} {E = LineRefusal} (Err r) refusal.Syntax → (c : Command) → Says l c → ⊥) c.as_slice.ensures.value c.in-Err.ensures.syntax in

@@ -24,7 +24,7 @@ returns-then-not-loads-clause-item g c =
     let t : TookLine l c.loop.source c.take_line.new.source c.in-Some.line = rw c.in-Some.is at c.in_ok-line.ensures.line in
     let e : is_skipped (content t.raw) ≡ false = sym (c.is_skipped.ensures l.line (content t.raw) t.gathers) ∙ c.if-not-is_skipped.true in
     let q : takes_payload l (content t.raw) ≡ false = sym (c.takes_payload-loads.ensures l (content t.raw) t.gathers) ∙ c.if-not-loads.true in
-    (passed_to l c.args.source.now c.loop.source c.take_line.new.source c.in-Some.line t c.lines.result c.item_of-item.result c.lines.ensures c.loop.invariant e q (c.item_of-item.ensures.reads (content t.raw) t.gathers e)).0
+    (passed_to l c.args.source.now c.loop.source c.take_line.new.source c.in-Some.line t c.lines.result c.item_of-item.new.wrong c.item_of-item.result c.lines.ensures c.item_of-item.ensures.kept c.loop.invariant e q (c.item_of-item.ensures.reads (content t.raw) t.gathers e)).0
 
 pub returns-then-not-loads-clause-counted : goal.returns-then-not-loads-clause-counted
 returns-then-not-loads-clause-counted g c =
@@ -32,7 +32,7 @@ returns-then-not-loads-clause-counted g c =
     let t : TookLine l c.loop.source c.take_line.new.source c.in-Some.line = rw c.in-Some.is at c.in_ok-line.ensures.line in
     let e : is_skipped (content t.raw) ≡ false = sym (c.is_skipped.ensures l.line (content t.raw) t.gathers) ∙ c.if-not-is_skipped.true in
     let q : takes_payload l (content t.raw) ≡ false = sym (c.takes_payload-loads.ensures l (content t.raw) t.gathers) ∙ c.if-not-loads.true in
-    (passed_to l c.args.source.now c.loop.source c.take_line.new.source c.in-Some.line t c.lines.result c.item_of-item.result c.lines.ensures c.loop.invariant e q (c.item_of-item.ensures.reads (content t.raw) t.gathers e)).1
+    (passed_to l c.args.source.now c.loop.source c.take_line.new.source c.in-Some.line t c.lines.result c.item_of-item.new.wrong c.item_of-item.result c.lines.ensures c.item_of-item.ensures.kept c.loop.invariant e q (c.item_of-item.ensures.reads (content t.raw) t.gathers e)).1
 
 pub returns-then-not-is_skipped-clause-item : goal.returns-then-not-is_skipped-clause-item
 returns-then-not-is_skipped-clause-item g c =
@@ -40,7 +40,7 @@ returns-then-not-is_skipped-clause-item g c =
     let t : TookLine l c.loop.source c.take_line.new.source c.in-Some.line = rw c.in-Some.is at c.in_ok-line.ensures.line in
     let e : is_skipped (content t.raw) ≡ false = sym (c.is_skipped.ensures l.line (content t.raw) t.gathers) ∙ c.if-not-is_skipped.true in
     let q : takes_payload l (content t.raw) ≡ true = sym (c.takes_payload-loads.ensures l (content t.raw) t.gathers) ∙ c.if-not-loads.false in
-    (passed_load l c.args.source.now c.loop.source c.take_line.new.source c.take_payload.new.source c.in-Some.line t c.lines.result c.in-Ok.kept c.with_payload.result c.lines.ensures c.loop.invariant e q c.in-Ok.ensures.taken
+    (passed_load l c.args.source.now c.loop.source c.take_line.new.source c.take_payload.new.source c.in-Some.line t c.lines.result c.item_of-item.new.wrong c.in-Ok.kept c.with_payload.result c.lines.ensures c.item_of-item.ensures.kept c.loop.invariant e q c.in-Ok.ensures.taken
     (λ told s. subst (IsReadAs l (Loading (content t.raw) told)) (sym c.with_payload.ensures) (loaded l (content t.raw) told c.payload_of.result c.item_of-item.result q (c.item_of-item.ensures.reads (content t.raw) t.gathers e) (c.payload_of.ensures l.payload told s)))).0
 
 pub returns-then-not-is_skipped-clause-counted : goal.returns-then-not-is_skipped-clause-counted
@@ -49,7 +49,7 @@ returns-then-not-is_skipped-clause-counted g c =
     let t : TookLine l c.loop.source c.take_line.new.source c.in-Some.line = rw c.in-Some.is at c.in_ok-line.ensures.line in
     let e : is_skipped (content t.raw) ≡ false = sym (c.is_skipped.ensures l.line (content t.raw) t.gathers) ∙ c.if-not-is_skipped.true in
     let q : takes_payload l (content t.raw) ≡ true = sym (c.takes_payload-loads.ensures l (content t.raw) t.gathers) ∙ c.if-not-loads.false in
-    (passed_load l c.args.source.now c.loop.source c.take_line.new.source c.take_payload.new.source c.in-Some.line t c.lines.result c.in-Ok.kept c.with_payload.result c.lines.ensures c.loop.invariant e q c.in-Ok.ensures.taken
+    (passed_load l c.args.source.now c.loop.source c.take_line.new.source c.take_payload.new.source c.in-Some.line t c.lines.result c.item_of-item.new.wrong c.in-Ok.kept c.with_payload.result c.lines.ensures c.item_of-item.ensures.kept c.loop.invariant e q c.in-Ok.ensures.taken
     (λ told s. subst (IsReadAs l (Loading (content t.raw) told)) (sym c.with_payload.ensures) (loaded l (content t.raw) told c.payload_of.result c.item_of-item.result q (c.item_of-item.ensures.reads (content t.raw) t.gathers e) (c.payload_of.ensures l.payload told s)))).1
 
 pub returns-then-not-is_skipped-clause-ready : goal.returns-then-not-is_skipped-clause-ready

@@ -1,13 +1,13 @@
 use Rattle.std.proofs.Common.{◌≡◌, inl, inr, ◌∙◌, Some, sym, ap, rules}
 use Rattle.std.specs.Prelude.{Err}
-use Rattle.std.proofs.lemmas.Result.{err_from_is_err_and, IfOk-weaker, IfErr-weaker}
+use Rattle.std.proofs.lemmas.Result.{err_from_is_err_and}
 use Rattle.gq_reply.specs.declared.refusal.Refusal.TheVariants.{NoTable}
 use Rattle.gq_reply.specs.declared.refusal.Refused.{Refused}
 use Rattle.gq_reply.specs.Refusals.{unnumbered}
 use Rattle.gq_reply.proofs.StepLemmas.{missed}
 use Rattle.gq_load.specs.declared.short_records.Short.TheVariants as short
 use Rattle.gq_engine.specs.Databases.{table_at}
-use Rattle.gq_engine.proofs.FormLemmas.{load_none, load_untold, load_faulted}
+use Rattle.gq_engine.proofs.FormLemmas.{load_none, load_untold}
 use Rattle.gq_engine.proofs.payloads.stage_for.Goals as goal
 
 pub returns-then-is_lost-clause-refused : goal.returns-then-is_lost-clause-refused

@@ -1,6 +1,5 @@
-use Rattle.std.proofs.Common.{rules, List, ℕ, Result, Ok, Err, subst}
+use Rattle.std.proofs.Common.{List, ℕ, Result, Ok, Err, subst}
 use Rattle.std.specs.Prelude.{IfErr}
-use Rattle.std.proofs.lemmas.Result.{IfOk-from_err}
 use Rattle.gq_engine.specs.Sending.{AppendsFront}
 use Rattle.gq_engine.specs.declared.sending.WriteFault.{WriteFault}
 use Rattle.gq_engine.proofs.OutputLemmas.{result_cut, result_front}

@@ -4,7 +4,7 @@ use Rattle.std.specs.Prelude.{IfSome, IsErr}
 use Rattle.gq_row.specs.Limits.{GREATEST}
 use Rattle.gq_row.specs.declared.limits.Bounds.{Bounds}
 use Rattle.gq_command.specs.Commands.{Bytes}
-use Rattle.gq_script.specs.Numbering.{numbered_left}
+use Rattle.gq_command.specs.Script.{numbered_left}
 use Rattle.gq_check.specs.Reports.{Between, Reports}
 use Rattle.gq_check.proofs.Steps.{nothing-between}
 use Rattle.gq_engine.proofs.Bytes.{appends_nothing}

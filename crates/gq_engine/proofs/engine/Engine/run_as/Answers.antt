@@ -1,6 +1,5 @@
-use Rattle.std.proofs.Common.{◌+◌, ◌∙◌, ap, refl, subst, arith}
-use Rattle.gq_engine.specs.declared.output.Output.{Output}
-use Rattle.gq_engine.specs.Outputs.{TellsOn, complaint}
+use Rattle.std.proofs.Common.{◌+◌, ◌∙◌, ap, refl, arith}
+use Rattle.gq_engine.specs.Runs.{Setting}
 use Rattle.gq_engine.specs.Engines.{setting_of, state_of}
 use Rattle.gq_engine.proofs.RunLemmas.{begin, go_on_at, ended_at, stopped_reading, stopped_writing_at, few_refused}
 use Rattle.gq_engine.proofs.engine.Engine.run_as.Goals as goal
@@ -36,7 +35,6 @@ returns-clause-ran g c = stopped_reading _ _ c.loop-turn.invariant.going
 pub loop-turn-preserved : goal.loop-turn-preserved
 loop-turn-preserved g c =
     let given = rw c.in-Ok-Some.field-0-is at c.in-Ok-Some.ensures in
-    let P : Output → Type 0 = λ o. TellsOn c.loop-turn.complaints.is_open c.tell.new.self.is_open (g.E.Write.contents c.loop-turn.errors) (g.E.Write.contents c.tell.new.errors) (complaint o c.line.result c.in-Ok.reply) in
     record {
       setting = c.serve.ensures.setting ∙ c.loop-turn.invariant.setting;
       budget = c.serve.ensures.budget ∙ c.loop-turn.invariant.budget;
@@ -45,6 +43,7 @@ loop-turn-preserved g c =
       output = c.tell.ensures.output ∙ c.loop-turn.invariant.output;
       quiet = λ is. c.tell.ensures.quiet (c.loop-turn.invariant.output ∙ is) ∙ c.loop-turn.invariant.quiet is;
       going = go_on_at _ _ (setting_of g.S.RunStore.runs c.loop-turn.self) c.limits.result.now.bounds c.next.new.self (g.W.Write.contents c.serve.new.writer) (g.E.Write.contents c.tell.new.errors) c.had_result-earlier.result c.tell.new.self.is_open c.add.new.self.commands c.add.new.self.refused
-          c.in-Ok-Some.item c.line.result c.in-Ok.reply (state_of g.S.RunStore.runs c.serve.new.self)
-          c.loop-turn.invariant.setting c.limits.ensures c.add.ensures.commands c.add.ensures.refused c.had_result-earlier.ensures c.line.ensures c.loop-turn.invariant.going given.item given.counted c.in-Ok.ensures.served (subst P c.loop-turn.invariant.output c.tell.ensures.told);
+          c.in-Ok-Some.item c.loop-turn.complaints.output c.limits-in-Ok.result.now.bounds c.in-Ok.reply (state_of g.S.RunStore.runs c.serve.new.self)
+          c.loop-turn.invariant.setting c.limits.ensures c.add.ensures.commands c.add.ensures.refused c.had_result-earlier.ensures c.loop-turn.invariant.output
+          (c.limits-in-Ok.ensures ∙ ap (λ (s : Setting). s.limits) (c.serve.ensures.setting ∙ c.loop-turn.invariant.setting)) c.loop-turn.invariant.going given.item given.counted c.in-Ok.ensures.served c.tell.ensures.told;
     }
