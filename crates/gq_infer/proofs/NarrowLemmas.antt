@@ -21,9 +21,9 @@ taken field h longest number = by (is_null_field kind.Int field) (int_of field) 
     by false None e i h = let none : ⊥ = cc in absurd none
     by false (Some z) e i h = rw (e, i) refl
 
-fine : (field : List ℕ) → IsOk (value_of 0 0 kind.Int field) → is_int_or_null field ≡ true
+pub fine : (longest number : ℕ) (field : List ℕ) → IsOk (value_of longest number kind.Int field) → is_int_or_null field ≡ true
 unfolding value_of
-fine field h = by (is_null_field kind.Int field) (int_of field) refl refl
+fine longest number field h = by (is_null_field kind.Int field) (int_of field) refl refl
   where
     by : (null : Bool) (o : Option ℤ) → is_null_field kind.Int field ≡ null → int_of field ≡ o → null || is_some o ≡ true
     by true o e i = refl
@@ -62,7 +62,7 @@ narrowest = record {
   takes = λ fields h. let all = AllPass-from_list_all is_int_or_null fields (both_of fields h).0 in λ k d l. taken (get_or fields k d) (all k d l);
   counts = λ fields h. Any-from_list_any is_int fields (both_of fields h).1;
   narrow = λ fields all some.
-      let each : list_all is_int_or_null fields ≡ true = list_all-from_AllPass is_int_or_null fields (λ k d l. fine (get_or fields k d) (all k d l 0 0)) in
+      let each : list_all is_int_or_null fields ≡ true = list_all-from_AllPass is_int_or_null fields (λ k d l. fine 0 0 (get_or fields k d) (all k d l 0 0)) in
       let one : list_any is_int fields ≡ true = list_any-from_Any is_int fields some in
       rw (each, one) refl;
   refused = λ fields (k, x, l, e, r).

@@ -80,7 +80,7 @@ pub below_header : (name : List ℕ) (rows others : List (List (List ℕ))) (hea
     → fields_below name rows ≡ filter_map (λ fields. field_at fields (place_of header name)) others
 below_header name rows others header e = rw e refl
 
-all_alike : (names : List (List ℕ)) → map (λ name. Nulls) names ≡ replicate (length names) Nulls
+pub all_alike : (names : List (List ℕ)) → map (λ name. Nulls) names ≡ replicate (length names) Nulls
 all_alike [] = refl
 all_alike (name ∷ names) = rw (all_alike names) refl
 

@@ -117,7 +117,11 @@ impl Inference {
 }
 
 /// The columns of names with such fields.
-fn columns_of(alloc: Global, names: &[Text], seen: &[Seen]) -> Result<Sequence<Column>, AllocError>
+pub(crate) fn columns_of(
+    alloc: Global,
+    names: &[Text],
+    seen: &[Seen],
+) -> Result<Sequence<Column>, AllocError>
     requires { length names.now ≡ length seen.now }
     ensures { IfOk result (λ columns. columns ≡ columns_of names.now seen.now) }
 {

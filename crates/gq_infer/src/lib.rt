@@ -16,12 +16,16 @@
 //! or because an allocation or a read failed. A file comes from any reader; all this is said if the
 //! reader's bytes are known. Whether they are known or not, a `create` command can have the columns.
 //!
+//! [`guess_columns`] reads the first records only. Its columns are right if all files load under them,
+//! which saves a second pass over most files.
+//!
 //! What [`table_word`] returns is said by `specs/Words.antt`. The laws in [`laws`] say in the
 //! subject's own words what `kind_of` comes to.
 #![tactic(auto)]
 
 mod bad_table;
 mod fault;
+mod guess;
 mod header;
 mod inference;
 pub mod laws;
@@ -32,5 +36,6 @@ mod word;
 
 pub use bad_table::{BadTable, bad_table_text};
 pub use fault::InferFault;
+pub use guess::guess_columns;
 pub use inference::Inference;
 pub use word::{GivenColumns, TableWord, table_word};

@@ -3,6 +3,7 @@ ghost use Rattle.std.specs.Prelude.{◌≡◌, IfOk, IfErr, IfSome, OnOk, length
 ghost use Rattle.csv.specs.Records.{field_at, fields_of};
 ghost use Rattle.gq_load.specs.Unread.{IsReading, Took, unread};
 ghost use Rattle.gq_infer.specs.Files.{IsFailure, place_of};
+ghost use Rattle.gq_infer.specs.Guesses.{WithFirst};
 ghost use Rattle.gq_infer.specs.Scanning.{with_record, with_records, with_some};
 
 use crate::fault::InferFault;
@@ -71,6 +72,46 @@ fn read_records<R: Read>(
         add_record(byte_record, places, seen);
     }
     Err(InferFault::Read)
+}
+
+/// The same of at most `most` records.
+pub(crate) fn read_first_fields<R: Read>(
+    alloc: Global,
+    names: &[Text],
+    reader: &mut Reader<R>,
+    byte_record: &mut ByteRecord,
+    seen: &mut [Seen],
+    most: u64,
+) -> Result<(), InferFault>
+    requires reading { IsReading reader.old }
+    requires each { length names.now ≡ length seen.old }
+    ensures seen { OnOk result (IfSome (unread R.remaining reader.old) (λ records.
+        WithFirst records (map (λ name. place_of (fields_of byte_record.old) name) names.now)
+        seen.old seen.new)) }
+{
+    let places = places_of(alloc, names, byte_record)?;
+    read_first_records(reader, byte_record, places.as_slice(), seen, most)
+}
+
+fn read_first_records<R: Read>(
+    reader: &mut Reader<R>,
+    byte_record: &mut ByteRecord,
+    places: &[usize],
+    seen: &mut [Seen],
+    most: u64,
+) -> Result<(), InferFault>
+    requires reading { IsReading reader.old }
+    requires each { length places.now ≡ length seen.old }
+    ensures seen { OnOk result (IfSome (unread R.remaining reader.old) (λ records.
+        WithFirst records places.now seen.old seen.new)) }
+{
+    for _ in 0..most {
+        if !read_record(reader, byte_record)? {
+            return Ok(());
+        }
+        add_record(byte_record, places, seen);
+    }
+    Ok(())
 }
 
 fn add_record(record: &ByteRecord, places: &[usize], seen: &mut [Seen])

@@ -1,5 +1,7 @@
 //! What the fields of a column are.
 ghost use Rattle.std.specs.Prelude.{◌≡◌};
+ghost use Rattle.std.specs.List.{list_all};
+ghost use Rattle.gq_infer.specs.Guesses.{is_settled};
 ghost use Rattle.gq_infer.specs.Kinds.{kind_seen, with_field};
 
 use gq_load::{int_of, is_null};
@@ -41,5 +43,21 @@ pub(crate) fn kind_seen(seen: Seen) -> Kind
     match seen {
         Seen::Numbers => Kind::Int,
         Seen::Nulls | Seen::Texts => Kind::Text,
+    }
+}
+
+/// Whether such fields settle the kind of each column, whatever fields follow.
+pub(crate) fn are_settled(seen: &[Seen]) -> bool
+    ensures { result ≡ list_all is_settled seen.now }
+{
+    seen.iter().all(|one| is_settled(*one))
+}
+
+fn is_settled(seen: Seen) -> bool
+    ensures { result ≡ is_settled seen }
+{
+    match seen {
+        Seen::Nulls => false,
+        Seen::Numbers | Seen::Texts => true,
     }
 }

@@ -33,9 +33,19 @@ impl Model for GivenColumns {
 }
 
 impl GivenColumns {
-    ghost use Rattle.std.specs.Prelude.{◌≡◌, ℕ, List, true};
+    ghost use Rattle.std.specs.Prelude.{◌≡◌, ℕ, List, true, IfOk};
     ghost use Rattle.gq_command.specs.Commands.{is_command};
     ghost use Rattle.gq_command.specs.declared.command.Command.TheVariants.{Create};
+
+    /// The same columns and key again.
+    pub fn copy(&self, alloc: Global) -> Result<GivenColumns, AllocError>
+        ensures { IfOk result (λ copy. copy ≡ self.now) }
+    {
+        Ok(GivenColumns {
+            columns: copy_columns(alloc, self.columns.as_slice())?,
+            key: copy_names(alloc, self.key.as_slice())?,
+        })
+    }
 
     /// The columns, and the names of the key columns: none if the table has no key.
     pub fn into_parts(self) -> (Sequence<Column>, Sequence<Text>)
@@ -45,6 +55,30 @@ impl GivenColumns {
     {
         (self.columns, self.key)
     }
+}
+
+fn copy_columns(alloc: Global, columns: &[Column]) -> Result<Sequence<Column>, AllocError>
+    ensures { IfOk result (λ copies. copies ≡ columns.now) }
+{
+    let mut copies = Vec::with_capacity(alloc, columns.len())?;
+    for column in columns {
+        let name = column.name.copy(alloc)?;
+        copies.push(Column {
+            name,
+            kind: column.kind,
+        })?;
+    }
+    Ok(Sequence::new(copies))
+}
+
+fn copy_names(alloc: Global, names: &[Text]) -> Result<Sequence<Text>, AllocError>
+    ensures { IfOk result (λ copies. copies ≡ names.now) }
+{
+    let mut copies = Vec::with_capacity(alloc, names.len())?;
+    for name in names {
+        copies.push(name.copy(alloc)?)?;
+    }
+    Ok(Sequence::new(copies))
 }
 
 /// What the word after `-t` says.

@@ -1,0 +1,56 @@
+//! Columns by the first records of a file.
+ghost use Rattle.std.specs.Prelude.{◌≡◌, ℕ, List, [], true, IfOk, IfSome};
+ghost use Rattle.gq_command.specs.Commands.{is_command};
+ghost use Rattle.gq_command.specs.declared.command.Command.TheVariants.{Create};
+ghost use Rattle.gq_infer.specs.Guesses.{AreRightIfLoaded};
+
+use crate::fault::InferFault;
+use crate::header::names_of;
+use crate::inference::columns_of;
+use crate::scan::{read_first_fields, read_record};
+use crate::seen::{Seen, are_settled};
+use csv::ByteRecord;
+use gq_load::payload_reader;
+use gq_row::{Column, Limits, Sequence};
+use std::alloc::Global;
+use std::io::Read;
+
+/// The columns of a table by the first records of its first file, at most `most`; `None` if they
+/// don't settle the kind of each column. If each file of the table loads under these columns, they
+/// are those that an [`Inference`](crate::Inference) finds by reading all files. Otherwise a later
+/// field is a text in a column that began with numbers.
+///
+/// `Limit` and `Header` are returned for a header that can't name columns. The sample may also fail
+/// with `Memory` or `Read`.
+pub fn guess_columns<R: Read + Drop>(
+    alloc: Global,
+    text: R,
+    limits: &Limits,
+    most: u64,
+) -> Result<Option<Sequence<Column>>, InferFault>
+    ensures right { IfOk result (λ guess. IfSome guess (λ columns.
+        IfSome (R.remaining text) (AreRightIfLoaded columns))) }
+    ensures table { IfOk result (λ guess. IfSome guess (λ columns. (table : List ℕ) →
+        is_command (Create table columns []) ≡ true)) }
+{
+    let mut reader = payload_reader(alloc, text);
+    let mut header = ByteRecord::new(alloc);
+    if !read_record(&mut reader, &mut header)? {
+        return Err(InferFault::Header);
+    }
+    let names = names_of(alloc, &header, &limits.bounds)?;
+    let mut seen = vec![in alloc; Seen::Nulls; header.len()]?;
+    read_first_fields(
+        alloc,
+        names.as_slice(),
+        &mut reader,
+        &mut header,
+        seen.as_mut_slice(),
+        most,
+    )?;
+    if !are_settled(seen.as_slice()) {
+        return Ok(None);
+    }
+    let columns = columns_of(alloc, names.as_slice(), seen.as_slice())?;
+    Ok(Some(columns))
+}
