@@ -1,12 +1,12 @@
 //! Why tables could not be made, and what is said of it.
-ghost use Rattle.std.specs.Prelude.{◌≡◌, ◌++◌, IfOk, OnOk, string_bytes};
+ghost use Rattle.std.specs.Prelude.{◌≡◌, ◌++◌, Ok, Err, IfErr, IfOk, OnOk, string_bytes};
 ghost use Rattle.gq_reply.specs.Replies.{record_number};
 ghost use Rattle.gq_tables.specs.Faults.{can_complete, code_and_name, hint, meaning, refusal_told};
 
 use gq_engine::{CsvFault, Refusal, Refused, Short};
 use gq_infer::InferFault;
 use itoa::Buffer;
-use std::alloc::{AllocError, Global};
+use std::alloc::{AllocError, AllocFailed, Global};
 use thiserror::Error;
 
 /// Why a file's rows are in no table.
@@ -33,6 +33,27 @@ impl From<AllocError> for Why {
 
     fn from(_e: AllocError) -> Why {
         Why::Memory
+    }
+}
+
+impl<T: Drop> From<AllocFailed<T>> for Why {
+    ghost use Rattle.gq_tables.specs.declared.fault.Why.TheVariants.{Memory};
+
+    ghost from_gives = { λ _ e. e ≡ Memory };
+
+    fn from(_e: AllocFailed<T>) -> Why {
+        Why::Memory
+    }
+}
+
+/// The fault of a word, by that of its file.
+pub(crate) fn at_word<T: Drop>(outcome: Result<T, Why>, word: usize) -> Result<T, TableFault>
+    ensures ok { IfOk result (λ x. outcome ≡ Ok x) }
+    ensures err { IfErr result (λ fault. (outcome ≡ Err fault.why) × (fault.word ≡ word)) }
+{
+    match outcome {
+        Ok(value) => Ok(value),
+        Err(why) => Err(TableFault { word, why }),
     }
 }
 
@@ -82,6 +103,14 @@ impl TableFault {
         match self.why {
             Why::Refused(_) => 1,
             Why::CannotOpen | Why::ReadFault | Why::Memory => 3,
+        }
+    }
+
+    /// Whether a field was no number in a column of numbers.
+    pub(crate) fn is_bad_int(&self) -> bool {
+        match self.why {
+            Why::Refused(refused) => refused.why == Refusal::BadInt,
+            Why::CannotOpen | Why::ReadFault | Why::Memory => false,
         }
     }
 

@@ -13,9 +13,13 @@
 //! and when the standard input is read, is tested and not proved.
 #![tactic(auto)]
 
+mod columns;
 mod fault;
+mod files;
 mod making;
-mod reading;
+mod source;
+mod table;
 
 pub use fault::{TableFault, Why};
 pub use making::make_tables;
+pub use source::Reopen;

@@ -1,25 +1,29 @@
-//! Tables, word by word.
-ghost use Rattle.std.specs.Prelude.{◌≡◌, ◌<◌, ◌≤◌, true, ℕ, List, [], IfOk, length};
-ghost use Rattle.gq_command.specs.Commands.{as_said, is_command};
-ghost use Rattle.gq_engine.specs.Engines.{setting_of};
+//! Tables from the files of words.
+ghost use Rattle.std.specs.Prelude.{◌≡◌, ◌<◌, ◌≤◌, ◌+◌, ℕ, List, [], false, None, OnOk, length};
+ghost use Rattle.std.specs.Fn.{FnReturnsAt};
+ghost use Rattle.std.specs.List.{list_any};
+ghost use Rattle.gq_engine.specs.Engines.{database, setting_of};
+ghost use Rattle.gq_tables.specs.Files.{AreFiles, HaveBytes, is_input};
+ghost use Rattle.gq_tables.specs.Made.{AreTablesOf};
+ghost use Rattle.gq_tables.specs.Steps.{MadeUpTo};
 
-use crate::fault::{TableFault, Why, of_inference, of_load, of_refused};
-use crate::reading::read_file;
-use gq_command::Command;
-use gq_engine::{Engine, Refusal, Refused, Reply, RunStore, Short};
-use gq_infer::{GivenColumns, InferFault, Inference, TableWord};
-use gq_row::{Column, Key, Limits, Sequence};
+use crate::fault::TableFault;
+use crate::files::{Files, has_name};
+use crate::source::{Reopen, Source, add_source};
+use crate::table::make_table;
+use gq_engine::{Engine, RunStore, Short};
+use gq_infer::TableWord;
+use gq_row::Key;
 use std::alloc::Global;
 use std::io::{self, Read};
 use sw_probe::KeyHash;
 
 /// Makes the tables that words ask for, from their files. `opener` opens a file's path, and `input`
-/// is the standard input, for a word with the file `-`. After an error the tables of the words before
-/// the faulty one were made.
+/// is the standard input, for a word with the file `-`. After an error some of the tables are made.
 pub fn make_tables<H, S, F, R, I>(
     alloc: Global,
     engine: &mut Engine<H, S>,
-    words: &mut [TableWord],
+    words: &[TableWord],
     short: Short,
     opener: &F,
     input: &mut I,
@@ -28,157 +32,115 @@ where
     H: KeyHash<Key> + Copy,
     S: RunStore,
     F: Fn(&str) -> io::Result<R>,
-    R: Read + Drop,
+    R: Read + Reopen + Drop,
     I: Read,
     requires { F.IsAlwaysCallable opener.now }
+    // The tables are those of the words, if it is known what their files hold.
+    ensures made { OnOk result ((contents : List ℕ → List ℕ)
+        → AreFiles R.remaining (λ name opened. FnReturnsAt F.Fn opener.now name opened)
+        (I.remaining input.old) words.now contents
+        → database engine.old ≡ []
+        → AreTablesOf contents short (setting_of S.runs engine.old).limits words.now
+        (database engine.new)) }
+    ensures input { list_any is_input words.now ≡ false → input.new ≡ input.old }
     ensures setting { setting_of S.runs engine.new ≡ setting_of S.runs engine.old }
 {
-    let (texts, why_stopped) = read_files(alloc, words, opener, input);
-    let count = texts.len().min(words.len());
-    let texts = &texts.as_slice()[..count];
-    for word in 0..count {
-        if let Err(why) = fill_table(alloc, engine, words, texts, word, short) {
-            return Err(TableFault { word, why });
-        }
+    let (sources, stop) = find_sources(alloc, words, opener, input);
+    let files = Files {
+        words,
+        sources: sources.as_slice(),
+        opener,
+        short,
+    };
+    let mut fault = stop;
+    for at in 0..sources.len() {
+        fault = make_next(alloc, engine, &files, at, fault);
     }
-    match why_stopped {
+    match fault {
         None => Ok(()),
-        Some(why) => Err(TableFault { word: count, why }),
+        Some(found) => Err(found),
     }
 }
 
-// The bytes of the files of the first words, and why the next word's file could not be read.
-fn read_files<F, R, I>(
+// Makes the table of a word, if the word is the first of its name and comes before the fault. Returns
+// the first fault then.
+fn make_next<H, S, F, R>(
+    alloc: Global,
+    engine: &mut Engine<H, S>,
+    files: &Files<F>,
+    at: usize,
+    fault: Option<TableFault>,
+) -> Option<TableFault>
+where
+    H: KeyHash<Key> + Copy,
+    S: RunStore,
+    F: Fn(&str) -> io::Result<R>,
+    R: Read + Drop,
+    requires callable { F.IsAlwaysCallable files.now.opener.now }
+    requires at { at < length files.now.sources.now }
+    requires sources { length files.now.sources.now ≤ length files.now.words.now }
+    ensures before { result ≡ None → fault ≡ None }
+    ensures made { result ≡ None → (contents : List ℕ → List ℕ)
+        → HaveBytes R.remaining (λ name opened. FnReturnsAt F.Fn files.now.opener.now name opened)
+        contents files.now.words.now files.now.sources.now
+        → length files.now.sources.now ≡ length files.now.words.now
+        → MadeUpTo contents files.now.short (setting_of S.runs engine.old).limits files.now.words.now
+        at (database engine.old)
+        → MadeUpTo contents files.now.short (setting_of S.runs engine.old).limits files.now.words.now
+        (at + 1) (database engine.new) }
+    ensures setting { setting_of S.runs engine.new ≡ setting_of S.runs engine.old }
+{
+    let end = end_before(fault, files.sources.len());
+    if end <= at {
+        return fault;
+    }
+    if has_name(&files.words[..at], files.words[at].name.as_str()) {
+        return fault;
+    }
+    match make_table(alloc, engine, files, at, end) {
+        Ok(()) => fault,
+        Err(found) => Some(found),
+    }
+}
+
+// The number of words before a fault, of so many.
+fn end_before(fault: Option<TableFault>, count: usize) -> usize
+    ensures within { result ≤ count }
+    ensures all { fault ≡ None → result ≡ count }
+{
+    match fault {
+        None => count,
+        Some(found) => found.word.min(count),
+    }
+}
+
+// The sources of the first words, and why the next word's file can't be had.
+fn find_sources<F, R, I>(
     alloc: Global,
     words: &[TableWord],
     opener: &F,
     input: &mut I,
-) -> (Vec<Vec<u8>>, Option<Why>)
+) -> (Vec<Source>, Option<TableFault>)
 where
     F: Fn(&str) -> io::Result<R>,
-    R: Read + Drop,
+    R: Read + Reopen + Drop,
     I: Read,
     requires { F.IsAlwaysCallable opener.now }
+    ensures few { length result.0.items ≤ length words.now }
+    ensures all { result.1 ≡ None → length result.0.items ≡ length words.now }
+    ensures have { (contents : List ℕ → List ℕ)
+        → AreFiles R.remaining (λ name opened. FnReturnsAt F.Fn opener.now name opened)
+        (I.remaining input.old) words.now contents
+        → HaveBytes R.remaining (λ name opened. FnReturnsAt F.Fn opener.now name opened)
+        contents words.now result.0.items }
+    ensures input { list_any is_input words.now ≡ false → input.new ≡ input.old }
 {
-    let mut texts = Vec::new(alloc);
-    for word in words {
-        match read_file(alloc, word, opener, input) {
-            Ok(text) => {
-                if texts.push(text).is_err() {
-                    return (texts, Some(Why::Memory));
-                }
-            }
-            Err(why) => return (texts, Some(why)),
+    let mut sources = Vec::new(alloc);
+    for word in 0..words.len() {
+        match add_source(alloc, &mut sources, &words[word], opener, input) {
+            Ok(()) => {}
+            Err(why) => return (sources, Some(TableFault { word, why })),
         }
     }
-    (texts, None)
-}
-
-// Puts the rows of a word's file into its table, which the first word of its name makes.
-fn fill_table<H: KeyHash<Key> + Copy, S: RunStore>(
-    alloc: Global,
-    engine: &mut Engine<H, S>,
-    words: &mut [TableWord],
-    texts: &[Vec<u8>],
-    at: usize,
-    short: Short,
-) -> Result<(), Why>
-    requires text { at < length texts.now }
-    requires word { length texts.now ≤ length words.old }
-    ensures words { length words.new ≡ length words.old }
-    ensures setting { setting_of S.runs engine.new ≡ setting_of S.runs engine.old }
-{
-    if is_first(words, at) {
-        let given = words[at].columns.take();
-        let command = create_command(alloc, given, words, texts, at)?;
-        carry_out(engine, command)?;
-    } else if words[at].columns.is_some() {
-        return Err(Why::Refused(Refused::from(Refusal::TableExists)));
-    }
-    match engine.load_csv(words[at].name.as_str(), texts[at].as_slice(), short) {
-        Ok(_count) => Ok(()),
-        Err(fault) => Err(of_load(fault)),
-    }
-}
-
-// Whether no earlier word has the name of this one.
-fn is_first(words: &[TableWord], at: usize) -> bool
-    requires { at < length words.now }
-{
-    let name = words[at].name.as_str();
-    words[..at].iter().all(|other| other.name.as_str() != name)
-}
-
-// Carries out a command that has no rows to show.
-fn carry_out<H: KeyHash<Key> + Copy, S: RunStore>(
-    engine: &mut Engine<H, S>,
-    command: Command,
-) -> Result<(), Why>
-    requires { is_command (as_said command) ≡ true }
-    ensures setting { setting_of S.runs engine.new ≡ setting_of S.runs engine.old }
-{
-    match engine.execute(command) {
-        Reply::Refused { code, number } => Err(of_refused(Refused { why: code, number })),
-        Reply::Done(_) | Reply::Rows { header: _, rows: _ } => Ok(()),
-    }
-}
-
-// The command that makes the table of a word: with the columns given, or with those of its files.
-fn create_command(
-    alloc: Global,
-    given: Option<GivenColumns>,
-    words: &[TableWord],
-    texts: &[Vec<u8>],
-    at: usize,
-) -> Result<Command, Why>
-    requires text { at < length texts.now }
-    requires word { length texts.now ≤ length words.now }
-    ensures { IfOk result (λ command. is_command (as_said command) ≡ true) }
-{
-    let table = words[at].name.copy(alloc)?;
-    match given {
-        Some(given) => {
-            let (columns, key) = given.into_parts();
-            Ok(Command::Create {
-                table,
-                columns,
-                key,
-            })
-        }
-        None => Ok(Command::Create {
-            table,
-            columns: infer_columns(alloc, words, texts, at)?,
-            key: Sequence::new(Vec::new(alloc)),
-        }),
-    }
-}
-
-// The columns of the table of a word, which is the first of its name, by all files of that name. A
-// later file with another header is refused when it is loaded.
-fn infer_columns(
-    alloc: Global,
-    words: &[TableWord],
-    texts: &[Vec<u8>],
-    at: usize,
-) -> Result<Sequence<Column>, Why>
-    requires text { at < length texts.now }
-    requires word { length texts.now ≤ length words.now }
-    ensures { IfOk result (λ columns. (table : List ℕ) → is_command (Command.Create table columns []) ≡ true) }
-{
-    let limits = Limits::greatest();
-    let mut inference = match Inference::of_first(alloc, texts[at].as_slice(), &limits) {
-        Ok(inference) => inference,
-        Err(fault) => return Err(of_inference(fault)),
-    };
-    for other in at + 1..texts.len() {
-        if words[other].name.as_str() == words[at].name.as_str() {
-            match inference.add(alloc, texts[other].as_slice()) {
-                Ok(()) | Err(InferFault::Header) => {}
-                Err(fault @ (InferFault::Limit | InferFault::Memory | InferFault::Read)) => {
-                    return Err(of_inference(fault));
-                }
-            }
-        }
-    }
-    Ok(inference.columns(alloc)?)
+    (sources, None)
 }
