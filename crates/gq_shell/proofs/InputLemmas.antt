@@ -1,13 +1,22 @@
 -- A script that isn't the standard input doesn't depend on it.
-use Rattle.std.proofs.Common.{◌≡◌, ◌∙◌, ℕ, Bool, true, false, List, [], ◌∷◌, ◌++◌, length, Option, Some, None, Result, inl, refl, sym, ap, subst, arith}
-use Rattle.std.specs.Prelude.{◌==◌, ◌&&◌, codes, flat_map, is_some, map, not}
+use Rattle.std.proofs.Common.{◌≡◌, ◌∙◌, ◌+◌, ◌<◌, get_or, take, ℕ, Bool, true, false, List, [], ◌∷◌, ◌++◌, length, Option, Some, None, Result, inl, refl, sym, ap, subst, arith}
+use Rattle.std.specs.Prelude.{◌==◌, ◌&&◌, ◌||◌, MatchOption, codes, flat_map, is_some, map, not}
 use Rattle.std.specs.Option.{option_map}
 use Rattle.std.specs.Borrow.{Bor}
 use Rattle.std.proofs.lemmas.Bool.{true≢false}
-use Rattle.std.proofs.lemmas.List.Folds.{flat_map-map}
+use Rattle.std.proofs.lemmas.Bool.Decides.{nat_tests}
+use Rattle.std.specs.List.{AllZip, list_any}
+use Rattle.std.proofs.lemmas.List.{map-append, take_more}
+use Rattle.std.proofs.lemmas.List.Folds.{flat_map-map, list_any-append}
 use Rattle.std.specs.declared.io.Error.{Error}
 use Rattle.gq_command.specs.Commands.{Bytes}
+use Rattle.gq_engine.specs.Headline.{State}
 use Rattle.gq_options.specs.CommandLine.{Asked, Text}
+use Rattle.gq_row.specs.declared.limits.Bounds.{Bounds}
+use Rattle.gq_row.specs.Limits.{GREATEST}
+use Rattle.gq_infer.specs.declared.word.TableWord.{TableWord}
+use Rattle.gq_infer.specs.Said.{SaysFront, SaysWord}
+use Rattle.gq_infer.specs.Words.{SaysTable, file_of, front_of, has_columns, is_name, name_of}
 use Rattle.gq_shell.specs.Program.{RanGiven, RanNamed, RanScript}
 use Rattle.gq_shell.specs.Checking.{CheckedGiven, CheckedScript}
 use Rattle.gq_shell.specs.Sources.{Sources, script_of}
@@ -18,15 +27,15 @@ use Rattle.gq_shell.specs.declared.seeding.RunSeed.{RunSeed}
 abbrev pub with_input : {S : Type 0} → Option Bytes → (S → Option Bytes) → (Text → Result S Error → Type 0) → Sources S
 with_input input remaining opens = record { input = input; remaining = remaining; opens = opens }
 
-by-script : {S : Type 0} (remaining : S → Option Bytes) (opens : Text → Result S Error → Type 0) (input other : Option Bytes) (asked : Asked) (seed : RunSeed) (replies errors : Stream) (status : ℕ) (script : Option Text)
-    → (script ≡ None → other ≡ input) → RanNamed (with_input other remaining opens) asked seed script replies errors status → RanNamed (with_input input remaining opens) asked seed script replies errors status
-by-script remaining opens input other asked seed replies errors status None same ran = subst (λ (bytes : Option Bytes). RanScript asked seed bytes replies errors status) (same refl) ran
-by-script remaining opens input other asked seed replies errors status (Some path) same ran = ran
+by-script : {S : Type 0} (remaining : S → Option Bytes) (opens : Text → Result S Error → Type 0) (input other : Option Bytes) (old : State) (asked : Asked) (seed : RunSeed) (replies errors : Stream) (status : ℕ) (script : Option Text)
+    → (script ≡ None → other ≡ input) → RanNamed (with_input other remaining opens) old asked seed script replies errors status → RanNamed (with_input input remaining opens) old asked seed script replies errors status
+by-script remaining opens input other old asked seed replies errors status None same ran = subst (λ (bytes : Option Bytes). RanScript old asked seed bytes replies errors status) (same refl) ran
+by-script remaining opens input other old asked seed replies errors status (Some path) same ran = ran
 
-pub by-commands : {S : Type 0} (remaining : S → Option Bytes) (opens : Text → Result S Error → Type 0) (input other : Option Bytes) (asked : Asked) (seed : RunSeed) (replies errors : Stream) (status : ℕ) (commands : List Text)
-    → (commands ≡ [] → asked.script ≡ None → other ≡ input) → RanGiven (with_input other remaining opens) asked seed commands replies errors status → RanGiven (with_input input remaining opens) asked seed commands replies errors status
-by-commands remaining opens input other asked seed replies errors status [] same ran = by-script remaining opens input other asked seed replies errors status asked.script (same refl) ran
-by-commands remaining opens input other asked seed replies errors status (lines ∷ more) same ran = ran
+pub by-commands : {S : Type 0} (remaining : S → Option Bytes) (opens : Text → Result S Error → Type 0) (input other : Option Bytes) (old : State) (asked : Asked) (seed : RunSeed) (replies errors : Stream) (status : ℕ) (commands : List Text)
+    → (commands ≡ [] → asked.script ≡ None → other ≡ input) → RanGiven (with_input other remaining opens) old asked seed commands replies errors status → RanGiven (with_input input remaining opens) old asked seed commands replies errors status
+by-commands remaining opens input other old asked seed replies errors status [] same ran = by-script remaining opens input other old asked seed replies errors status asked.script (same refl) ran
+by-commands remaining opens input other old asked seed replies errors status (lines ∷ more) same ran = ran
 
 -- lists and texts that are asked for, as words lend them
 cons_taken : {A B : Type 0} (f : A → B) (x : A) (xs : List A) → map f (x ∷ xs) ≡ [] → ⊥
@@ -48,12 +57,68 @@ takes f (Some x) xs h e = absurd (true≢false (ap is_some e))
 pub lines_are : (items : List (Bor Text)) → flat_map (λ lines. lines.now ++ codes "\n") items ≡ script_of (map (λ s. s.now) items)
 lines_are items = sym (flat_map-map (λ (lines : Text). lines ++ codes "\n") (λ (s : Bor Text). s.now) items)
 
-pub given_run : {S : Type 0} (sources : Sources S) (asked : Asked) (seed : RunSeed) (replies errors : Stream) (status : ℕ) (items : List (Bor Text)) (b : Bool) (bytes : Bytes) → b ≡ (length items == 0) → b ≡ false
-    → bytes ≡ flat_map (λ lines. lines.now ++ codes "\n") items → RanScript asked seed (Some bytes) replies errors status → RanGiven sources asked seed (map (λ s. s.now) items) replies errors status
-given_run sources asked seed replies errors status [] b bytes is e bytes_are ran = absurd (true≢false (sym is ∙ e))
-given_run sources asked seed replies errors status (x ∷ xs) b bytes is e bytes_are ran = inl (subst (λ (l : Bytes). RanScript asked seed (Some l) replies errors status) (bytes_are ∙ lines_are (x ∷ xs)) ran)
+pub given_run : {S : Type 0} (sources : Sources S) (old : State) (asked : Asked) (seed : RunSeed) (replies errors : Stream) (status : ℕ) (items : List (Bor Text)) (b : Bool) (bytes : Bytes) → b ≡ (length items == 0) → b ≡ false
+    → bytes ≡ flat_map (λ lines. lines.now ++ codes "\n") items → RanScript old asked seed (Some bytes) replies errors status → RanGiven sources old asked seed (map (λ s. s.now) items) replies errors status
+given_run sources old asked seed replies errors status [] b bytes is e bytes_are ran = absurd (true≢false (sym is ∙ e))
+given_run sources old asked seed replies errors status (x ∷ xs) b bytes is e bytes_are ran = inl (subst (λ (l : Bytes). RanScript old asked seed (Some l) replies errors status) (bytes_are ∙ lines_are (x ∷ xs)) ran)
 
 pub given_check : {S : Type 0} (sources : Sources S) (path : Option Text) (replies errors : Stream) (status : ℕ) (items : List (Bor Text)) (b : Bool) (bytes : Bytes) → b ≡ (length items == 0) → b ≡ false
     → bytes ≡ flat_map (λ lines. lines.now ++ codes "\n") items → CheckedScript (codes "<command>") (Some bytes) replies errors status → CheckedGiven sources path (map (λ s. s.now) items) replies errors status
 given_check sources path replies errors status [] b bytes is e bytes_are checked = absurd (true≢false (sym is ∙ e))
 given_check sources path replies errors status (x ∷ xs) b bytes is e bytes_are checked = inl (subst (λ (l : Bytes). CheckedScript (codes "<command>") (Some l) replies errors status) (bytes_are ∙ lines_are (x ∷ xs)) checked)
+
+-- ---- words for tables
+
+pub none_in : {A B : Type 0} (f : A → B) (xs : List A) (b : Bool) → b ≡ (length xs == 0) → b ≡ true → map f xs ≡ []
+none_in f [] b is e = refl
+none_in f (x ∷ xs) b is e =
+    let test : (length (x ∷ xs) == 0) ≡ true = sym is ∙ e in
+    let size : length (x ∷ xs) ≡ 0 = grind (arith, nat_tests) in
+    absurd (omega (arith, size))
+
+-- one pair more
+pub zip_push : {A B : Type 0} (R : A → B → Type 0) (xs : List A) (ys : List B) (x : A) (y : B) → AllZip R xs ys → R x y → AllZip R (xs ++ x ∷ []) (ys ++ y ∷ [])
+zip_push R [] [] x y h r = (r, tt)
+zip_push R [] (b ∷ ys) x y h r = absurd h
+zip_push R (a ∷ xs) [] x y h r = absurd h
+zip_push R (a ∷ xs) (b ∷ ys) x y h r = (h.0, zip_push R xs ys x y h.1 r)
+
+pub no_second : (a b : Bool) → a && b ≡ false → a ≡ true → b ≡ false
+no_second true b h e = h
+no_second false b h e = absurd (true≢false (sym e))
+
+-- no word takes the standard input, and neither does one more
+pub still_left : (p : TableWord → Bool) (words more : List TableWord) (word : TableWord) → more ≡ words ++ word ∷ [] → list_any p words ≡ false → p word ≡ false → list_any p more ≡ false
+still_left p words more word e h k = ap (list_any p) e ∙ list_any-append p words (word ∷ []) ∙ rw (h, k) refl
+
+pub taken_more : (p : TableWord → Bool) (words more : List TableWord) (word : TableWord) (taken now was : Bool) → more ≡ words ++ word ∷ [] → now ≡ (was || list_any p words) → taken ≡ (now || p word) → taken ≡ (was || list_any p more)
+taken_more p words more word taken now was e n t =
+    t ∙ ap (λ b. b || p word) n ∙ by was (list_any p words) (p word) ∙ ap (λ b. was || b) (sym (ap (list_any p) e ∙ list_any-append p words (word ∷ [])))
+  where
+    by : (a b d : Bool) → (a || b) || d ≡ a || (b || (d || false))
+    by true b d = refl
+    by false true d = refl
+    by false false true = refl
+    by false false false = refl
+
+-- what a word says, by how it begins
+pub says : (bounds : Bounds) (text : Text) (word : TableWord) → bounds ≡ GREATEST → word.file.now ≡ file_of text → (has_columns text ≡ false → (word.name ≡ name_of text) × (is_name bounds.name word.name ≡ true) × (word.columns ≡ None))
+    → (has_columns text ≡ true → MatchOption word.columns ⊥ (λ given. SaysTable bounds (front_of text) word.name given.columns given.key)) → SaysWord GREATEST text word
+says bounds text word greatest file named given = subst (λ (b : Bounds). SaysWord b text word) greatest (record { file_is = file; front_is = by (has_columns text) refl })
+  where
+    by : (b : Bool) → has_columns text ≡ b → SaysFront bounds text b word
+    by false e = named e
+    by true e = given e
+
+-- what was taken at first is taken still
+pub left_more : (was any now : Bool) → was ≡ true → now ≡ (was || any) → now ≡ true
+left_more was any now w n = n ∙ ap (λ b. b || any) w
+
+-- one word more was read
+pub next_said : (texts : List (Bor Text)) (i : ℕ) (text : Bor Text) (words more : List TableWord) (word : TableWord) → i < length texts → AllZip (SaysWord GREATEST) (map (λ (text : Bor Text). text.now) (take i texts)) words → more ≡ words ++ word ∷ []
+    → SaysWord GREATEST (get_or texts i text).now word → AllZip (SaysWord GREATEST) (map (λ (text : Bor Text). text.now) (take (i + 1) texts)) more
+next_said texts i text words more word l before e said =
+    let P : List Text → Type 0 = λ ts. AllZip (SaysWord GREATEST) ts more in
+    let Q : List TableWord → Type 0 = λ ws. AllZip (SaysWord GREATEST) (map (λ (text : Bor Text). text.now) (take i texts) ++ (get_or texts i text).now ∷ []) ws in
+    subst P (sym (ap (map (λ (text : Bor Text). text.now)) (take_more texts i text l) ∙ map-append (λ (text : Bor Text). text.now) (take i texts) (get_or texts i text ∷ [])))
+    (subst Q (sym e) (zip_push (SaysWord GREATEST) (map (λ (text : Bor Text). text.now) (take i texts)) words (get_or texts i text).now word before said))

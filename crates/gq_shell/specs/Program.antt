@@ -1,7 +1,10 @@
 -- What the program did, told by the words of its command line, what opening a path gives, its two streams and its exit status.
 use Rattle.std.specs.Prelude.{◌≡◌, ◌≢◌, ◌∷◌, ◌⊎◌, ℕ, Bool, true, false, IsTrue, not, List, [], codes, string_bytes, is_some, Option, Some, None, Result, Ok, Err}
+use Rattle.std.specs.List.{AllZip}
 use Rattle.std.specs.declared.io.Error.{Error}
 use Rattle.gq_row.specs.Limits.{GREATEST}
+use Rattle.gq_load.specs.declared.short_records.Short.{Short}
+use Rattle.gq_load.specs.declared.short_records.Short.TheVariants.{Refused, Completed}
 use Rattle.gq_command.specs.Commands.{Bytes}
 use Rattle.gq_group.specs.declared.grouping.Spent.{Spent}
 use Rattle.gq_format.specs.declared.format.Format.TheVariants.{Csv, Json, Box}
@@ -10,6 +13,10 @@ use Rattle.gq_engine.specs.declared.output.Output.TheVariants.{Replies, Results}
 use Rattle.gq_engine.specs.Headline.{State}
 use Rattle.gq_engine.specs.Runs.{Setting}
 use Rattle.gq_options.specs.CommandLine.{Asked, Text}
+use Rattle.gq_infer.specs.declared.word.TableWord.{TableWord}
+use Rattle.gq_infer.specs.Said.{SaysWord}
+use Rattle.gq_tables.specs.Files.{AreFiles}
+use Rattle.gq_tables.specs.Made.{AreTablesOf}
 use Rattle.gq_shell.specs.Session.{EndedWith, report_of}
 use Rattle.gq_shell.specs.Checking.{CheckedGiven}
 use Rattle.gq_shell.specs.Streams.{Stream, IsUntouched, Got, GotFront}
@@ -68,34 +75,49 @@ DrawsFor asked (Err e) = asked ≡ Random
 abbrev pub IsStopped : Stream → ℕ → Type 0
 IsStopped errors status = ((text : Bytes) × GotFront errors text) × (status ≢ 0)
 
--- A session of an engine read this script, and reported its work if that was asked for, and this seed if it was drawn. The engine had no tables if none were asked for; otherwise nothing is said of them.
-pub record RanScript (asked : Asked) (seed : RunSeed) (script : Option Bytes) (replies errors : Stream) (status : ℕ) : Type 0 where
-  pub old : State
+-- a record with fewer fields than the header is refused, or completed if that was asked for
+abbrev pub short_by : Bool → Short
+short_by true = Completed
+short_by false = Refused
+
+-- The tables that a run started with: those that the words after `-t` ask for, if it is known what their files hold; none if there are no such words.
+pub record StartedWith {S : Type 0} (sources : Sources S) (asked : Asked) (old : State) : Type 0 where
   pub no_others : asked.tables ≡ [] → old ≡ NOTHING
+  pub words : List TableWord
+  pub said : AllZip (SaysWord GREATEST) asked.tables words
+  pub made : (contents : Bytes → Bytes) → AreFiles sources.remaining sources.opens sources.input words contents → AreTablesOf contents (short_by asked.ragged) GREATEST words old.database
+
+-- A session of an engine read this script, from these tables, and reported its work if that was asked for, and this seed if it was drawn.
+pub record RanScript (old : State) (asked : Asked) (seed : RunSeed) (script : Option Bytes) (replies errors : Stream) (status : ℕ) : Type 0 where
   pub new : State
   pub spent : Spent
   pub ended : EndedWith (output_of asked.output) (setting_by asked.spill) old script new (report_of asked.stats seed spent) replies errors status
 
 -- what opening a path gave was run; or it could not be opened
-abbrev pub RanOpened : {S : Type 0} → Sources S → Asked → RunSeed → Result S Error → Stream → Stream → ℕ → Type 0
-RanOpened sources asked seed (Ok script) replies errors status = RanScript asked seed (sources.remaining script) replies errors status
-RanOpened sources asked seed (Err e) replies errors status = IsUntouched replies × StoppedBy e (codes "groupsh: cannot open script\n") 3 errors status
+abbrev pub RanOpened : {S : Type 0} → Sources S → State → Asked → RunSeed → Result S Error → Stream → Stream → ℕ → Type 0
+RanOpened sources old asked seed (Ok script) replies errors status = RanScript old asked seed (sources.remaining script) replies errors status
+RanOpened sources old asked seed (Err e) replies errors status = IsUntouched replies × StoppedBy e (codes "groupsh: cannot open script\n") 3 errors status
 
 -- without a path the standard input is the script
-abbrev pub RanNamed : {S : Type 0} → Sources S → Asked → RunSeed → Option Text → Stream → Stream → ℕ → Type 0
-RanNamed sources asked seed None replies errors status = RanScript asked seed sources.input replies errors status
-RanNamed {S} sources asked seed (Some path) replies errors status =
-    (opened : Result S Error) × sources.opens path opened × RanOpened sources asked seed opened replies errors status
+abbrev pub RanNamed : {S : Type 0} → Sources S → State → Asked → RunSeed → Option Text → Stream → Stream → ℕ → Type 0
+RanNamed sources old asked seed None replies errors status = RanScript old asked seed sources.input replies errors status
+RanNamed {S} sources old asked seed (Some path) replies errors status =
+    (opened : Result S Error) × sources.opens path opened × RanOpened sources old asked seed opened replies errors status
 
 -- there was no memory
 abbrev pub HadNoMemory : Stream → Stream → ℕ → Type 0
 HadNoMemory replies errors status = IsUntouched replies × StoppedForMemory errors status
 
 -- commands of the command line are the script, if there are any
-abbrev pub RanGiven : {S : Type 0} → Sources S → Asked → RunSeed → List Text → Stream → Stream → ℕ → Type 0
-RanGiven sources asked seed [] replies errors status = RanNamed sources asked seed asked.script replies errors status
-RanGiven sources asked seed (lines ∷ more) replies errors status =
-    RanScript asked seed (Some (script_of (lines ∷ more))) replies errors status ⊎ HadNoMemory replies errors status
+abbrev pub RanGiven : {S : Type 0} → Sources S → State → Asked → RunSeed → List Text → Stream → Stream → ℕ → Type 0
+RanGiven sources old asked seed [] replies errors status = RanNamed sources old asked seed asked.script replies errors status
+RanGiven sources old asked seed (lines ∷ more) replies errors status =
+    RanScript old asked seed (Some (script_of (lines ∷ more))) replies errors status ⊎ HadNoMemory replies errors status
+
+-- that was run from the tables that were asked for
+abbrev pub RanFrom : {S : Type 0} → Sources S → Asked → RunSeed → Stream → Stream → ℕ → Type 0
+RanFrom sources asked seed replies errors status =
+    (old : State) × StartedWith sources asked old × RanGiven sources old asked seed asked.commands replies errors status
 
 -- no seed came where a random one was asked for
 abbrev pub HadNoSeed : Asked → Stream → Stream → ℕ → Type 0
@@ -109,7 +131,7 @@ HadNoTables asked replies errors status = (asked.tables ≢ []) × IsUntouched r
 -- what was asked for was run, with such a seed; or none came, or there was no memory for a run store in a folder, or the tables could not be made
 abbrev pub RanAsked : {S : Type 0} → Sources S → Asked → Stream → Stream → ℕ → Type 0
 RanAsked sources asked replies errors status =
-    ((seed : RunSeed) × IsSeedFor asked.seed seed × RanGiven sources asked seed asked.commands replies errors status)
+    ((seed : RunSeed) × IsSeedFor asked.seed seed × RanFrom sources asked seed replies errors status)
     ⊎ (HadNoSeed asked replies errors status
     ⊎ ((IsTrue (is_some asked.spill) × HadNoMemory replies errors status)
     ⊎ HadNoTables asked replies errors status))

@@ -9,6 +9,7 @@ use crate::checking::check_script;
 use crate::script::run_script;
 use crate::stopping::{answer_bad_line, answer_error};
 use gq_options::read_words;
+use gq_tables::Reopen;
 use std::alloc::Global;
 use std::fs::Files;
 use std::io::{self, Read, Write};
@@ -33,7 +34,7 @@ where
     D: Files,
     N: RandomSource,
     R: Read + Drop,
-    S: Read + Drop,
+    S: Read + Reopen + Drop,
     F: Fn(&str) -> io::Result<S>,
     W: Write,
     E: Write,

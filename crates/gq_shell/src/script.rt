@@ -3,7 +3,7 @@ ghost use Rattle.std.specs.Prelude.{◌≡◌, ◌⊎◌, ◌++◌, [], IfOk, co
 ghost use Rattle.std.specs.Fn.{FnReturnsAt};
 ghost use Rattle.gq_row.specs.Limits.{GREATEST};
 ghost use Rattle.gq_engine.specs.Engines.{setting_of, state_of};
-ghost use Rattle.gq_shell.specs.Program.{HadNoTables, NOTHING, RanAsked, RanGiven, RanNamed, RanScript, output_of, setting_by};
+ghost use Rattle.gq_shell.specs.Program.{HadNoTables, NOTHING, RanAsked, RanFrom, RanGiven, RanNamed, RanScript, output_of, setting_by};
 ghost use Rattle.gq_shell.specs.Streams.{stream};
 ghost use Rattle.gq_options.specs.Words.{asked_by};
 
@@ -15,6 +15,7 @@ use gq_dir::DirStore;
 use gq_engine::{Budget, Engine, Format, MemStore, Output, RunStore};
 use gq_options::Options;
 use gq_row::Limits;
+use gq_tables::Reopen;
 use std::alloc::{AllocError, Global};
 use std::fs::Files;
 use std::io::{self, Read, Write};
@@ -39,7 +40,7 @@ where
     D: Files,
     N: RandomSource,
     R: Read + Drop,
-    S: Read + Drop,
+    S: Read + Reopen + Drop,
     F: Fn(&str) -> io::Result<S>,
     W: Write,
     E: Write,
@@ -84,20 +85,20 @@ fn run_over<T, R, S, F, W, E>(
 where
     T: RunStore + Drop,
     R: Read + Drop,
-    S: Read + Drop,
+    S: Read + Reopen + Drop,
     F: Fn(&str) -> io::Result<S>,
     W: Write,
     E: Write,
     requires callable { F.IsAlwaysCallable opener }
     requires honest { (T.runs store).honest ≡ (setting_by (asked_by options.now).spill).honest }
     requires failures { (T.runs store).failures ≡ 0 }
-    ensures { RanGiven
+    ensures { RanFrom
         (record {
           input = R.remaining input;
           remaining = S.remaining;
           opens = λ name opened. FnReturnsAt F.Fn opener name opened;
         })
-        (asked_by options.now) seed (asked_by options.now).commands (stream W.contents replies.old replies.new)
+        (asked_by options.now) seed (stream W.contents replies.old replies.new)
         (stream E.contents errors.old errors.new) result
         ⊎ HadNoTables (asked_by options.now) (stream W.contents replies.old replies.new)
         (stream E.contents errors.old errors.new) result }
@@ -131,20 +132,20 @@ fn make_and_run<T, R, S, F, W, E>(
 where
     T: RunStore,
     R: Read + Drop,
-    S: Read + Drop,
+    S: Read + Reopen + Drop,
     F: Fn(&str) -> io::Result<S>,
     W: Write,
     E: Write,
     requires callable { F.IsAlwaysCallable opener }
     requires setting { setting_of T.runs engine.old ≡ setting_by (asked_by options.now).spill }
     requires state { state_of T.runs engine.old ≡ NOTHING }
-    ensures { RanGiven
+    ensures { RanFrom
         (record {
           input = R.remaining input;
           remaining = S.remaining;
           opens = λ name opened. FnReturnsAt F.Fn opener name opened;
         })
-        (asked_by options.now) seed (asked_by options.now).commands (stream W.contents replies.old replies.new)
+        (asked_by options.now) seed (stream W.contents replies.old replies.new)
         (stream E.contents errors.old errors.new) result
         ⊎ HadNoTables (asked_by options.now) (stream W.contents replies.old replies.new)
         (stream E.contents errors.old errors.new) result }
@@ -191,20 +192,19 @@ fn run_in<T, R, S, F, W, E>(
 where
     T: RunStore,
     R: Read + Drop,
-    S: Read + Drop,
+    S: Read + Reopen + Drop,
     F: Fn(&str) -> io::Result<S>,
     W: Write,
     E: Write,
     requires callable { F.IsAlwaysCallable opener }
     requires setting { setting_of T.runs engine.old ≡ setting_by (asked_by options.now).spill }
-    requires state { (asked_by options.now).tables ≡ [] → state_of T.runs engine.old ≡ NOTHING }
     ensures { RanGiven
         (record {
           input = R.remaining input;
           remaining = S.remaining;
           opens = λ name opened. FnReturnsAt F.Fn opener name opened;
         })
-        (asked_by options.now) seed (asked_by options.now).commands (stream W.contents replies.old replies.new)
+        (state_of T.runs engine.old) (asked_by options.now) seed (asked_by options.now).commands (stream W.contents replies.old replies.new)
         (stream E.contents errors.old errors.new) result }
 {
     if options.commands.is_empty() {
@@ -229,20 +229,19 @@ fn run_named<T, R, S, F, W, E>(
 where
     T: RunStore,
     R: Read + Drop,
-    S: Read + Drop,
+    S: Read + Reopen + Drop,
     F: Fn(&str) -> io::Result<S>,
     W: Write,
     E: Write,
     requires callable { F.IsAlwaysCallable opener }
     requires setting { setting_of T.runs engine.old ≡ setting_by (asked_by options.now).spill }
-    requires state { (asked_by options.now).tables ≡ [] → state_of T.runs engine.old ≡ NOTHING }
     ensures { RanNamed
         (record {
           input = R.remaining input;
           remaining = S.remaining;
           opens = λ name opened. FnReturnsAt F.Fn opener name opened;
         })
-        (asked_by options.now) seed (asked_by options.now).script (stream W.contents replies.old replies.new)
+        (state_of T.runs engine.old) (asked_by options.now) seed (asked_by options.now).script (stream W.contents replies.old replies.new)
         (stream E.contents errors.old errors.new) result }
 {
     match options.script {
@@ -269,8 +268,7 @@ where
     W: Write,
     E: Write,
     requires setting { setting_of T.runs engine.old ≡ setting_by (asked_by options.now).spill }
-    requires state { (asked_by options.now).tables ≡ [] → state_of T.runs engine.old ≡ NOTHING }
-    ensures { RanScript (asked_by options.now) seed (R.remaining script)
+    ensures { RanScript (state_of T.runs engine.old) (asked_by options.now) seed (R.remaining script)
         (stream W.contents replies.old replies.new) (stream E.contents errors.old errors.new) result }
 {
     session(

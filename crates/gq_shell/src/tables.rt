@@ -1,8 +1,14 @@
 //! Tables that the command line asks for, made before the script runs.
-ghost use Rattle.std.specs.Prelude.{◌≡◌, ◌≢◌, ◌==◌, ◌&&◌, IfErr, OnOk, [], None, Ok, is_some, length, not};
+ghost use Rattle.std.specs.Prelude.{◌≡◌, ◌≢◌, ◌==◌, ◌&&◌, ◌||◌, IfErr, IfOk, OnOk, [], None, false, is_some, length, not};
+ghost use Rattle.std.specs.Fn.{FnReturnsAt};
+ghost use Rattle.std.specs.List.{AllZip, list_any};
+ghost use Rattle.gq_row.specs.Limits.{GREATEST};
 ghost use Rattle.gq_engine.specs.Engines.{setting_of, state_of};
 ghost use Rattle.gq_options.specs.Words.{asked_by};
-ghost use Rattle.gq_shell.specs.Program.{IsStopped};
+ghost use Rattle.gq_infer.specs.Said.{SaysWord};
+ghost use Rattle.gq_tables.specs.Files.{is_input};
+ghost use Rattle.gq_shell.specs.Program.{IsStopped, NOTHING, StartedWith, short_by};
+ghost use Rattle.gq_shell.specs.Reading.{HasRead};
 ghost use Rattle.gq_shell.specs.Streams.{stream};
 
 use crate::stopping::{stop, stop_for_memory};
@@ -10,9 +16,9 @@ use gq_engine::{Engine, RunStore, Short};
 use gq_infer::{BadTable, TableWord, bad_table_text, table_word};
 use gq_options::Options;
 use gq_row::{Key, Limits};
-use gq_tables::{TableFault, make_tables};
+use gq_tables::{Reopen, TableFault, make_tables};
 use std::alloc::{AllocError, Global};
-use std::io::{self, Read, Write, empty};
+use std::io::{self, Read, Write};
 use sw_probe::KeyHash;
 
 /// Makes the tables that the command line asks for; or says why not, and returns the exit status.
@@ -28,14 +34,20 @@ where
     H: KeyHash<Key> + Copy,
     T: RunStore,
     R: Read,
-    S: Read + Drop,
+    S: Read + Reopen + Drop,
     F: Fn(&str) -> io::Result<S>,
     E: Write,
     requires callable { F.IsAlwaysCallable opener.now }
+    requires limits { (setting_of T.runs engine.old).limits ≡ GREATEST }
+    requires state { state_of T.runs engine.old ≡ NOTHING }
     ensures setting { setting_of T.runs engine.new ≡ setting_of T.runs engine.old }
-    // Without words nothing is done.
-    ensures none { (asked_by options.now).tables ≡ [] → (result ≡ Ok tt)
-        × (state_of T.runs engine.new ≡ state_of T.runs engine.old) }
+    ensures started { OnOk result (StartedWith
+        (record {
+          input = R.remaining input.old;
+          remaining = S.remaining;
+          opens = λ name opened. FnReturnsAt F.Fn opener.now name opened;
+        })
+        (asked_by options.now) (state_of T.runs engine.new)) }
     // The standard input is left to a script that comes from there.
     ensures input { (asked_by options.now).commands ≡ [] → (asked_by options.now).script ≡ None
         → OnOk result (input.new ≡ input.old) }
@@ -46,27 +58,22 @@ where
     if options.tables.is_empty() {
         return Ok(());
     }
-    let mut words = read_words(alloc, options, errors)?;
-    let short = if options.ragged {
+    let words = read_words(alloc, options, errors)?;
+    let short = short_by(options.ragged);
+    match make_tables(alloc, engine, words.as_slice(), short, opener, input) {
+        Ok(()) => Ok(()),
+        Err(fault) => Err(stop_for_fault(alloc, &fault, words.as_slice(), short, errors)),
+    }
+}
+
+// What is done about a record with fewer fields than the header.
+fn short_by(is_ragged: bool) -> Short
+    ensures { result ≡ short_by is_ragged }
+{
+    if is_ragged {
         Short::Completed
     } else {
         Short::Refused
-    };
-    let made = if takes_input(options) {
-        make_tables(
-            alloc,
-            engine,
-            words.as_mut_slice(),
-            short,
-            opener,
-            &mut empty(),
-        )
-    } else {
-        make_tables(alloc, engine, words.as_mut_slice(), short, opener, input)
-    };
-    match made {
-        Ok(()) => Ok(()),
-        Err(fault) => Err(stop_for_fault(alloc, &fault, words.as_slice(), short, errors)),
     }
 }
 
@@ -84,30 +91,63 @@ fn read_words<'a, E: Write>(
     options: &Options<'a>,
     errors: &mut E,
 ) -> Result<Vec<TableWord<'a>>, u8>
+    ensures said { IfOk result (λ words. AllZip (SaysWord GREATEST)
+        (asked_by options.now).tables words.items) }
+    ensures left { (asked_by options.now).commands ≡ [] → (asked_by options.now).script ≡ None
+        → IfOk result (λ words. list_any is_input words.items ≡ false) }
+    ensures quiet { OnOk result (errors.new ≡ errors.old) }
+    ensures stopped { IfErr result (λ status. IsStopped (stream E.contents errors.old errors.new) status) }
+{
+    let mut words = Vec::new(alloc);
+    let mut takes_input = takes_input(options);
+    for text in options.tables.as_slice() {
+        takes_input = read_word(alloc, &mut words, text, takes_input, errors)?;
+    }
+    Ok(words)
+}
+
+// Reads a word that asks for a table, and adds it; or says what is wrong with it, and returns the exit
+// status. Returns whether the standard input is taken then.
+fn read_word<'a, E: Write>(
+    alloc: Global,
+    words: &mut Vec<TableWord<'a>>,
+    text: &'a str,
+    is_taken: bool,
+    errors: &mut E,
+) -> Result<bool, u8>
+    ensures read { IfOk result (HasRead text.now is_taken words.old.items words.new.items) }
     ensures quiet { OnOk result (errors.new ≡ errors.old) }
     ensures stopped { IfErr result (λ status. IsStopped (stream E.contents errors.old errors.new) status) }
 {
     let limits = Limits::greatest();
-    let mut words = Vec::new(alloc);
-    let mut takes_input = takes_input(options);
-    for text in options.tables.as_slice() {
-        let word = match table_word(alloc, text, &limits) {
-            Ok(word) => word,
-            Err(why) => return Err(stop_for_word(alloc, text, &why, errors)),
-        };
-        if word.file == "-" {
-            if takes_input {
-                let mistake =
-                    "error: standard input is used twice, by '--table' or by the script\n\nFor more information, try '--help'.\n";
-                return Err(stop(mistake, 2, errors));
-            }
-            takes_input = true;
-        }
-        if words.push(word).is_err() {
-            return Err(stop_for_memory(errors));
-        }
+    let word = match table_word(alloc, text, &limits) {
+        Ok(word) => word,
+        Err(why) => return Err(stop_for_word(alloc, text, &why, errors)),
+    };
+    if takes_twice(is_taken, &word) {
+        let mistake =
+            "error: standard input is used twice, by '--table' or by the script\n\nFor more information, try '--help'.\n";
+        return Err(stop(mistake, 2, errors));
     }
-    Ok(words)
+    let takes_input = takes_also(is_taken, &word);
+    match words.push(word) {
+        Ok(()) => Ok(takes_input),
+        Err(_full) => Err(stop_for_memory(errors)),
+    }
+}
+
+// Whether the standard input is taken, and the file of a word too.
+fn takes_twice(is_taken: bool, word: &TableWord) -> bool
+    ensures { result ≡ (is_taken && is_input word.now) }
+{
+    is_taken && word.file == "-"
+}
+
+// Whether the standard input is taken, or the file of a word.
+fn takes_also(is_taken: bool, word: &TableWord) -> bool
+    ensures { result ≡ (is_taken || is_input word.now) }
+{
+    is_taken || word.file == "-"
 }
 
 // Says what is wrong with a word.

@@ -1,4 +1,4 @@
-use Rattle.std.proofs.Common.{◌≡◌, ◌∙◌, ◌++◌, ap}
+use Rattle.std.proofs.Common.{◌∙◌, ◌++◌, ap}
 use Rattle.std.specs.Prelude.{◌==◌, codes, flat_map}
 use Rattle.std.specs.Borrow.{Bor}
 use Rattle.gq_options.specs.CommandLine.{Text}

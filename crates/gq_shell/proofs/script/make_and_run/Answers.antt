@@ -1,5 +1,6 @@
 use Rattle.std.proofs.Common.{ℕ, List, Option, ap, inl, inr, refl, subst}
 use Rattle.std.specs.Fn.{FnReturnsAt}
+use Rattle.gq_engine.specs.Engines.{state_of}
 use Rattle.gq_options.specs.Words.{asked_by}
 use Rattle.gq_shell.specs.Program.{RanGiven}
 use Rattle.gq_shell.specs.Streams.{stream}
@@ -12,6 +13,7 @@ returns-in-Err g c = let stopped = c.in-Err.ensures.stopped in inr (stopped.0, r
 pub returns-in-Ok : goal.returns-in-Ok
 returns-in-Ok g c =
     let made = c.in-Ok.ensures in
-    let P : Option (List ℕ) → Type 0 = λ before. RanGiven (with_input (g.R.Read.remaining c.make_asked.new.input) g.S.Read.remaining (λ name opened. FnReturnsAt g.F.Fn c.args.opener name opened)) (asked_by c.args.options.now) c.args.seed (asked_by c.args.options.now).commands
+    let old = state_of g.T.RunStore.runs c.make_asked.new.engine in
+    let P : Option (List ℕ) → Type 0 = λ before. RanGiven (with_input (g.R.Read.remaining c.make_asked.new.input) g.S.Read.remaining (λ name opened. FnReturnsAt g.F.Fn c.args.opener name opened)) old (asked_by c.args.options.now) c.args.seed (asked_by c.args.options.now).commands
     (stream g.W.Write.contents c.args.replies.now c.run_in.new.replies) (record { before = before; after = g.E.Write.contents c.run_in.new.errors }) c.run_in.result in
-    inl (by-commands _ _ _ _ _ _ _ _ _ _ (λ none script. ap g.R.Read.remaining (made.input none script)) (subst P (ap g.E.Write.contents made.quiet) c.run_in.ensures))
+    inl (old, made.started, by-commands _ _ _ _ old _ _ _ _ _ _ (λ none script. ap g.R.Read.remaining (made.input none script)) (subst P (ap g.E.Write.contents made.quiet) c.run_in.ensures))

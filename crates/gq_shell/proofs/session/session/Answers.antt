@@ -1,4 +1,4 @@
-use Rattle.std.proofs.Common.{◌≡◌, ap, sym, subst, append-nil, ℕ, List, [], Result, Ok, Err, ◌∙◌}
+use Rattle.std.proofs.Common.{ap, sym, subst, append-nil, ℕ, List, [], Result, Ok, Err, ◌∙◌}
 use Rattle.gq_shell.specs.Session.{errors_text, report_of}
 use Rattle.gq_shell.specs.Streams.{GotFront, Stream, Told, stream}
 use Rattle.gq_shell.specs.declared.telling.CutShort.{CutShort}
