@@ -103,7 +103,7 @@ where
     }
 }
 
-// The number of words before a fault, of so many.
+// The number of words before a fault, at most `count`.
 fn end_before(fault: Option<TableFault>, count: usize) -> usize
     ensures within { result ≤ count }
     ensures all { fault ≡ None → result ≡ count }

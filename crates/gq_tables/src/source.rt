@@ -1,4 +1,4 @@
-//! The files of words: opened as often as they are read, or held.
+//! The files of words: opened for each read, or held.
 ghost use Rattle.std.specs.Prelude.{◌≡◌, ℕ, List, IfOk, IfSome, OnErr, OnOk, Some, false, true};
 ghost use Rattle.std.specs.Fn.{FnReturnsAt};
 ghost use Rattle.gq_tables.specs.Files.{HasAdded, HasBytes, HoldsLeft, is_input, left_in};
