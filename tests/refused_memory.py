@@ -5,7 +5,7 @@
 LIBRARY is `refuse_memory.c`, made a shared library. Of each SCRIPT every request of the run is refused
 in a run of its own, which must answer as with memory to spare, or one command `err 15 Memory` and all
 others as a run of the script without that command answers them: so no more than that command was lost,
-and nothing of it was kept. Refused before the script is read, the run must end with status 3 and say so.
+and nothing of it was kept. Refused before the script is read, or while a table is made by `-t`, the run must end with status 3 and say so.
 Some runs go side by side; where the arguments have `--spill DIR`, each process has a folder of its own there, which is to be
 empty at the end. Prints how many runs there were, and each that is wrong; the status is 0 where none is.
 """
@@ -93,10 +93,16 @@ class Runs:
         others = self.replies(script[:start] + script[end:])
         return {(1, before + MEMORY + others[len(before):], b"")} if others.startswith(before) else set()
 
+    def before_script(self):
+        """What a run may give that ends before its script, perhaps while the table of a file is made."""
+        words = [str(word) for option, word in zip(self.arguments, self.arguments[1:]) if option == "-t"]
+        files = [word.rpartition("=")[2] for word in words]
+        return {BEFORE, *((3, b"", f"groupsh: {file}: out of memory\n".encode()) for file in files)}
+
     def rightful(self, script, pool):
         """What a run of the script may give where one request is refused."""
         answers = pool.map(partial(self.without, script), commands_of(script))
-        return {self.run(script)[0], BEFORE}.union(*answers)
+        return {self.run(script)[0]}.union(self.before_script(), *answers)
 
     def wrong(self, script, pool):
         """How many requests were refused in turn, some at once, and those after which the run was wrong."""

@@ -46,7 +46,19 @@ def of_budget(budget: str) -> Iterable[Check]:
     yield Check(f"{name}, in a folder: no file is left", leaves_nothing)
 
 
+def refuse_with_tables() -> None:
+    """The kinds of the first table are guessed wrong, and the last one has a key by hand."""
+    cities = ROOT / "examples/cities.csv"
+    with tempfile.TemporaryDirectory() as folder:
+        late, script = Path(folder, "late.csv"), Path(folder, "script")
+        late.write_text("n,city\n" + "".join(f"{number},a\n" for number in range(1_100)) + "x,b\n")
+        script.write_text("group late by city show count(*), max(n)\nshow cities\nshow k\n")
+        keyed = f"k (city text, country text, key (city))={cities}"
+        refuse("-t", str(late), "-t", f"cities={cities}", "-t", keyed, "--", script)
+
+
 CASES = [
+    Check("requests of tables from files", refuse_with_tables),
     Check("requests of the worked scripts", lambda: refuse("--", *WORKED)),
     *of_budget("1"),
     *of_budget("7"),

@@ -21,7 +21,20 @@ FILES = {
     "short.csv": "a,b,c\n1,2,3\n4\n5,6,7,8\n",
     "ragged.csv": "a,b,c\n1,x,3\n4\n",
 }
-LATE = {"late.csv": "".join(f"{line}\n" for line in ["n", *range(100_000), "x"])}
+def lines(*values: object) -> str:
+    """One value a line."""
+    return "".join(f"{value}\n" for value in values)
+
+
+# More records than a guess at the columns reads, of which a last one, or a later file, has another kind of field.
+MANY = range(2_000)
+LATE = {
+    "late.csv": lines("n", *range(100_000), "x"),
+    "numbers.csv": lines("n", *MANY),
+    "text.csv": lines("n", "x"),
+    "nulls.csv": lines("n,m", *["1,"] * 2_000, "1,7"),
+    "uneven.csv": lines("n", *MANY, "1,2"),
+}
 THOUSAND = {f"thousand/{number}.csv": f"i\n{number}\n" for number in range(1, 1001)}
 LONGEST_NAME = "n" * 63
 NAME_WANTED = Contains("write NAME=FILE, with a name of 1 to 63 bytes")
@@ -84,6 +97,45 @@ def kinds() -> list[Case]:
             "a last field that is no number",
             ["-t", "late.csv", "-c", "group late show max(n), count(*)"],
             stdout="ok 1\nmax(n),count(*)\nx,100001\n",
+            files=LATE,
+        ),
+        Case(
+            "a text in a later file",
+            [*of_tables("numbers.csv", "numbers=text.csv"), "-c", "group numbers show max(n), count(*)"],
+            stdout="ok 1\nmax(n),count(*)\nx,2001\n",
+            files=LATE,
+        ),
+        Case(
+            "a text in a later file, both from pipes",
+            [*of_tables("t=/dev/fd/3", "t=/dev/fd/4"), "-c", "group t show max(n), count(*)"],
+            stdout="ok 1\nmax(n),count(*)\nx,2001\n",
+            files=LATE,
+            shell='"$@" 3< <(cat numbers.csv) 4< <(cat text.csv)',
+        ),
+        Case(
+            "a number after many nulls",
+            ["-t", "nulls.csv", "-c", "group nulls show max(m), count(m), count(*)"],
+            stdout="ok 1\nmax(m),count(m),count(*)\n7,1,2001\n",
+            files=LATE,
+        ),
+        Case(
+            "a text in a table of its own after one that was made twice",
+            [*of_tables("late.csv", "other=text.csv"), "-c", "group other show max(n)", "-c", "group late show count(*)"],
+            stdout="ok 1\nmax(n)\nx\nok 1\ncount(*)\n100001\n",
+            files=LATE,
+        ),
+        Case(
+            "the first fault in the order of the command line",
+            [*of_tables("a=numbers.csv", "b=uneven.csv", "a=text.csv", "a=missing.csv"), "-c", "show a"],
+            status=1,
+            stderr=Contains("groupsh: uneven.csv: err 10 FieldCount 2001"),
+            files=LATE,
+        ),
+        Case(
+            "a fault in a file before one that is missing",
+            [*of_tables("a=late.csv", "a=uneven.csv", "b=missing.csv"), "-c", "show a"],
+            status=1,
+            stderr=Contains("groupsh: uneven.csv: err 10 FieldCount 2001"),
             files=LATE,
         ),
         Case(
