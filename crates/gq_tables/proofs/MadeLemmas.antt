@@ -20,9 +20,6 @@ use Rattle.gq_tables.specs.Steps.{IsWith, MadeUpTo}
 
 -- ---- names
 
-name_of : TableWord → Bytes
-name_of word = word.name
-
 abbrev names_in : List TableWord → List Bytes
 names_in words = map (λ (word : TableWord). word.name) words
 
