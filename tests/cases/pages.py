@@ -13,7 +13,7 @@ import pages
 from case import PROGRAM, ROOT, Check, Contains, judge, need, once, run, run_script
 
 SUBJECT = "pages"
-PAGES = ["README.md", *sorted(str(path.relative_to(ROOT)) for path in (ROOT / "docs").glob("*.md"))]
+PAGES = ["README.md", "CONTRIBUTING.md", *sorted(str(path.relative_to(ROOT)) for path in (ROOT / "docs").glob("*.md"))]
 PARTS = [part for page in PAGES for part in pages.parts(ROOT, page)]
 # The grammars that were seen, since two pages have the same one.
 GRAMMARS: dict[str, str] = {}
@@ -115,7 +115,7 @@ def refuse_words_of_bench(word: str) -> None:
 CASES = [
     Check("the pages are gone through", find_blocks),
     *blocks(),
-    Check("names of the pages", passes("names.py", str(ROOT), *PAGES)),
+    Check("links and names of the pages", passes("names.py", str(ROOT), *PAGES)),
     Check("the snippets of docs/LIBRARY.md", passes("library_page.py", str(ROOT))),
     Check("the tables of docs/LANGUAGE.md", try_language_tables),
     Check("the tables of docs/DEFINITIONS.md", compare_definitions),
