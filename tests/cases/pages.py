@@ -2,6 +2,7 @@
 
 import os
 import re
+import shutil
 import sys
 import tempfile
 import unittest
@@ -10,7 +11,7 @@ from functools import partial
 from pathlib import Path
 
 import pages
-from case import PROGRAM, ROOT, Check, Contains, judge, need, once, run, run_script
+from case import PROGRAM, ROOT, Check, Contains, judge, need, once, put, run, run_script
 
 SUBJECT = "pages"
 PAGES = ["README.md", "CONTRIBUTING.md", *sorted(str(path.relative_to(ROOT)) for path in (ROOT / "docs").glob("*.md"))]
@@ -67,6 +68,22 @@ def compare_definitions() -> None:
     judge(run([sys.executable, "-B", "docs/definitions.py", "--check"]), 0, Contains(""))
 
 
+def print_times() -> None:
+    """The table of times, by the files of a check that took five seconds, three of them for the borrows of a function."""
+    with tempfile.TemporaryDirectory() as name:
+        folder = Path(name)
+        (folder / "docs").mkdir()
+        shutil.copy(ROOT / "docs/times.py", folder / "docs")
+        (folder / "crates.txt").write_text("gq_shell: gq_row csv\ngq_row:\n")
+        modules = "incremental/x/Rattle-gq_row-proofs.row.Row.len"
+        for path, seconds in ((f"{modules}.Key.oantt", 100), (f"{modules}.Lts.oantt", 103), ("rlib/stamp", 105)):
+            put(folder / "crates/gq_row/out", path, "")
+            os.utime(folder / "crates/gq_row/out" / path, (seconds, seconds))
+        words = [sys.executable, "-B", folder / "docs/times.py"]
+        judge(run(words), 0, Contains("| `gq_row` | 0:00 | 5 |"))
+        judge(run([*words, "gq_row"]), 0, "   3.0 row.Row.len: borrows 3.0\n")
+
+
 def lay_out_manual() -> None:
     need("man")
     words = ["man", "--warnings", "-E", "UTF-8", "-l", "docs/groupsh.1"]
@@ -119,6 +136,7 @@ CASES = [
     Check("the snippets of docs/LIBRARY.md", passes("library_page.py", str(ROOT))),
     Check("the tables of docs/LANGUAGE.md", try_language_tables),
     Check("the tables of docs/DEFINITIONS.md", compare_definitions),
+    Check("the times of proofs", print_times),
     Check("the manual page", lay_out_manual),
     Check("the example of the manual page", run_example_of_manual),
     *[Check(f"the machine code of {function}", partial(look_at_machine_code, function)) for function in MACHINE_CODE],
