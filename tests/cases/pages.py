@@ -68,6 +68,13 @@ def compare_definitions() -> None:
     judge(run([sys.executable, "-B", "docs/definitions.py", "--check"]), 0, Contains(""))
 
 
+def compare_crates() -> None:
+    page = (ROOT / "docs/ARCHITECTURE.md").read_text()
+    crates = set(re.findall(r"^(\w+):", (ROOT / "crates.txt").read_text(), re.M))
+    assert set(re.findall(r"\b(?:gq|sw|starved)_\w+", page)) == crates
+    assert f"\n{len(crates)} crates: " in page
+
+
 def print_times() -> None:
     """The table of times, by the files of a check that took five seconds, three of them for the borrows of a function."""
     with tempfile.TemporaryDirectory() as name:
@@ -136,6 +143,7 @@ CASES = [
     Check("the snippets of docs/LIBRARY.md", passes("library_page.py", str(ROOT))),
     Check("the tables of docs/LANGUAGE.md", try_language_tables),
     Check("the tables of docs/DEFINITIONS.md", compare_definitions),
+    Check("the crates of docs/ARCHITECTURE.md", compare_crates),
     Check("the times of proofs", print_times),
     Check("the manual page", lay_out_manual),
     Check("the example of the manual page", run_example_of_manual),
