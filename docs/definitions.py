@@ -1,36 +1,53 @@
 #!/usr/bin/env python3
-"""Lists all public definitions of `specs/` in docs/DEFINITIONS.md, below its line "made by".
+"""Prints the public definitions of specs/ as Markdown tables, each with the comment above it.
 
-    definitions.py [--check]
+    definitions.py [CRATE]..      those that public contracts use, then those that only contracts within a crate use
+    definitions.py --under NAME   NAME and the definitions that it rests on; NAME is one as Ran, or CRATE.FILE.NAME
+    definitions.py --check        prints nothing; status 1 if a definition has no comment, or if a quote in
+                                  docs/DEFINITIONS.md isn't in the file that its first line names
 
-With `--check` nothing is written, and the status is 1 where the page has other lists.
-
-What a definition is comes from the comment above it; definitions without one go with the one before,
-and the first of a file with the file's. A definition is listed as one of the public contracts where
-a clause of an exported function, trait or type reaches it, through other definitions or not, and with
-the helpers' otherwise.
+A definition without a comment belongs to the one before it, and the first of a file to the head of the file. A public
+contract is one of an exported function, trait or type; it uses a definition if a clause names it, or another that rests on it.
 """
+
+from __future__ import annotations
+
 import re
 import sys
+from collections.abc import Callable, Iterable, Iterator
+from dataclasses import dataclass, field
 from pathlib import Path
 
 ROOT = Path(__file__).resolve().parent.parent
 PAGE = ROOT / "docs" / "DEFINITIONS.md"
-MADE = "<!-- made by docs/definitions.py: run it after a change of specs/ -->\n"
-DEFINITION = re.compile(r"^(?:abbrev |unfoldable )?pub (?:abbrev |unfoldable )?(record |data )?([^\s:({]+)")
+DEFINITION = re.compile(r"^(?:abbrev |unfoldable )?pub (?:abbrev |unfoldable )?(?:record |data )?([^\s:({]+)")
+IMPORT = re.compile(r"use Rattle\.(\w+\.specs\.[\w.]+)\.\{([^}]*)\}")
+ITEM = re.compile(r"^(?:pub )?(?:unsafe )?(impl|trait|fn|struct|enum)\b(.*)", re.M)
 WORD = re.compile(r"[^\s(){}\[\],;.`\"]+")
+QUOTE = re.compile(r"^```antt\n-- (\S+)\n(.*?)^```$", re.M | re.S)
+
+# A crate, a file of its specs, and a name.
+Name = tuple[str, str, str]
 
 
-def libraries():
+@dataclass
+class Group:
+    """A comment, and the definitions below it."""
+
+    comment: str
+    names: list[str] = field(default_factory=list)
+
+
+def libraries() -> list[str]:
     """The crates with definitions, lowest first, as crates.txt has them."""
     needs = {}
     for line in (ROOT / "crates.txt").read_text().splitlines():
         name, colon, deps = line.split("#")[0].partition(":")
         if colon:
-            needs[name.split()[0]] = deps.split()
-    order = []
+            needs[name.strip()] = deps.split()
+    order: list[str] = []
 
-    def visit(name):
+    def visit(name: str) -> None:
         if name in needs and name not in order:
             for dep in needs[name]:
                 visit(dep)
@@ -41,35 +58,36 @@ def libraries():
     return [name for name in order if not name.endswith(("_tests", "_bench", "_examples"))]
 
 
-def imports(text, crate):
-    """What the names that a file takes from our specs stand for: name to (crate, file, name)."""
-    found = {}
-    for where, listed in re.findall(r"use Rattle\.(\w+\.specs\.[\w.]+)\.\{([^}]*)\}", text):
-        parts = where.split(".")
-        if parts[2] == "declared":
+def imports(text: str) -> dict[str, Name]:
+    """What the names that a file imports from these specs mean."""
+    found: dict[str, Name] = {}
+    for where, listed in IMPORT.findall(text):
+        crate, _, *folders = where.split(".")
+        if folders[0] == "declared":
             continue
         for item in listed.split(","):
-            name, _as, alias = item.strip().partition(" as ")
-            found[alias or name] = (parts[0], parts[-1], name)
+            name, _, alias = item.strip().partition(" as ")
+            found[alias or name] = (crate, folders[-1], name)
     return found
 
 
-class Group:
-    """A comment and the definitions below it."""
+class Specs:
+    """All public definitions: in groups by crate and file, and what each one names."""
 
-    def __init__(self, comment):
-        self.comment = comment
-        self.names = []
+    def __init__(self) -> None:
+        self.groups: dict[tuple[str, str], list[Group]] = {}
+        self.uses: dict[Name, set[Name]] = {}
+        for crate in libraries():
+            for path in sorted((ROOT / "crates" / crate / "specs").glob("*.antt")):
+                self.read(crate, path)
 
-
-def read_specs(crate):
-    """The groups of each file, and what each definition names."""
-    files, uses = {}, {}
-    for path in sorted((ROOT / "crates" / crate / "specs").glob("*.antt")):
+    def read(self, crate: str, path: Path) -> None:
         text = path.read_text()
-        known = imports(text, crate)
+        known = imports(text)
         head = text.splitlines()[0].lstrip("- ") if text.startswith("--") else ""
-        groups, comment, current, is_inside = [], [], None, False
+        groups: list[Group] = []
+        comment: list[str] = []
+        current, is_inside = None, False
         for line in text.splitlines():
             if line and not line.startswith((" ", "--")):
                 is_inside = line.startswith("module _")
@@ -82,93 +100,112 @@ def read_specs(crate):
             if match and " mod " not in line and " use " not in line:
                 if comment or not groups:
                     groups.append(Group(" ".join(comment) or head))
-                groups[-1].names.append(match.group(2))
-                current = (crate, path.stem, match.group(2))
-                uses[current] = set()
+                groups[-1].names.append(match[1])
+                current = (crate, path.stem, match[1])
+                self.uses[current] = set()
             comment = []
             if current and not line.startswith("use "):
-                for word in WORD.findall(line):
-                    uses[current].add(known.get(word, (crate, path.stem, word)))
-        files[path.stem] = [group for group in groups if group.names]
-    return files, uses
+                self.uses[current].update(known.get(word, (crate, path.stem, word)) for word in WORD.findall(line))
+        if groups:
+            self.groups[crate, path.stem] = groups
+
+    def under(self, names: Iterable[Name]) -> set[Name]:
+        """These definitions, and those that they rest on."""
+        todo = [name for name in names if name in self.uses]
+        found = set(todo)
+        while todo:
+            new = self.uses[todo.pop()] & self.uses.keys() - found
+            found |= new
+            todo += new
+        return found
+
+    def table(self, wanted: Callable[[Name], bool]) -> Iterator[str]:
+        """The lines of a table of some definitions."""
+        yield "| Where | Name | What it is |"
+        yield "|---|---|---|"
+        for (crate, file), groups in self.groups.items():
+            for group in groups:
+                names = [f"`{name}`" for name in group.names if wanted((crate, file, name))]
+                if names:
+                    cells = (f"`{crate}` `{file}`", ", ".join(names), group.comment)
+                    yield f"| {' | '.join(cell.replace('|', chr(92) + '|') for cell in cells)} |"
 
 
-def exported(crate):
-    """The names that a library hands on, or None for a program, and its public modules."""
+def exported(crate: str) -> tuple[set[str] | None, set[str]]:
+    """The names that a library exports, or None for a program, and its public modules."""
     lib = ROOT / "crates" / crate / "src" / "lib.rt"
     if not lib.exists():
         return None, {"laws"}
     text = lib.read_text()
-    names = set()
+    names: set[str] = set()
     for listed in re.findall(r"^pub use ([^;]+);", text, re.M):
         names |= set(re.findall(r"\w+", listed.rpartition("::")[2]))
     return names, set(re.findall(r"^pub mod (\w+);", text, re.M))
 
 
-def public_clauses(crate):
-    """What clauses of exported items name."""
+def public_clauses(crate: str) -> set[Name]:
+    """What the clauses of a crate's exported items name."""
     names, modules = exported(crate)
-    found = set()
+    found: set[Name] = set()
     for path in sorted((ROOT / "crates" / crate / "src").rglob("*.rt")):
         text = path.read_text()
-        known = imports(text, crate)
+        known = imports(text)
         for item in re.split(r"\n(?=(?!where)[a-z#/])", text):
-            head = re.search(r"^(?:pub )?(?:unsafe )?(impl|trait|fn|struct|enum)\b(.*)", item, re.M)
+            head = ITEM.search(item)
             if not head:
                 continue
             kind, rest = head.groups()
-            own = re.findall(r"\w+", rest)
-            is_pub = re.search(r"^pub ", head.group(0)) is not None
-            is_out = names is None or path.stem in modules or any(word in names for word in own)
-            if kind == "impl":
-                parts = re.findall(r"^    pub fn .*?^    \{|^    ghost .*?;$", item, re.M | re.S)
-                if " for " in rest:
-                    parts = [item]
+            if names is not None and path.stem not in modules and names.isdisjoint(re.findall(r"\w+", rest)):
+                continue
+            if kind != "impl":
+                parts = [item] if head[0].startswith("pub ") else []
+            elif " for " in rest:
+                parts = [item]
             else:
-                parts = [item] if is_pub else []
-            if is_out:
-                for part in parts:
-                    found |= {known[word] for word in WORD.findall(part) if word in known}
+                parts = re.findall(r"^    pub fn .*?^    \{|^    ghost .*?;$", item, re.M | re.S)
+            found |= {known[word] for part in parts for word in WORD.findall(part) if word in known}
     return found
 
 
-def main():
-    specs, uses, reached = {}, {}, set()
-    crates = libraries()
-    for crate in crates:
-        specs[crate], cited = read_specs(crate)
-        uses.update(cited)
-        reached |= public_clauses(crate)
-    todo = list(reached)
-    while todo:
-        for next_one in uses.get(todo.pop(), ()):
-            if next_one in uses and next_one not in reached:
-                reached.add(next_one)
-                todo.append(next_one)
-    out = ["", "## All definitions that public contracts speak of", ""]
-    out += table(crates, specs, lambda one: one in reached)
-    out += ["", "## Helpers' definitions", "", "What only contracts of functions within a crate speak of.", ""]
-    out += table(crates, specs, lambda one: one not in reached)
-    old = PAGE.read_text()
-    new = old.partition(MADE)[0].rstrip() + "\n\n" + MADE + "\n".join(out) + "\n"
-    if "--check" not in sys.argv[1:]:
-        PAGE.write_text(new)
-    elif new != old:
-        sys.exit("docs/definitions.py makes other lists than the page has")
+def mistakes(specs: Specs) -> Iterator[str]:
+    """What --check finds."""
+    for (crate, file), groups in specs.groups.items():
+        yield from (f"{crate} {file}: no comment on {group.names[0]}" for group in groups if not group.comment)
+    quotes = QUOTE.findall(PAGE.read_text())
+    if not quotes:
+        yield f"{PAGE.name} quotes nothing"
+    for name, quote in quotes:
+        path = ROOT / "crates" / name
+        text = "\n" + path.read_text() if path.exists() else ""
+        for piece in quote.strip("\n").split("\n\n"):
+            if f"\n{piece}\n" not in text:
+                yield f"{PAGE.name} quotes of {name} what isn't there:\n{piece}"
 
 
-def table(crates, specs, wanted):
-    lines = ["| Where | Name | What it is |", "|---|---|---|"]
-    for crate in crates:
-        for file, groups in specs[crate].items():
-            for group in groups:
-                names = [name for name in group.names if wanted((crate, file, name))]
-                if names:
-                    shown = ", ".join(f"`{name}`" for name in names).replace("|", "\\|")
-                    what = group.comment.replace("|", "\\|")
-                    lines.append(f"| `{crate}` `{file}` | {shown} | {what} |")
-    return lines
+def main(words: list[str]) -> int:
+    specs = Specs()
+    if words == ["--check"]:
+        found = list(mistakes(specs))
+        print(*found, sep="\n", end="\n" if found else "")
+        return 1 if found else 0
+    if len(words) == 2 and words[0] == "--under":
+        parts = tuple(words[1].split("."))
+        top = [name for name in specs.uses if name[-len(parts) :] == parts]
+        under = specs.under(top)
+        files = {(crate, file) for crate, file, _ in under}
+        print(*specs.table(lambda name: name in under), "", f"{len(under)} definitions in {len(files)} files", sep="\n")
+        return 0 if top else 1
+    crates = words or libraries()
+    if not set(crates) <= set(libraries()):
+        print(__doc__, file=sys.stderr)
+        return 2
+    public = specs.under(name for crate in libraries() for name in public_clauses(crate))
+    print("Definitions that public contracts use:", "", sep="\n")
+    print(*specs.table(lambda name: name[0] in crates and name in public), sep="\n")
+    print("", "Definitions that only contracts within a crate use:", "", sep="\n")
+    print(*specs.table(lambda name: name[0] in crates and name not in public), sep="\n")
+    return 0
 
 
 if __name__ == "__main__":
-    main()
+    sys.exit(main(sys.argv[1:]))

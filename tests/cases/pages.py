@@ -11,7 +11,7 @@ from functools import partial
 from pathlib import Path
 
 import pages
-from case import PROGRAM, ROOT, Check, Contains, judge, need, once, put, run, run_script
+from case import PROGRAM, ROOT, Check, Contains, Outcome, judge, need, once, put, run, run_script
 
 SUBJECT = "pages"
 PAGES = ["README.md", "CONTRIBUTING.md", *sorted(str(path.relative_to(ROOT)) for path in (ROOT / "docs").glob("*.md"))]
@@ -64,8 +64,14 @@ def try_language_tables() -> None:
     judge(run_script("language_page.py", PROGRAM, "docs/LANGUAGE.md"), 0, Contains(", 0 wrong"))
 
 
-def compare_definitions() -> None:
-    judge(run([sys.executable, "-B", "docs/definitions.py", "--check"]), 0, Contains(""))
+def run_docs_script(name: str, *words: str) -> Outcome:
+    """Runs a script of docs."""
+    return run([sys.executable, "-B", f"docs/{name}", *words])
+
+
+def print_definitions() -> None:
+    judge(run_docs_script("definitions.py", "sw_ctrl"), 0, Contains("| `sw_ctrl` `Bytes` | `is_full` |"))
+    judge(run_docs_script("definitions.py", "--under", "Ran"), 0, Contains("| `gq_row` `Tables` | `of_key` |"))
 
 
 def compare_crates() -> None:
@@ -142,9 +148,10 @@ CASES = [
     Check("links and names of the pages", passes("names.py", str(ROOT), *PAGES)),
     Check("the snippets of docs/LIBRARY.md", passes("library_page.py", str(ROOT))),
     Check("the tables of docs/LANGUAGE.md", try_language_tables),
-    Check("the tables of docs/DEFINITIONS.md", compare_definitions),
     Check("the crates of docs/ARCHITECTURE.md", compare_crates),
     Check("the times of proofs", print_times),
+    Check("the quotes of docs/DEFINITIONS.md", lambda: judge(run_docs_script("definitions.py", "--check"), 0)),
+    Check("the definitions that docs/definitions.py prints", print_definitions),
     Check("the manual page", lay_out_manual),
     Check("the example of the manual page", run_example_of_manual),
     *[Check(f"the machine code of {function}", partial(look_at_machine_code, function)) for function in MACHINE_CODE],
