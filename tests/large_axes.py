@@ -3,7 +3,7 @@ more, and the replies that it must get, worked out here by plain lists.
 
     large_axes.py SCRIPT REPLIES
 
-docs/AXES.md lists the axes. Each function below that takes an example takes some of them, and drops its tables again, so
+docs/ASSURANCE.md lists the axes. Each function below that takes an example takes some of them, and drops its tables again, so
 that the parts are made in processes of their own.
 """
 import string

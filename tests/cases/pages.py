@@ -97,6 +97,10 @@ def print_times() -> None:
         judge(run([*words, "gq_row"]), 0, "   3.0 row.Row.len: borrows 3.0\n")
 
 
+def print_mutants() -> None:
+    judge(run_docs_script("mutants.py", "gq_agg"), 0, Contains("- null is the least: `src/state.rt`"))
+
+
 def lay_out_manual() -> None:
     need("man")
     words = ["man", "--warnings", "-E", "UTF-8", "-l", "docs/groupsh.1"]
@@ -152,6 +156,8 @@ CASES = [
     Check("the times of proofs", print_times),
     Check("the quotes of docs/DEFINITIONS.md", lambda: judge(run_docs_script("definitions.py", "--check"), 0)),
     Check("the definitions that docs/definitions.py prints", print_definitions),
+    Check("the mutants of docs/ASSURANCE.md", lambda: judge(run_docs_script("mutants.py", "--check"), 0)),
+    Check("the mutants that docs/mutants.py prints", print_mutants),
     Check("the manual page", lay_out_manual),
     Check("the example of the manual page", run_example_of_manual),
     *[Check(f"the machine code of {function}", partial(look_at_machine_code, function)) for function in MACHINE_CODE],
