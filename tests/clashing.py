@@ -1,10 +1,10 @@
-"""Writes a script that loads texts whose hashes under the seed 0 fall together, and counts them.
+"""Writes a script that loads texts whose hashes under the seed 0 are equal, and counts them.
 
     clashing.py ROWS
 
-The hash takes in the length of a text, its first eight bytes and its last eight, each by an xor and a multiplication. So of
-sixteen bytes the last eight can make up for whatever the first eight did: where they are the state that these leave, the next
-one is 0, and so is the hash. Of one front in some four hundred they are bytes that a field of CSV can have as they stand.
+The hash takes in the length of a text, its first eight bytes and its last eight, each by an xor and a multiplication. So the
+last eight of sixteen bytes can cancel the first eight: if they are the state after these, the next state is 0, and so is the
+hash. For one prefix in about four hundred they are bytes that a field of CSV can have without quotes.
 """
 import itertools
 import string

@@ -1,11 +1,10 @@
-"""Looks within a second at each wrong body of `crates/*/must-fail`, and proves nothing.
+"""Checks within a second that each mutant of `crates/*/must-fail` still applies, and proves nothing.
 
     edits.py FOLDER
 
-FOLDER is the top of the repository. A wrong body that can no longer be tried costs a whole run of the
-gate, so this tells before it: where its file is gone, where a text that it replaces does not stand there
-once, and where its new text names a module by `crate::` that the crate has not. The last line counts;
-the status is 0 where nothing is off.
+FOLDER is the top of the repository. A mutant that can't be tried costs a whole run of the gate, so this reports it before: its
+file is gone, a text that it replaces isn't there exactly once, or its new text names a module by `crate::` that the crate doesn't
+have. The last line counts; the status is 0 if nothing is off.
 """
 import re
 import sys
@@ -24,7 +23,7 @@ def has_module(crate, name):
 
 
 def mistakes(edit):
-    """What keeps a wrong body from being tried."""
+    """What keeps a mutant from being tried."""
     crate, path, old, texts, replaced = edit.parent.parent, None, None, {}, 0
     for line in edit.read_text(encoding="utf-8").split("\n"):
         word, _, text = line.partition(":")
@@ -43,7 +42,7 @@ def mistakes(edit):
                 yield "a new text comes before any old one"
                 return
             if texts[path].count(old) != 1:
-                yield f"an old text stands {texts[path].count(old)} times in {path}"
+                yield f"an old text is {texts[path].count(old)} times in {path}"
                 return
             texts[path], old, replaced = texts[path].replace(old, text), None, replaced + 1
             for module in re.findall(r"\bcrate::([a-z_0-9]+)::", text):
@@ -56,7 +55,7 @@ def mistakes(edit):
 def main(root):
     edits = sorted(Path(root).glob("crates/*/must-fail/*.edit"))
     found = [f"{edit.relative_to(root)}: {why}" for edit in edits for why in mistakes(edit)]
-    print(*found, f"{len(edits)} wrong bodies, {len(found)} off", sep="\n")
+    print(*found, f"{len(edits)} mutants, {len(found)} off", sep="\n")
     return 1 if found else 0
 
 

@@ -53,7 +53,7 @@ def order(value):
 
 
 def order_of_cells(row):
-    """By all cells from the left, and where they are the same by the bytes of those without case."""
+    """By all cells from the left, and if these are the same by the bytes of those without case."""
     spelled = [value.encode() for value in row if type(value) is NoCase]
     return [order(value) for value in row] + spelled
 
@@ -63,7 +63,7 @@ def order_of_spellings(text):
 
 
 def extreme(choose, values):
-    """The least or the greatest of numbers, of texts, whose characters are ordered as their bytes, or of texts without case;
+    """The minimum or maximum of numbers, of texts, whose characters are ordered as their bytes, or of texts without case;
     None of no values, and of nulls."""
     if not values or values[0] is None:
         return None
@@ -132,8 +132,8 @@ def csv_text(header, rows, end="\n"):
 class Example:
     """A script, and what plain lists of rows answer to it.
 
-    A test is a column, or an aggregate as it is shown, then a sign and a literal. A match is whether `not`
-    stands before `exists`, then the other table, its columns and ours.
+    A test is a column, or an aggregate as it is shown, then a sign and a literal. A match is whether `exists`
+    has a `not`, then the other table, its columns and ours.
     """
 
     def __init__(self):
@@ -157,7 +157,7 @@ class Example:
         self.tables[name] = (names, [names.index(column) for column in key], {}, [])
 
     def put(self, name, row):
-        """Keeps a row in place of the one that has its key, or behind all."""
+        """Keeps a row in place of the one that has its key, or after all others."""
         _names, key, places, rows = self.tables[name]
         at = tuple(row[i] for i in key)
         if key and at in places:
@@ -171,7 +171,7 @@ class Example:
         self.put(name, row)
 
     def load(self, name, header, rows, end="\n"):
-        """Loads rows whose values stand in the order of the header."""
+        """Loads rows whose values are in the order of the header."""
         places = [header.index(column) for column in self.tables[name][0]]
         for row in rows:
             self.put(name, tuple(row[i] for i in places))
@@ -217,7 +217,7 @@ class Example:
         self.ask(["show", spelled(name)], names, rows)
 
     def aggregates(self, name, shown):
-        """What tells each aggregate that is shown, of the rows of a group."""
+        """Each aggregate that is shown, of the rows of a group."""
         for word, column in shown:
             tell = AGGREGATES[word]
             if column == "*":
@@ -227,7 +227,7 @@ class Example:
                 yield lambda rows, tell=tell, i=place: tell([row[i] for row in rows if row[i] is not None])
 
     def shown_key(self, name, key, rows, columns):
-        """What is shown of the key that some rows have in some columns: where it has a text without case, the least of each."""
+        """How the key of some rows is shown: each column of a key with a text without case by its minimum."""
         if not any(isinstance(value, NoCase) for value in key):
             return key
         return [extreme(min, values) for values in zip(*self.cells(name, rows, columns))]

@@ -1,10 +1,10 @@
-"""Tries each front of right lines: with a stray sign behind it `--check` tells that sign's column, and nothing before it.
+"""Tries each prefix of right lines: with a stray sign after it `--check` reports the column of that sign.
 
     fronts.py GROUPSH PAGE
 
-The lines are those of the page's blocks between fences that begin with a command's word and that `--check` tells nothing of,
-and some that are longer than a page has place for. All fronts stand in one script, each with the end of a payload behind it
-where it begins with `load`. The last line counts them; the status is 0 where each front is found.
+The lines are those of the page's fenced blocks that begin with a command's word and that `--check` doesn't report, and some that
+are too long for a page. All prefixes are in one script, those that begin with `load` with the end of a payload after them. The
+last line counts them; the status is 0 if each prefix is reported right.
 """
 import re
 import subprocess
@@ -14,19 +14,19 @@ COMMAND = re.compile(r"^(?:create|drop|load|upsert|delete|show|group|distinct) .
 BLOCK = re.compile(r"^```\w*\n(.*?)^```$", re.M | re.S)
 PIECE = re.compile(r"""'(?:[^']|'')*'|"(?:[^"]|"")*"|[-+]?\w+|<>|<=|>=|\S""", re.A)
 
-# Lists of an `exists` that are longer than a table has columns, and a line as long as a line may be but for what lacks.
+# Lists of an `exists` that are longer than a table has columns, and nearly the longest line.
 NAMES = [f"c{i % 140}" for i in range(300)]
 LONG = [
     f"group s show count(*) not exists t ({','.join(NAMES)}) = ({', '.join(NAMES)}) having count(*) > 1",
     f"upsert s (1, '{'x' * 65_400}', null)",
     f"group s by a show count(*) where {' and '.join(['a > 0'] * 6_500)}",
 ]
-# Of the fronts of long lines so many are tried at the beginning, at the end, and between.
+# How many prefixes of a long line are tried at its beginning, at its end, and between.
 FEW = 4
 
 
 def reports(program, lines):
-    """The reports of a script of these lines: of each line its column and its message."""
+    """The report of each of these lines, as a script: its column and its message."""
     script = "".join(line + ("\n\\.\n" if line.startswith("load") else "\n") for line in lines)
     run = subprocess.run([program, "--check"], input=script.encode(), stdout=subprocess.PIPE, timeout=300, check=False)
     numbers, number = {}, 1
@@ -45,7 +45,7 @@ def short(line):
 
 
 def fronts(line):
-    """The fronts of a line, or of a long one some of them."""
+    """The prefixes of a line, or some prefixes of a long one."""
     ends = [piece.end() for piece in PIECE.finditer(line)]
     step = max(1, len(ends) // FEW)
     return [line[:end] for end in ([*ends[:FEW], *ends[FEW:-FEW:step], *ends[-FEW:]] if step > 1 else ends)]
@@ -56,12 +56,12 @@ def main(program, path):
         blocks = BLOCK.findall(file.read())
     found = list(dict.fromkeys(line for block in blocks for line in COMMAND.findall(block)))
     lines = [line for line, report in zip(found, reports(program, found)) if report is None] + LONG
-    wrong = [f"{short(line)!r} is told as {report}" for line, report in zip(LONG, reports(program, LONG)) if report]
+    wrong = [f"{short(line)!r} is reported as {report}" for line, report in zip(LONG, reports(program, LONG)) if report]
     strays = [f"{front} ?" for line in lines for front in fronts(line)]
     for stray, report in zip(strays, reports(program, strays)):
         if report is None or report[0] != len(stray.encode()):
-            wrong.append(f"{short(stray)!r} is told as {report}")
-    print(*wrong, f"{len(strays)} fronts of {len(lines)} lines, {len(wrong)} wrong", sep="\n")
+            wrong.append(f"{short(stray)!r} is reported as {report}")
+    print(*wrong, f"{len(strays)} prefixes of {len(lines)} lines, {len(wrong)} wrong", sep="\n")
     return 1 if wrong or not strays else 0
 
 

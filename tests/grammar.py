@@ -1,10 +1,10 @@
-"""Makes lines by the grammar that docs/LANGUAGE.md shows, right ones and wrong ones, and looks whether the program agrees.
+"""Makes right and wrong lines by the grammar in docs/LANGUAGE.md, and checks that the program agrees.
 
     grammar.py GROUPSH PAGE
 
-The rules are read from the page's block `ebnf`, and lines are made by them at random, from a fixed seed. Each is also altered by a
-piece that is taken away, doubled, exchanged or replaced. `--check` has to tell exactly those lines that neither the rules make nor
-the page's rules beside them allow. The last line counts; the status is 0 where they agree.
+The rules are read from the page's block `ebnf`, and lines are made by them at random, from a fixed seed. In a copy of each line one
+piece is removed, doubled, exchanged or replaced. `--check` must report exactly the lines that the rules don't make or the page's
+other rules don't allow. The last line counts; the status is 0 if they agree.
 """
 import random
 import re
@@ -124,7 +124,7 @@ def kind_of(piece):
 
 
 def between(pieces, first, *ends):
-    """The pieces behind the first of a word, up to the first of others."""
+    """The pieces after the first of a word, up to the first of others."""
     if first not in pieces:
         return []
     behind = pieces[pieces.index(first) + 1 :]
@@ -132,7 +132,7 @@ def between(pieces, first, *ends):
 
 
 def keeps_rules(pieces):
-    """Whether a line that is made keeps the rules beside the grammar."""
+    """Whether a line that the grammar makes keeps the other rules."""
     names = lambda part: [piece.strip('"') for piece in part if kind_of(piece) == "name"]
     columns = names(piece for piece, kind in zip(pieces[2:], pieces[3:]) if kind in ("int", "text")) if pieces[0] == "create" else []
     lists = [columns, names(between(pieces, "key")), names(between(pieces, "by", "show")), names(between(pieces, "on", "where"))]
@@ -146,7 +146,7 @@ def keeps_rules(pieces):
 
 
 def spelled(chance, pieces):
-    """The pieces as a line: keywords in any case, blanks where they are wanted and some where they aren't."""
+    """The pieces as a line: keywords in any case, blanks where they are needed, and some elsewhere."""
     words = [piece if kind_of(piece) != "word" or chance.randrange(3) else piece.upper() for piece in pieces]
     line = words[0]
     for before, word in zip(words, words[1:]):
@@ -156,7 +156,7 @@ def spelled(chance, pieces):
 
 
 def told(program, lines):
-    """The numbers of the lines that `--check` tells."""
+    """The numbers of the lines that `--check` reports."""
     script, numbers, number = "", {}, 1
     for index, line in enumerate(lines):
         numbers[number] = index
@@ -180,8 +180,8 @@ def main(program, path):
     wanted = {index for index, pieces in enumerate(tried) if not (is_made(rules, tuple(pieces)) and keeps_rules(pieces))}
     wrong = sorted(found ^ wanted)
     for index in wrong[:20]:
-        print(f"{lines[index]!r} is {'told' if index in found else 'not told'}")
-    print(f"{len(lines)} lines, of which {len(wanted)} are none, {len(wrong)} wrong")
+        print(f"{lines[index]!r} is {'reported' if index in found else 'not reported'}")
+    print(f"{len(lines)} lines, {len(wanted)} of them not commands, {len(wrong)} wrong")
     return 1 if wrong or not rules else 0
 
 

@@ -1,22 +1,22 @@
-"""Tries the tables of docs/LANGUAGE.md: each mistake gets the reply beside it, and each condition keeps the rows beside it.
+"""Tries the tables of docs/LANGUAGE.md: each mistake gets the reply of its line, and each condition keeps the rows of its line.
 
     language_page.py GROUPSH PAGE
 
-The part "Mistakes by example" has a script between fences and a table of a line, its reply and a right line. Each line is tried
-by itself behind the script, and `--check` tells it exactly where its refusal rests on no table. The part "Tests" has a script
-that makes a table `r`, and a table of conditions and the values of `n` that they keep. The last line counts; the status is 0
-where all are as the page says.
+The part "Mistakes by example" has a fenced script, and a table of lines, their replies and right lines. Each line is tried after
+the script, and `--check` must report it exactly if its refusal needs no table. The part "Tests" has a script that makes a table
+`r`, and a table of conditions and the values of `n` that they keep. The last line counts; the status is 0 if all are as the page
+says.
 """
 import re
 import subprocess
 import sys
 
-# Refusals that rest on no table.
+# Refusals that need no table.
 READING = {"err 1 Syntax", "err 2 LineTooLong", "err 14 Limit", "err 18 LoadOpen"}
 
 
 def part_of(page, heading):
-    """What stands under a heading, and the lines of its first script."""
+    """The text under a heading, and the lines of its first script."""
     part = re.search(rf"^### {heading}\n(.*?)^##", page, re.M | re.S).group(1)
     return part, re.search(r"^```gq\n(.*?)^```$", part, re.M | re.S).group(1)
 
@@ -41,7 +41,7 @@ def mistakes(program, page):
             text = script + tried.replace("⏎", "\n") + "\n"
             found = [int(report.split(":")[1]) for report in lines_of([program, "--check"], text)]
             if found != reports:
-                wrong.append(f"{tried!r} is told at {found}")
+                wrong.append(f"{tried!r} is reported at {found}")
             reply = lines_of([program], text)[before]
             if not is_right(reply):
                 wrong.append(f"{tried!r} is answered {reply!r}")

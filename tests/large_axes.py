@@ -1,10 +1,10 @@
-"""Writes a script that takes each axis of a command to its greatest value, or past 100,000 where that is
-more, and the replies that it must get, worked out here by plain lists.
+"""Writes a script that takes each axis of a command to its maximum, or past 100,000 if that is more, and the replies that it must
+get, worked out by plain lists.
 
     large_axes.py SCRIPT REPLIES
 
-docs/ASSURANCE.md lists the axes. Each function below that takes an example takes some of them, and drops its tables again, so
-that the parts are made in processes of their own.
+docs/ASSURANCE.md lists the axes. Each function below with an example covers some of them and drops its tables again, so that the
+parts are made in processes of their own.
 """
 import string
 from concurrent.futures import ProcessPoolExecutor
@@ -23,7 +23,7 @@ GREATEST = 2**63 - 1
 
 
 def fitting(front, item, back=""):
-    """How often an item fits into a line between a front and a back."""
+    """How often an item fits into a line between a prefix and a suffix."""
     return (LONGEST_LINE - len(front) - len(back)) // len(item)
 
 
@@ -52,7 +52,7 @@ def widest_lists(example):
 
 
 def longest_clauses(example):
-    """Tests of `where` and of `having` and pairs of `exists`: as many as a line has place for."""
+    """Tests of `where` and of `having` and pairs of `exists`: as many as fit in a line."""
     example.create("a", [("a", "int"), ("b", "int")])
     example.load("a", ["a", "b"], [(i % 9 or None, i % 7) for i in range(100)])
     front = "group a by a show count(*) having "
@@ -69,7 +69,7 @@ def longest_clauses(example):
 
 
 def longest_lists(example):
-    """Names, values and aggregates that are refused, as many as a line has place for."""
+    """Names, values and aggregates that are refused: as many as fit in a line."""
     example.create("a", [("a", "int")])
     for front, back, reply in [
         ("group a by ", " show count(*)", "err 5 NoColumn"),
@@ -116,7 +116,7 @@ def groups_and_pairs(example):
 
 
 def matches(example):
-    """Rows and different keys of the other table of an `exists`."""
+    """Rows and distinct keys of the other table of an `exists`."""
     example.create("ours", [("a", "int"), ("b", "text")])
     example.create("theirs", [("x", "text"), ("y", "int"), ("z", "int")])
     ours = [(i % 11 and i, f"k{i % 70_001}" if i % 13 else None) for i in range(MANY)]
@@ -146,7 +146,7 @@ def sums(example):
 
 
 def extremes(example):
-    """Texts that become the least and the greatest of a group, and of two, with each row."""
+    """Texts that become the minimum and the maximum of a group, and of two groups, with each row."""
     names = ["g", "up", "down"]
     example.create("e", [("g", "int"), ("up", "text"), ("down", "text")])
     example.load("e", names, [(i % 2, f"t{i:06}", f"t{MANY - i:06}") for i in range(MANY)])
@@ -156,13 +156,13 @@ def extremes(example):
 
 
 def in_case(word, bits):
-    """A spelling of a word: a small letter where the bit is set, the first letter's the highest."""
+    """A spelling of a word: a small letter if its bit is set, the highest bit for the first letter."""
     letters = zip(word, reversed(range(len(word))))
     return NoCase("".join(letter.lower() if bits >> i & 1 else letter.upper() for letter, i in letters))
 
 
 def spellings(example):
-    """Texts without case: groups by their folds, spellings of a group, columns that are shown by the least ones."""
+    """Texts without case: groups by their folds, spellings of a group, columns that are shown by their minimum."""
     names = ["n", "town", "word"]
     towns = [in_case(f"town {i * 7919 % MANY // 2}", i) for i in range(MANY)]
     words = [in_case("abcdefghijklmnopq", MANY - i) for i in range(MANY)]

@@ -1,4 +1,4 @@
-"""Writes a large script and the replies that it must get, worked out here by plain lists.
+"""Writes a large script and the replies that it must get, worked out by plain lists.
 
     large_script.py SCRIPT REPLIES
 
@@ -21,7 +21,7 @@ def made():
     example.create("l", [("a", "int"), ("b", "text")])
     example.create("t", [("a", "text")])
 
-    # No commands: blank lines and comments, as many as there are of nothing else in a row.
+    # Lines that aren't commands: many blank lines and comments in a row.
     for i in range(3000):
         example.say(" \t" * (i % 5), end="\n" if i % 2 else "\r\n")
     for i in range(2000):
@@ -43,7 +43,7 @@ def made():
     example.group("s", ["id"])
     example.group("s", ["city", "g", "id"])
 
-    # Lists of more than 1,000 names and values, each refused for what it is.
+    # Lists of more than 1,000 names and values, each refused for its own reason.
     example.say(f"group s by {names(1200)} show count(*)", "err 5 NoColumn")
     example.say(f"group s by {names(1200)}, n7 show count(*)", "err 1 Syntax")
     example.say(f"create k (a int, key ({names(1200)}))", "err 5 NoColumn")
@@ -55,7 +55,7 @@ def made():
     example.upsert("w", *range(128))
     example.group("w", wide)
 
-    # Lines past 4,096 bytes, up to the longest that there may be and past it.
+    # Lines past 4,096 bytes, up to the longest that is allowed and past it.
     for size in [4000, 4085, 4096, 5000, 8192, 20_000, 65_000]:
         example.upsert("t", "y" * size)
     example.upsert("t", "it's " * 10_000)

@@ -1,10 +1,10 @@
-"""Looks whether each snippet of docs/LIBRARY.md stands word for word in crates/sw_examples.
+"""Checks that each snippet of docs/LIBRARY.md is word for word in crates/sw_examples.
 
     library_page.py FOLDER
 
-FOLDER is the top of the repository. A snippet's pieces, parted by empty lines, are found as whole lines in one
-file each: of `rust` in the crate's sources, of `antt` in its proofs, and of others in what it prints, as a
-whole, or in `crates.txt`. The last line counts; the status is 0 where nothing is off.
+FOLDER is the top of the repository. A snippet's pieces, separated by empty lines, are whole lines of one
+file: of `rust` in the crate's sources, of `antt` in its proofs, and of others in what it prints, as a
+whole, or in `crates.txt`. The last line counts; the status is 0 if nothing is off.
 """
 import re
 import sys
@@ -14,14 +14,14 @@ FENCE = re.compile(r"^```(\w*)\n(.*?)^```$", re.M | re.S)
 
 
 def texts_of(root, kind):
-    """The texts in one of which a snippet of this kind is to stand."""
+    """The texts in one of which a snippet of this kind must be."""
     crate = root / "crates" / "sw_examples"
     files = {"rust": crate.glob("src/*.rt"), "antt": crate.glob("proofs/**/*.antt")}.get(kind, [root / "crates.txt"])
     return ["\n" + file.read_text(encoding="utf-8") for file in files]
 
 
 def stands(root, kind, snippet):
-    """Whether a snippet stands where its kind is to stand."""
+    """Whether a snippet is in a text of its kind."""
     if kind not in ("rust", "antt") and snippet == (root / "crates/sw_examples/stdout").read_text(encoding="utf-8"):
         return True
     texts = texts_of(root, kind)
@@ -34,7 +34,7 @@ def main(root):
     snippets = FENCE.findall(page)
     off = [snippet for kind, snippet in snippets if not stands(root, kind, snippet)]
     for snippet in off:
-        print(f"this stands nowhere in crates/sw_examples:\n{snippet}")
+        print(f"this isn't in crates/sw_examples:\n{snippet}")
     print(f"{len(snippets)} snippets, {len(off)} off")
     return 1 if off or not snippets else 0
 

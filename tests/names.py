@@ -1,16 +1,16 @@
-"""Looks whether what the pages name is there: files, folders, headings, tests, wrong bodies, and names of the code.
+"""Checks that what the pages name is there: files, folders, headings, tests, mutants, and names of the code.
 
     names.py ROOT PAGE..
 
-ROOT is the top of the repository, and each PAGE a file there. What is looked for:
+ROOT is the top of the repository, and each PAGE a file there. It checks:
 
     [words](link)             the file, and the heading of it
     `crate::module::test`     that function, in src/module.rt of the crate, or below it
-    `crate/name`              a wrong body of the crate, or a file of it
+    `crate/name`              a mutant of the crate, or a file of it
     `folder/file.rt`          a file or a folder at the top, in crates/, or in some crate
     `some_name`               with an underscore: a word of some source, definition, proof, test, example or manifest here
 
-The last line counts; the status is 0 where all is there.
+The last line counts; the status is 0 if all is there.
 """
 import re
 import sys
@@ -80,7 +80,7 @@ def missing(root, page, words):
 
 
 def stands(root, token, words):
-    """Whether what stands between backquotes is there, where it is a name of ours."""
+    """Whether a text in backquotes is there, if it is a name of ours."""
     crates = {path.name for path in (root / "crates").iterdir()}
     test = TEST.fullmatch(token)
     if test and test[1] in crates:

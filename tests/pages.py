@@ -1,19 +1,19 @@
-"""Runs what the pages show, and compares what comes of it with what stands there.
+"""Runs what the pages show, and compares the results with the pages.
 
     pages.py ROOT PAGE..
 
-ROOT is the top of the repository, and each PAGE a file there. A block between fences says by the word behind its first fence
-what it is, and which blocks are tried:
+ROOT is the top of the repository, and each PAGE a file there. The word after the first fence of a block is its kind, which says
+whether and how it is tried:
 
     sh      commands for bash, run in a folder that has `groupsh`, `examples` and `docs`, with `groupsh` in the PATH too; one
-            folder for all blocks under a heading of level 1 or 2. The block `text` behind it is all that they print, on either
+            folder for all blocks under a heading of level 1 or 2. The block `text` after it is all that they print, on either
             stream, byte for byte, with status 0. Without one they print nothing.
-    gq      lines of a script, run behind the lines of all such blocks before it under the heading. The block `text` behind it
+    gq      lines of a script, run after the lines of all such blocks before it under the heading. The block `text` after it
             is the replies to these lines. Without one each of these is `ok`.
     vim     commands for Vim, run on examples/mistakes.gq: its first report is jumped to, and the next one with `:cnext`.
-    ebnf    a grammar: where two pages have the rule `command`, it is the same block.
-    rust, antt, text behind none of these: snippets that tests/library_page.py looks for, and pictures.
-    console  commands that prove and build, whose outcome `./test` looks at where the gate has left it.
+    ebnf    a grammar: if two pages have the rule `command`, it is the same block.
+    rust, antt, text after none of these: snippets that tests/library_page.py and docs/definitions.py check, and pictures.
+    console  commands that prove and build, whose results `./test` takes from the gate.
 
 A block of no other word, and code that is indented by spaces, is a mistake of the page. Each block has a line: `0 NAME` if it
 passed, `1 NAME` if it didn't, with the reason on standard error, or `no TOOL here, so not tried: NAME`. The status is 0 if all
@@ -35,7 +35,7 @@ BLOCK = re.compile(r"^##? ([^\n]*)$|^```(\w*)\n(.*?)^```$", re.M | re.S)
 SET_IN = re.compile(r"\n\n {4}\S")
 LEFT_OUT = {"rust", "antt", "console"}
 
-# What shows that a tool is there and can be used, and what is said where it can't.
+# A command that succeeds if a tool can be used, and the reason to skip a block if it can't.
 PROBES = {
     "sqlite3": (["sqlite3", "-version"], "no sqlite3"),
     "psql": (["psql", "-X", "-w", "-c", "select 1"], "no psql that reaches a server"),
@@ -58,7 +58,7 @@ class Block:
 
 @dataclass(frozen=True)
 class Result:
-    """What became of a block: it failed for a reason, was left out for one, or passed."""
+    """The result of a block: it failed for a reason, was skipped for one, or passed."""
 
     failure: str = ""
     left_out: str = ""

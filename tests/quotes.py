@@ -1,10 +1,10 @@
-"""Tries answers of many rows against the `csv` module's: texts, a few of which call for quotes, and numbers of each length.
+"""Compares answers of many rows with those of the `csv` module: texts, a few of which need quotes, and numbers of each length.
 
     quotes.py GROUPSH
 
-Each script loads rows by a table of one to three columns, and shows them. Sixty-four rows are written at a time, so answers
-have up to some thousand rows, and rows that call for quotes stand in some sixty-fours and not in others. The last line counts
-the answers; the status is 0 where each is as the module writes it.
+Each script loads rows into a table of one to three columns, and shows them. Sixty-four rows are written at a time, so answers
+have up to some thousand rows: some blocks of sixty-four have rows that need quotes, and others don't. The last line counts the
+answers; the status is 0 if each is as the module writes it.
 """
 import csv
 import io
@@ -15,7 +15,7 @@ import sys
 
 COLUMNS = (("text",), ("int",), ("text", "int"), ("int", "text", "text"))
 ROWS = (1, 2, 63, 64, 65, 128, 1_000, 3_000)
-# Of how many texts one may have bytes that call for quotes; None for no such text.
+# One of how many texts may have bytes that need quotes; None for no such text.
 RARITIES = (None, 1, 50, 1_000)
 PLAIN = "abcdefghij ABC 0123456789.-äé"
 MARKED = 'a,"\nb '
@@ -23,7 +23,7 @@ EDGES = [0, 9, 10, 99, 100, 999, 1_000, 1_001, 1_010, 1_100, 99_999, 100_000, 99
 
 
 def text(chance, rarity):
-    """A text, mostly short enough to stand in its value. One that has bytes that call for quotes may be empty, too."""
+    """A text, mostly short enough to be stored in its value. One with bytes that need quotes may also be empty."""
     if rarity and chance.randrange(rarity) == 0:
         return "".join(chance.choice(MARKED) for _ in range(chance.randrange(10)))
     return "".join(chance.choice(PLAIN) for _ in range(chance.choice((1, 2, 8, 15, 22, 23, 200))))
@@ -40,7 +40,7 @@ def number(chance):
 
 
 def place(row):
-    """Where a row stands in the order: null, numbers, texts by their bytes."""
+    """A row's sort key: null, numbers, texts by their bytes."""
     return [(0,) if value is None else (1, value) if isinstance(value, int) else (2, value.encode()) for value in row]
 
 

@@ -1,7 +1,6 @@
-/* Refuses one request for memory of a program: loaded before the C library, it stands in front of that
- * library's malloc and its kin. The request is told by its number, from 1, in the variable REFUSED; where
- * it comes, a byte is written to the file that TOLD gives the number of, so that whoever asks knows that
- * there was such a request. */
+/* Refuses one request for memory of a program: loaded before the C library, it replaces malloc and the
+ * other allocating functions. The variable REFUSED has the number of the request, from 1. When it comes, a
+ * byte is written to the file descriptor in TOLD, which shows that there was such a request. */
 #define _GNU_SOURCE
 #include <errno.h>
 #include <stddef.h>

@@ -2,12 +2,12 @@
 
     refused_memory.py PROGRAM LIBRARY [ARGUMENT..] -- SCRIPT..
 
-LIBRARY is `refuse_memory.c`, made a shared library. Of each SCRIPT every request of the run is refused
-in a run of its own, which must answer as with memory to spare, or one command `err 15 Memory` and all
-others as a run of the script without that command answers them: so no more than that command was lost,
-and nothing of it was kept. Refused before the script is read, or while a table is made by `-t`, the run must end with status 3 and say so.
-Some runs go side by side; where the arguments have `--spill DIR`, each process has a folder of its own there, which is to be
-empty at the end. Prints how many runs there were, and each that is wrong; the status is 0 where none is.
+LIBRARY is `refuse_memory.c`, made a shared library. For each SCRIPT every request is refused in a run of its own. The run must
+answer as if no request was refused; or it answers one command with `err 15 Memory`, and all others as a run of the script without
+that command does: so only that command was lost, and nothing of it was kept. If a request is refused before the script is read, or
+while a table is made by `-t`, the run must end with status 3 and say so. Some runs go in parallel; with `--spill DIR` each process
+has a folder of its own there, which must be empty at the end. Prints how many runs there were, and each that is wrong; the status
+is 0 if none is.
 """
 import io
 import os
@@ -18,7 +18,7 @@ from tempfile import TemporaryFile
 
 MEMORY = b"err 15 Memory\n"
 BEFORE = (3, b"", b"groupsh: out of memory\n")
-# How many requests are tried side by side before it is looked whether there are more.
+# How many requests are tried in parallel before the next ones.
 AT_ONCE = 32
 
 
@@ -59,7 +59,7 @@ class Runs:
         return [self.program, *(own if word == self.spill else word for word in self.arguments)]
 
     def clear(self):
-        """Takes the processes' folders away, where they are empty."""
+        """Removes the processes' folders that are empty."""
         for name in os.listdir(self.spill) if self.spill else ():
             os.rmdir(os.path.join(self.spill, name))
 
@@ -87,20 +87,20 @@ class Runs:
         return self.run(script)[0][1]
 
     def without(self, script, span):
-        """What a run of the script may give where the command that stands there wants memory."""
+        """What a run of the script may give if the command at this place gets no memory."""
         start, end = span
         before = self.replies(script[:start])
         others = self.replies(script[:start] + script[end:])
         return {(1, before + MEMORY + others[len(before):], b"")} if others.startswith(before) else set()
 
     def before_script(self):
-        """What a run may give that ends before its script, perhaps while the table of a file is made."""
+        """What a run may give that ends before its script, perhaps while a table is made from a file."""
         words = [str(word) for option, word in zip(self.arguments, self.arguments[1:]) if option == "-t"]
         files = [word.rpartition("=")[2] for word in words]
         return {BEFORE, *((3, b"", f"groupsh: {file}: out of memory\n".encode()) for file in files)}
 
     def rightful(self, script, pool):
-        """What a run of the script may give where one request is refused."""
+        """What a run of the script may give if one request is refused."""
         answers = pool.map(partial(self.without, script), commands_of(script))
         return {self.run(script)[0]}.union(self.before_script(), *answers)
 

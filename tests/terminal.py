@@ -1,10 +1,10 @@
-"""Types a script into the program at a terminal, and watches what comes back.
+"""Types a script into the program at a terminal, and writes what comes back.
 
     terminal.py PROGRAM FIRST SECOND END
 
 Types FIRST, waits for a reply, types SECOND, waits for a reply. Then END is `ctrl-d`, or `hangup`: the
 terminal goes away. Writes the replies, and the program's errors on standard error; its status is
-the program's. Status 100: there is no terminal to be had here.
+the program's. Status 100: there is no terminal here.
 """
 import os
 import select
