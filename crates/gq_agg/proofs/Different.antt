@@ -28,7 +28,7 @@ null_apart (Int a) w n m = absurd (true≢false (sym n))
 null_apart (Text a) w n m = absurd (true≢false (sym n))
 null_apart (NoCase a) w n m = absurd (true≢false (sym n))
 
--- one value more, where it is told whether one before it is the same
+-- one value more, given whether an earlier one is the same
 pub different-push : (values : List Value) (v : Value) → without_repeats same_value (present (values ++ v ∷ []))
     ≡ cond (is_null v) (without_repeats same_value (present values)) (one_more (list_any (λ w. same_value w v) (present values)) (without_repeats same_value (present values)) v)
 different-push values v = ap (without_repeats same_value) (present-push values v) ∙ told (is_null v)

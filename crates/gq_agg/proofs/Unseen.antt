@@ -183,7 +183,7 @@ lesser_null (NoCase t) = refl
 pub least_passes : (p : Value → Bool) (v : Value) (values : List Value) → list_all p (v ∷ values) ≡ true → p (least (v ∷ values)) ≡ true
 least_passes p v values all = ap (λ w. p (fold lesser w values)) (lesser_null v) ∙ all_pass is_less p v values all
 
--- so the least of one value alone, as often as it stands there, is that value
+-- so the minimum of one value, repeated as often as it occurs, is that value
 pub least_of_one : (v w : Value) (values : List Value) → list_all (equal_value v) (w ∷ values) ≡ true → least (w ∷ values) ≡ v
 least_of_one v w values all = sym (equal_value_exact v (least (w ∷ values)) (least_passes (equal_value v) w values all))
 

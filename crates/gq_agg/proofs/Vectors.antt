@@ -1,4 +1,4 @@
--- Worked values, which the checker computes. Each was told by hand.
+-- Worked values, which the checker computes. Each was worked out by hand.
 use Rattle.std.proofs.Common.{◌≡◌, ◌∷◌, [], List, pos, false, Some, codes, refl}
 use Rattle.gq_row.specs.declared.value.Value.{Value}
 use Rattle.gq_row.specs.declared.value.Value.TheVariants.{Null, Int, Text, NoCase}

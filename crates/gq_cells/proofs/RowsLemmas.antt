@@ -9,7 +9,7 @@ use Rattle.gq_cells.specs.declared.rows.Span.{Span}
 use Rattle.gq_row.specs.declared.value.Value.{Value}
 use Rattle.gq_cells.specs.Lists.{part, IsPart, row_at}
 
--- what is put behind a list changes no part of it
+-- appending to a list changes no part of it
 pub part_kept : {X : Type 0} (xs ys : List X) (start end : ℕ) → start ≤ end → end ≤ length xs → part (xs ++ ys) start end ≡ part xs start end
 part_kept xs ys start end low high = grind (arith, common_steps)
 
@@ -25,7 +25,7 @@ rows_kept xs ys (s ∷ spans) h =
     let first = All-head (IsPart xs) s spans h in
     λ i. part_kept xs ys s.start s.end first.0 first.1 i ∷ rows_kept xs ys spans (All-tail (IsPart xs) s spans h) i
 
--- what is put behind it is its last part
+-- what is appended is the last part
 pub last_part : {X : Type 0} (xs ys : List X) (start end : ℕ) → start ≡ length xs → end ≡ length (xs ++ ys) → part (xs ++ ys) start end ≡ ys
 last_part xs ys start end low high = grind (arith, common_steps)
 
@@ -40,7 +40,7 @@ pub span_pushed : (xs row : List Value) (spans : List Span) (s : Span) → s.sta
 span_pushed xs row spans s low high h =
     All-push (IsPart (xs ++ row)) spans s (all_kept xs row spans h) (omega (arith, low, high, length-append xs row), omega (arith, high))
 
--- ---- spans of a list that is put behind another
+-- ---- spans of a list that is appended to another
 
 abbrev pub moved : ℕ → Span → Span
 moved n s = record { start = n + s.start; end = n + s.end }

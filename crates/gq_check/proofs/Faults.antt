@@ -36,7 +36,7 @@ accepted b line it e never (inl h) = (it, h, e)
 accepted b line it e never (inr (inl same)) = absurd (never same)
 accepted b line it e never (inr (inr lost)) = absurd (none-lost b line it lost)
 
--- a line of which this is told, by what was kept of it
+-- a line of which this is reported, by what was kept of it
 pub told-refused : (b : Bounds) (line : OpenLine) (text : Bytes) → Gathers b.line line text → is_skipped text ≡ false → line.too_long ≡ false → line.lost ≡ false → (line.opening ≡ opening.Dash → ⊥)
     → (r : LineRefusal) → IsToldOf b line.kept.items (Some r) → IsReadAs b (Plain text) (item.Refused r)
 told-refused b line text h skipped long lost never refusal.Syntax told =

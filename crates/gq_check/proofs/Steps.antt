@@ -151,7 +151,7 @@ made-report b x r number text fault f f_is is column one limit num line h =
       limit = subst (λ (g : Fault). g ≢ why.Syntax → string_bytes r.message ≡ limit_message g) (sym is.1) limit;
     })
 
--- the reports up to a place behind which there is none
+-- the reports up to a place after which no report follows
 end-known : (b : Bounds) (n m : ℕ) (l k : Known) (xs : List Report) → BetweenKnown b n m l k xs → IfSome k (λ bytes. Reports b (numbered_left b m bytes) []) → IfSome l (λ bytes. Reports b (numbered_left b n bytes) xs)
 end-known b n m None k xs f g = tt
 end-known b n m (Some us) None xs f g = let e = f.1 in absurd cc

@@ -109,7 +109,7 @@ pub in_parentheses_again : {A : Type 0} (inner : List Token → Option (A × Lis
 unfolding in_parentheses
 in_parentheses_again inner text x rest h = rw (append_assoc text (Fixed terminal.Close ∷ []) rest, h) refl
 
--- the items behind a word, or none where it doesn't follow
+-- the items after a word, or none if it doesn't follow
 pub clause_again : {A : Type 0} (starter separator : Terminal) (items : List Token → Option (List A × List Token)) (write : A → List Token) (xs : List A) (rest : List Token)
     → (some xs ≡ true → skip separator rest ≡ None → items (separated separator write xs ++ rest) ≡ Some (xs, rest))
     → skip starter rest ≡ None → skip separator rest ≡ None → clause_at starter items (clause starter separator write xs ++ rest) ≡ Some (xs, rest)
@@ -199,7 +199,7 @@ pub not_led : {A : Type 0} (word starter separator : Terminal) (write : A → Li
 not_led word starter separator write [] rest other none = none
 not_led word starter separator write (x ∷ xs) rest other none = ap (λ (b : Bool). cond b (Some (separated separator write (x ∷ xs) ++ rest)) None) other
 
--- tests behind a word, before other clauses, and at the end
+-- tests after a word, before other clauses, and at the end
 pub tests_clause_again : (starter : Terminal) (tests : List Test) (rest : List Token) → list_all is_test tests ≡ true → skip starter rest ≡ None → skip terminal.And rest ≡ None → clause_at starter tests_at (tests_clause starter tests ++ rest) ≡ Some (tests, rest)
 tests_clause_again starter tests rest valid starts ends =
     clause_again starter terminal.And tests_at test_words tests rest (λ filled ends. tests_again tests rest (both (some tests) (list_all is_test tests) filled valid) ends) starts ends

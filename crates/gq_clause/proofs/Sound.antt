@@ -161,7 +161,7 @@ names_sound ts xs rest e = items_sound name_at (skip terminal.Comma) name_words 
 pub literals_sound : (ts : List Token) (xs : List Value) (rest : List Token) → literals_at ts ≡ Some (xs, rest) → (ts ≡ literals_words xs ++ rest) × (some xs ≡ true)
 literals_sound ts xs rest e = items_sound literal_at (skip terminal.Comma) literal_words terminal.Comma literal_sound (skip_sound terminal.Comma) (length ts) ts xs rest e
 
--- what stands between parentheses
+-- the items between parentheses
 pub enclosed : (inner ts opened closed rest : List Token) → ts ≡ Fixed terminal.Open ∷ opened → opened ≡ inner ++ closed → closed ≡ Fixed terminal.Close ∷ rest → ts ≡ parenthesized inner ++ rest
 enclosed inner ts opened closed rest a b c = a ∙ ap (λ (l : List Token). Fixed terminal.Open ∷ l) (b ∙ ap (λ (l : List Token). inner ++ l) c ∙ sym (append_assoc inner (Fixed terminal.Close ∷ []) rest))
 
@@ -178,7 +178,7 @@ in_parentheses_sound inner write Filled sound ts x rest e =
     let whole = enclosed (write b.0.0) ts a.0 b.0.1 c.0 (skip_sound terminal.Open ts a.0 a.1) s.0 (skip_sound terminal.Close b.0.1 c.0 c.1) in
     (whole ∙ ap (λ v. parenthesized (write v) ++ c.0) p.0 ∙ ap (λ (l : List Token). parenthesized (write x) ++ l) p.1, subst Filled p.0 s.1)
 
--- the items behind a word, or none
+-- the items after a word, or none
 filled_clause : {A : Type 0} (starter separator : Terminal) (write : A → List Token) (xs : List A) → some xs ≡ true → clause starter separator write xs ≡ Fixed starter ∷ separated separator write xs
 filled_clause starter separator write [] h = absurd cc
 filled_clause starter separator write (x ∷ xs) h = refl
@@ -198,7 +198,7 @@ clause_sound {A} starter separator items write sound ts x rest e =
     ] in
     by_cases (skip starter ts) refl e
 
--- an aggregate by its word, and what stands in its parentheses
+-- an aggregate by its word and its parentheses
 aggregate_word : Aggregate → Terminal
 aggregate_word CountAll = terminal.Count
 aggregate_word (Count n) = terminal.Count
@@ -293,7 +293,7 @@ comparison_sound (Fixed terminal.Greater ∷ ts) x rest e = read_is sign_words c
 comparison_sound (Fixed terminal.GreaterEqual ∷ ts) x rest e = read_is sign_words comparison.GreaterEqual x ts rest e
 comparison_sound _ x rest e = absurd cc
 
--- one piece behind another
+-- one piece after another
 pub joined : (front back ts after rest : List Token) → ts ≡ front ++ after → after ≡ back ++ rest → ts ≡ (front ++ back) ++ rest
 joined front back ts after rest a b = a ∙ ap (λ (l : List Token). front ++ l) b ∙ sym (append_assoc front back rest)
 

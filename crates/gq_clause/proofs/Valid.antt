@@ -44,7 +44,7 @@ items_valid {A} item next valid each (suc n) ts xs rest e =
     ] in
     by_cases (next a.0.1) a.2
 
--- items behind a word, or none
+-- items after a word, or none
 clause_valid : {A : Type 0} (starter : Terminal) (items : List Token → Option (List A × List Token)) (valid : A → Bool) → Valid (list_all valid) items → Valid (list_all valid) (clause_at starter items)
 unfolding clause_at
 clause_valid {A} starter items valid each ts x rest e =

@@ -87,7 +87,7 @@ exists_not_led word (Some e) rest unlike other none = by_negated e.negated
     by_negated true = ap (λ (b : Bool). cond b (Some ((Fixed terminal.Exists ∷ Name e.table ∷ (parenthesized (names_words e.theirs) ++ (Fixed terminal.Equal ∷ parenthesized (names_words e.ours)))) ++ rest)) None) unlike
     by_negated false = ap (λ (b : Bool). cond b (Some ((Name e.table ∷ (parenthesized (names_words e.theirs) ++ (Fixed terminal.Equal ∷ parenthesized (names_words e.ours)))) ++ rest)) None) other
 
--- what stands behind the word `exists` is read
+-- what follows the word `exists` is read
 exists_behind_again : (negated : Bool) (t : Bytes) (theirs ours : List Bytes) (rest : List Token) → some theirs ≡ true → some ours ≡ true
     → exists_behind negated (Name t ∷ (parenthesized (names_words theirs) ++ (Fixed terminal.Equal ∷ (parenthesized (names_words ours) ++ rest)))) ≡ Some (record { negated = negated; table = t; theirs = theirs; ours = ours }, rest)
 unfolding exists_behind name_at

@@ -49,7 +49,7 @@ regroup false true false d = refl
 regroup false false true d = refl
 regroup false false false d = refl
 
--- a name behind others
+-- a name after others
 push : (ns : List Bytes) (n : Bytes) → no_repeats bytes_eq (ns ++ n ∷ []) ≡ no_repeats bytes_eq ns && not (list_any (bytes_eq n) ns)
 push [] n = refl
 push (x ∷ ns) n =

@@ -49,7 +49,7 @@ pub ends_here : (loads : Bytes → Bool) (m : ℕ) (begun : Begun) (raw : Bytes)
 unfolding numbered_by
 ends_here loads m begun raw ls e = ap (λ (t : Bool). cond t ((record { number = begun.number; entry = Loading begun.line (Some begun.payload) }) ∷ numbered_by loads (suc m) None ls) (numbered_by loads (suc m) (Some (record begun { payload = begun.payload ++ raw })) ls)) e
 
--- a payload, by what is told of it: where it ends, the items after it come after as many lines as were taken
+-- a payload, by what is known of it: if it ends, the items after it follow as many lines as were taken
 
 abbrev After : (Bytes → Bool) → ℕ → Begun → List Bytes → List Numbered → Option (Bytes × List Bytes) → Type 0
 After loads n begun ls xs None = xs ≡ (record { number = begun.number; entry = Loading begun.line None }) ∷ []

@@ -88,7 +88,7 @@ key_sound ts x rest e =
     ] in
     by_cases (skip terminal.Comma ts) refl e
 
--- a form behind its first word
+-- a form after its first word
 SoundForm : Terminal → (List Token → Option (Command × List Token)) → Type 0
 SoundForm first form = (ts : List Token) (c : Command) (rest : List Token) → form ts ≡ Some (c, rest) → (Fixed first ∷ ts ≡ phrase c ++ rest) × (grammatical c ≡ true)
 
@@ -129,7 +129,7 @@ row_sound ts row rest e =
     let values = in_parentheses_sound literals_at literals_words (λ xs. are_literals xs ≡ true) literals_said a.0.1 b.0.0 b.0.1 b.1 in
     (name_sound ts a.0.0 a.0.1 a.1 ∙ ap (λ (l : List Token). Name a.0.0 ∷ l) values.0 ∙ read_is row_words (a.0.0, b.0.0) row b.0.1 rest b.2, ap (λ (row : Bytes × List Value). are_literals row.1) (sym p.0) ∙ values.1)
 
--- a form with the literals of a row behind a table's name
+-- a form with the literals of a row after a table's name
 valued_sound : (first : Terminal) (form : Bytes → List Value → Command) → ((t : Bytes) (values : List Value) → phrase (form t values) ≡ Fixed first ∷ row_words (t, values)) → ((t : Bytes) (values : List Value) → grammatical (form t values) ≡ are_literals values)
     → SoundForm first (λ ts. row_at ts >>= λ row. Some (form row.0.0 row.0.1, row.1))
 unfolding SoundForm
@@ -140,7 +140,7 @@ valued_sound first form words filled ts c rest e =
     let worded : Fixed first ∷ ts ≡ phrase (form a.0.0.0 a.0.0.1) ++ a.0.1 = ap (λ (l : List Token). Fixed first ∷ l) row.0 ∙ ap (λ (l : List Token). l ++ a.0.1) (sym (words a.0.0.0 a.0.0.1)) in
     (worded ∙ ap (λ (v : Command). phrase v ++ a.0.1) p.0 ∙ ap (λ (l : List Token). phrase c ++ l) p.1, ap grammatical (sym p.0) ∙ filled a.0.0.0 a.0.0.1 ∙ row.1)
 
--- what stands behind the word `exists`
+-- what follows the word `exists`
 exists_tail : Exists → List Token
 exists_tail e = Name e.table ∷ (parenthesized (names_words e.theirs) ++ (Fixed terminal.Equal ∷ parenthesized (names_words e.ours)))
 
@@ -166,7 +166,7 @@ exists_behind_sound negated ts c rest e =
     let filled : exists_filled (Some made) ≡ true = both (some theirs_read.0.0) (some ours_read.0.0) theirs.1 ours.1 in
     (whole ∙ read_is exists_tail made c ours_read.0.1 rest ours_read.2, ap (λ (e : Exists). e.negated) (sym p.0), ap (λ (e : Exists). exists_filled (Some e)) (sym p.0) ∙ filled)
 
--- an exists that was read, behind what stands before it
+-- an exists that was read, after what precedes it
 exists_made : (negated : Bool) (before ts : List Token) (x : Option Exists) (rest : List Token) → before ≡ not_words negated ++ (Fixed terminal.Exists ∷ ts) → with_exists (exists_behind negated ts) ≡ Some (x, rest)
     → (before ≡ exists_words x ++ rest) × (exists_filled x ≡ true)
 exists_made negated before ts x rest is e =
@@ -246,7 +246,7 @@ by_sound ts by rest e =
     ] in
     by_led (skip terminal.By ts) refl e
 
--- several pieces, one behind the other
+-- several pieces, one after the other
 pieces : (a b d f g rest : List Token) → a ++ (b ++ (d ++ (f ++ (g ++ rest)))) ≡ (a ++ (b ++ (d ++ (f ++ g)))) ++ rest
 pieces a b d f g rest = simp append_assoc
 

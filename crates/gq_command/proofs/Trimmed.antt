@@ -1,4 +1,4 @@
--- A line without the blanks at its front says what it says with them.
+-- A line says the same with and without leading blanks.
 use Rattle.std.proofs.Common.{◌≡◌, List, ◌∷◌, [], Option, Some, None, sym, subst, ◌∙◌}
 use Rattle.gq_token.specs.declared.token.Token.{Token}
 use Rattle.gq_token.specs.Lexing.{skip_blanks}

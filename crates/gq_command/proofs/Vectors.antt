@@ -335,7 +335,7 @@ one_column_more = refl
 long_column : fits GREATEST (Group (codes "s") (record { columns = []; rollup = false }) (Min (codes "aaaaaaaaaaaaaaaaaaaaaaaaaaaaaaaaaaaaaaaaaaaaaaaaaaaaaaaaaaaaaaaa") ∷ []) [] None []) ≡ false
 long_column = refl
 
--- names and texts count wherever they stand
+-- names and texts count at every place
 long_in_having : fits GREATEST (Group (codes "s") (record { columns = []; rollup = false }) (CountAll ∷ []) [] None (IsNull (operand.Aggregate (Min (codes "aaaaaaaaaaaaaaaaaaaaaaaaaaaaaaaaaaaaaaaaaaaaaaaaaaaaaaaaaaaaaaaa"))) ∷ [])) ≡ false
 long_in_having = refl
 

@@ -1,4 +1,4 @@
--- What carrying out a command did, at each way out of what carries it out.
+-- What carrying out a command did, at each exit path.
 use Rattle.std.proofs.Common.{◌≡◌, ◌⊎◌, inl, inr, ℕ, Bool, false, ◌∷◌, [], refl, sym, ap, subst, ◌∙◌}
 use Rattle.std.specs.Prelude.{Result, Ok, Err, IsErrAnd}
 use Rattle.gq_command.specs.declared.command.Command.{Command}
@@ -27,7 +27,7 @@ plain_of : (steps : Outcome) (result : Result Reply Refused) (old new : Database
 plain_of steps (Ok answer) old new h = h
 plain_of steps (Err why) old new h = (h.0, inr h.1)
 
--- a change of tables that is told as a number
+-- a change of tables whose reply is a number
 abbrev pub told_as : ℕ → Result Database Refused → Outcome
 told_as n steps = steps >>= λ last. let answer : Database × Reply = (last, reply.Done n) in Ok answer
 

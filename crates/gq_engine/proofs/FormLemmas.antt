@@ -69,6 +69,6 @@ module _ (short : Short) (limits : Bounds) (db : Database) (name : List ℕ) whe
     load_puts bytes rows new h k =
         finds NoTable (table_at db name) table _ found ∙ gives (rows_told short limits table.schema bytes) rows _ h ∙ gives (with_rows limits db name rows) new _ k
 
--- without the table that stands at a place
+-- without the table at a place
 pub dropped_at : (db : Database) (name : List ℕ) (i : ℕ) → StandsAt db name i → IsTrue (names_differ db) → without_table db name ≡ remove db i
 dropped_at db name i s differ = without_at db name i s.entry s.within s.here s.named differ

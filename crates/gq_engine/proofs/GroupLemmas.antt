@@ -1,4 +1,4 @@
--- Groups and different values: what a plan comes to, and what its grouping.
+-- Groups and distinct values: the results of a plan and of its grouping.
 use Rattle.std.proofs.Common.{◌≡◌, ◌⊎◌, inl, inr, ◌<◌, ℕ, Bool, true, List, [], ◌∷◌, length, refl, sym, ap, subst, ◌∙◌, Option, Some, None, arith}
 use Rattle.std.specs.Prelude.{Result, Ok, Err, IfOk}
 use Rattle.gq_row.specs.declared.value.Value.{Value}
@@ -70,7 +70,7 @@ module _ (db : Database) (honest : Bool) (steps : Outcome) (due : List Bytes) (a
   comes_over (Err why) h = refused_over why h
 
 module _ (db : Database) (name : Bytes) (clauses : GroupClauses) where
-  -- what was spent rose, where rows came of it
+  -- what was spent rose, if the result is rows
   pub rises_over : (honest : Bool) (budget : ℕ) (sets : List (List ℕ)) (rows : Rows) (spent : Spent) (result : Result (Rows × Spent) Refused) → rows_asked db name clauses ≡ Ok (sets, rows)
       → IfOk result (λ found. RisesBy honest budget rows sets spent found.1) → IfOk result (λ found. Rises honest budget db name clauses spent found.1)
   rises_over honest budget sets rows spent (Ok found) asked work = record { sets = sets; rows = rows; asked = asked; work = work }

@@ -20,7 +20,7 @@ stored_nothing : (columns : List Column) (key : List ℕ) → stored_key columns
 stored_nothing columns [] = refl
 stored_nothing columns (p ∷ ps) = refl
 
--- behind the last key column, or the last value, nothing changes
+-- after the last key column, or the last value, nothing changes
 pub stored_rest : (columns : List Column) (key : List ℕ) (values : List Value) (i : ℕ) → min (length values) (length key) ≤ i → stored_key columns (drop i key) (drop i values) ≡ drop i values
 stored_rest columns key values i far = elim (cases_lt (length values) (length key)) [
   | inl fewer ↦ rw (drop_all i values (omega arith)) (stored_nothing columns (drop i key))

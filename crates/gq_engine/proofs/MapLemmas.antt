@@ -167,7 +167,7 @@ differ_without (entry ∷ db) name h =
     here true none rest = rest
     here false none rest = both (not (list_any (bytes_eq entry.0) (names (without_table db name)))) (names_differ (without_table db name)) (ap not (any_without db name entry.0 none)) rest
 
--- a name that stands at a place
+-- a name at a place
 at_place : (name : List ℕ) (db : Database) (i : ℕ) (entry : List ℕ × PlainTable) → i < length db → entry ≡ get_or db i entry → bytes_eq name entry.0 ≡ true → list_any (bytes_eq name) (names db) ≡ true
 at_place name [] i entry lt is e = absurd (omega arith)
 at_place name (first ∷ db) zero entry lt is e = or_left (bytes_eq name first.0) (list_any (bytes_eq name) (names db)) (ap (λ (x : List ℕ × PlainTable). bytes_eq name x.0) (sym is) ∙ e)

@@ -485,7 +485,7 @@ same_sym [] (y ∷ b) h = absurd h
 same_sym (x ∷ a) [] h = absurd h
 same_sym (x ∷ a) (y ∷ b) h = (sym h.0, sym h.1, IsPermutation-sym _ _ h.2, same_sym a b h.3)
 
--- what came of a command is a legal answer to it
+-- the result of a command is a legal answer to it
 pub answered_done : (setting : Setting) (old : Database) (c : Command) (answer : Reply) (new : Database) → CarriedOut (outcome setting.limits old c) answer old new → AnsweredAlike setting old (item.Command c) answer new
 answered_done setting old c answer new h =
     record { last = h.last; legal = AsListsAnswer (ap (settle old) (sym h.done)); same = h.same }
@@ -500,7 +500,7 @@ answered_refused setting old c why new h = from h.1
     from (inl e) = subst (λ (w : Refused). AnsweredAlike setting old (item.Command c) (told w) new) (sym e) (answered_memory setting old (item.Command c) new h.0)
     from (inr e) = record { last = old; legal = AsListsAnswer (ap (settle old) (sym e)); same = h.0 }
 
--- what came of a command that takes no memory
+-- the result of a command that takes no memory
 pub answered_surely : (limits : Bounds) (old : Database) (c : Command) (answer : Reply) (new : Database) → ComesSurely (outcome limits old c) (Ok answer) old new → AnsweredAsLists limits old (item.Command c) answer new
 answered_surely limits old c answer new h = record {
   reply = sym (ap (λ (p : Outcome). (settle old p).1) h.done);

@@ -49,7 +49,7 @@ complaints_push output (n ∷ ns) item [] r said text e h k = absurd (omega (ari
 complaints_push output (n ∷ ns) item (x ∷ xs) r said text e h k =
     (h.0, h.1 ++ text, ap (λ (l : Bytes). l ++ text) h.2 ∙ append_assoc h.0 h.1 text, h.3, complaints_push output ns item xs r h.1 text (omega (arith, e)) h.4 k)
 
--- a stream has all of the bytes while it takes them, and a front once it has failed
+-- a stream has all of the bytes while it takes them, and a prefix once it has failed
 abbrev pub Told : Bool → Option Bytes → Option Bytes → Bytes → Type 0
 Told true before after bytes = Appends before after bytes
 Told false before after bytes = AppendsFront before after bytes
@@ -66,7 +66,7 @@ whole_front a b x h = record { front = x; rest = []; is = sym (append-nil x); ap
 pub front_after : (a b c : Option Bytes) (x y : Bytes) → Appends a b x → AppendsFront b c y → AppendsFront a c (x ++ y)
 front_after a b c x y h k = record { front = x ++ k.front; rest = k.rest; is = ap (λ l. x ++ l) k.is ∙ sym (append_assoc x k.front k.rest); appends = appends_more a b c x k.front h k.appends }
 
--- a result's text after what comes before it, of which a front was written, or all of the one and a front of the other
+-- a result's text after what comes before it: a prefix of the latter was written, or all of it and a prefix of the text
 pub result_front : (output : Output) (earlier : Bool) (r : Reply) (a b : Option Bytes) (bytes : Bytes) → IsResultIn output r bytes → AppendsFront a b (between output earlier) → AppendsFront a b (text_as output earlier r)
 result_front output earlier (reply.Done n) a b bytes is h = absurd is
 result_front output earlier (reply.Rows header rows) a b bytes is h = front_longer a b (between output earlier) (result_in output header rows) h
@@ -112,7 +112,7 @@ unrefused b output line wrong r is_open before e f =
     nothing (Results format) (reply.Rows header rows) f = refl
     nothing (Results format) (reply.Refused why number) f = absurd cc
 
--- replies as they are bring their texts
+-- as replies, each adds its text
 plain : (earlier : Bool) (r : Reply) → text_as Replies earlier r ≡ text r
 plain earlier (reply.Done n) = refl
 plain earlier (reply.Rows header rows) = refl
@@ -126,7 +126,7 @@ plain_after earlier (r ∷ rs) = ap (λ l. l ++ texts_after Replies (earlier || 
 items_done : (limits : Bounds) (script : Bytes) (done left : List Numbered) → numbered limits script ≡ done ++ left → items limits script ≡ entries_of done ++ entries_of left
 items_done limits script done left e = sym (numbered_items limits 0 (without_mark script)) ∙ ap entries_of e ∙ map-append (λ (x : Numbered). x.entry) done left
 
--- a run that writes replies as they are
+-- a run that writes replies
 pub ran_plainly : (setting : Setting) (old : State) (script : Option Bytes) (new : State) (before after errors told : Option Bytes) (ended : Result Summary Fault) → RanAs Replies setting old script new before after errors told ended → Ran setting old script new before after ended
 ran_plainly setting old None new before after errors told ended h = tt
 ran_plainly setting old (Some script) new before after errors told (Ok summary) h =

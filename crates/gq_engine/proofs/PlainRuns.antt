@@ -11,7 +11,7 @@ use Rattle.gq_engine.specs.Steps.{step}
 use Rattle.gq_engine.specs.Runs.{Setting, LegalAnswer, AsListsAnswer, WantsMemory, StoreFailed, StoreLied, LegalStep, PlainStep, is_store_fault, OnlyMemoryRefuses}
 use Rattle.gq_engine.proofs.RunLemmas.{count_by-first}
 
--- an answer that tells no failure of an honest store
+-- an answer that reports no failure of an honest store
 plain_answer : (setting : Setting) (old : Database) (it : Item) (answer : Reply) (new : Database) → setting.honest ≡ true → is_store_fault answer ≡ false → LegalAnswer setting old it answer new
     → ((new, answer) ≡ step setting.limits old it) ⊎ ((new ≡ old) × (answer ≡ refused Memory))
 plain_answer setting old it answer new honest no_fault (AsListsAnswer said) = inl said
@@ -27,7 +27,7 @@ plain_step setting old entry answer new honest no_fault h =
           elim (plain_answer setting old p.0 answer new honest no_fault p.2) as (λ _. PlainStep setting.limits old entry answer new) [ inl q ↦ inl (p.0, p.1, q) | inr q ↦ inr q ]
     ]
 
--- no more failures were told than none
+-- no failure was reported if the count didn't rise
 none_told : (b : Bool) (n failures : ℕ) → failures + cond b (n + 1) n ≤ failures → (b ≡ false) × (failures + n ≤ failures)
 none_told true n failures h = absurd (omega arith)
 none_told false n failures h = (refl, h)

@@ -1,4 +1,4 @@
--- The steps of a command tell no failure of the run store.
+-- The steps of a command report no failure of the run store.
 use Rattle.std.proofs.Common.{◌≡◌, ℕ, Bool, true, false, not, List, length, refl, subst, Option, Some, None}
 use Rattle.std.specs.Prelude.{nat_lt, nat_le, is_some, Result, Ok, Err}
 use Rattle.gq_row.specs.declared.value.Value.{Value}

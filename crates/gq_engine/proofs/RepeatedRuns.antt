@@ -1,4 +1,4 @@
--- Two plain runs of one script without want of memory.
+-- Two plain runs of one script in which no allocation fails.
 use Rattle.std.proofs.Common.{◌≡◌, inl, inr, List, [], ◌∷◌, refl, sym, ap, subst, ◌∙◌, All}
 use Rattle.std.proofs.lemmas.List.Elements.{All-head, All-tail}
 use Rattle.gq_row.specs.declared.limits.Bounds.{Bounds}

@@ -181,7 +181,7 @@ counted_on reader reader' xs ys e f counted =
 abbrev GaveNext : Bounds → Pending → Bytes → Pending → Item → Type 0
 GaveNext b reader bytes reader' it = Gave b reader.lines bytes reader'.left reader'.lines reader'.line reader'.wrong it
 
--- one more item was answered, its text written, and a refusal told
+-- one more item was answered, its text written, and a refusal reported
 go_on : (c : Course) (script : Option Bytes) (p : Point) (reader' : Pending) (after' told' : Option Bytes) (is_open' : Bool) (it : Item) (reply : Reply) (new : State)
     → going c script p → IfSome p.reader.left (λ bytes. GaveNext c.setting.limits p.reader bytes reader' it) → Counted p.reader reader' → Wrote c.output p.earlier c.setting p.now it new p.after after' reply → Tells c.setting.limits c.output reader'.line reader'.wrong reply p.is_open is_open' p.told told'
     → going c script (record { now = new; reader = reader'; after = after'; told = told'; earlier = p.earlier || is_result reply; is_open = is_open'; commands = p.commands + 1; refused = cond (is_refusal reply) (p.refused + 1) p.refused })
@@ -220,7 +220,7 @@ go_on c (Some script) p reader' after' told' is_open' it reply new h given count
 abbrev IsOver : Bounds → Pending → Pending → Type 0
 IsOver b reader reader' = IfSome reader.left (λ bytes. (items_left b bytes ≡ []) × (reader'.left ≡ Some []))
 
--- what a run that stops here came to
+-- the result of a run that stops here
 abbrev Comes : Course → Option Bytes → Point → Result Summary Fault → Type 0
 Comes c script p ended = RanAs c.output c.setting c.old script p.now c.before p.after c.errors p.told ended
 
@@ -306,7 +306,7 @@ cut c (Some script) p reader' after' it new h given wrote =
       ends = tt;
     }
 
--- the same, where the run's setting and its limits are known as they are at this item
+-- the same, if the run's setting and limits are known at this item
 pub ended_at : (c : Course) (p : Point) (here : Setting) (b : Bounds) (reader' : Pending) → here ≡ c.setting → b ≡ here.limits
     → Going c p → IsOver b p.reader reader' → Counted p.reader reader' → reader'.given ≤ b.script → Comes c c.script p (Ok (record { commands = p.commands; refused = p.refused }))
 ended_at c p here b reader' e f h none counted few =

@@ -17,7 +17,7 @@ use Rattle.gq_engine.proofs.OrderLemmas.{answered_done, answered_refused}
 use Rattle.gq_engine.proofs.PlainSteps.{done_tells, refused_tells}
 use Rattle.gq_engine.proofs.RunLemmas.{count_by-first}
 
--- what came of a command over a run store is a legal answer to it
+-- the result of a command over a run store is a legal answer to it
 pub answered_over : (setting : Setting) (old : Database) (c : Command) (result : Result Reply Refused) (new : Database)
     → ComesOver (is_grouping c) setting.honest (outcome setting.limits old c) result old new → AnsweredAlike setting old (item.Command c) (reply_of result) new
 answered_over setting old c (Ok answer) new (Plainly h) = answered_done setting old c answer new h
@@ -43,13 +43,13 @@ kept_over grouping honest steps result old new (Plainly h) = kept_plainly steps 
 kept_over grouping honest steps result old new (StoreFails groups reached same fault) = kept_same (reply_of result) old new same
 kept_over grouping honest steps result old new (StoreLies groups reached same lied) = kept_same (reply_of result) old new same
 
--- a reply that tells no failure of the store needs none
+-- a reply that reports no failure of the store needs none
 pub no_fault : (answer : Reply) (before after : ℕ) → is_store_fault answer ≡ false → before ≤ after → FaultsHappened (answer ∷ []) before after
 no_fault answer before after none h =
     let count : count_by is_store_fault (answer ∷ []) ≡ 0 = count_by-first is_store_fault [] answer ∙ ap (λ b. cond b 1 0) none in
     omega (arith, count)
 
--- the steps of a command tell none
+-- the steps of a command report none
 pub plain_faults : (limits : Bounds) (db : Database) (c : Command) (result : Result Reply Refused) (new : Database) (before after : ℕ)
     → Comes (outcome limits db c) result db new → after ≡ before → FaultsHappened (reply_of result ∷ []) before after
 plain_faults limits db c (Ok answer) new before after h same = no_fault answer before after (done_tells limits db c h.last answer h.done) (omega (arith, same))

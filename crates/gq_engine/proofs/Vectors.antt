@@ -427,7 +427,7 @@ header_r = codes "level" ∷ codes "a" ∷ codes "b" ∷ codes "count(*)" ∷ []
 total_of_nothing : answer GREATEST empty_r (rollup_r (CountAll ∷ []) []) ≡ reply.Rows header_r ((Int (pos 0) ∷ Null ∷ Null ∷ Int (pos 0) ∷ []) ∷ [])
 total_of_nothing = refl
 
--- the total, one row for each a, and one for each a and b: a null of a row stands for a value there, and for no value at a level
+-- the total, one row for each a, and one for each a and b: a null of a row means a value there, and no value at a level
 three_levels : answer GREATEST two_r (rollup_r (CountAll ∷ []) []) ≡ reply.Rows header_r (
     (Int (pos 0) ∷ Null ∷ Null ∷ Int (pos 2) ∷ [])
     ∷ (Int (pos 1) ∷ Int (pos 1) ∷ Null ∷ Int (pos 2) ∷ [])

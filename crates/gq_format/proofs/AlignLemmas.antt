@@ -13,7 +13,7 @@ use Rattle.gq_format.specs.Columns.{Column, cells_at, column_of, columns_of, wid
 use Rattle.gq_format.specs.Laws.{box_width}
 use Rattle.gq_format.specs.Shown.{shown, shown_text, terminal_width}
 
--- a space joins nothing: what stands before it and behind it add up
+-- a space joins nothing: the widths before it and after it add up
 
 variation : is_emoji_variation_base 32 ≡ false
 unfolding unicode_width

@@ -58,7 +58,7 @@ unfolding print_from
 member_printed name value rest =
     ap (λ l. (quoted name ++ 58 ∷ []) ++ l) (value_printed value rest) ∙ sym (append_assoc (quoted name ++ 58 ∷ []) (value_text value) (print_from true rest))
 
--- members behind others
+-- members after others
 members_printed : (members : List (List ℕ × Value)) → print_from true (flat_map member_tokens members ++ end_object ∷ []) ≡ flat_map (λ m. codes "," ++ member_text m) members ++ 125 ∷ []
 unfolding print_from
 members_printed [] = refl
@@ -77,7 +77,7 @@ object_printed names row = of (zip names row)
         let more = flat_map (λ m. codes "," ++ member_text m) members in
         ap (λ l. 123 ∷ l) (member_printed name value (flat_map member_tokens members ++ end_object ∷ []) ∙ ap (λ l. first ++ l) (members_printed members) ∙ sym (append_assoc first more (125 ∷ [])))
 
--- the line of an object, behind what came before
+-- the line of an object, after what came before
 pub object_line : (front before line : List ℕ) (tokens : List Token) (names : List (List ℕ)) (row : List Value) → before ≡ front → tokens ≡ begin_object ∷ flat_map member_tokens (zip names row)
     → line ≡ before ++ print (tokens ++ end_object ∷ []) ++ 10 ∷ [] → line ≡ front ++ (object_text names row ++ codes "\n")
 object_line front before line tokens names row begun all is =

@@ -61,13 +61,13 @@ pub or_true : (b : Bool) → (b || true) ≡ true
 or_true true = refl
 or_true false = refl
 
--- the first that is left stands at that place
+-- the first that is left is at that place
 pub first_at : {X : Type 0} (xs : List X) (i : ℕ) (d : X) → i < length xs → drop i xs ≡ slice_index_or xs i d ∷ drop (suc i) xs
 first_at [] i d less = absurd (omega arith)
 first_at (x ∷ xs) zero d less = refl
 first_at (x ∷ xs) (suc i) d less = first_at xs i d (omega arith)
 
--- ---- aggregates of no row, behind others
+-- ---- aggregates of no row, after others
 
 pub tallies_more : (asked : List (AggKind × ℕ)) (i : ℕ) (d : AggKind × ℕ) (x : Running) (others now new : List Running) → i < length asked
     → now ≡ others ++ tallies (take i asked) [] → x ≡ tally (get_or asked i d).0 [] → new ≡ now ++ x ∷ []

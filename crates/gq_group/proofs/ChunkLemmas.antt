@@ -1,4 +1,4 @@
--- The parts of a list that groups have: what stands there once others came, or one of them changed.
+-- The parts of a list that groups have, after others were appended or one of them changed.
 use Rattle.std.proofs.Common.{◌≡◌, ℕ, ◌+◌, ◌-◌, ◌≤◌, List, [], ◌∷◌, ◌++◌, length, take, drop, map, refl, sym, ap, subst, ◌∙◌, arith, inl, inr}
 use Rattle.std.specs.List.{AllByRecursion}
 use Rattle.std.proofs.Common.{length-append}
@@ -8,13 +8,13 @@ use borrow.Rule.Slice.PartMut.{put_mid}
 use Rattle.gq_agg.specs.Running.{Running}
 use Rattle.gq_group.specs.Maps.{Start, chunk, pair_at, NoneShared}
 
--- what comes behind the end is not seen
+-- what follows the end doesn't matter
 pub chunk-append : {X : Type 0} (each n : ℕ) (xs ys : List X) → n + each ≤ length xs → chunk each (xs ++ ys) n ≡ chunk each xs n
 chunk-append each n xs ys h =
     let long = length-drop n xs in
     ap (take each) (drop-append-le n xs ys (omega (arith, h))) ∙ take-append-le each (drop n xs) ys (omega (arith, h, long))
 
--- what was appended stands behind the others
+-- what was appended follows the others
 pub chunk-last : {X : Type 0} (each : ℕ) (xs ys : List X) → length ys ≡ each → chunk each (xs ++ ys) (length xs) ≡ ys
 chunk-last each xs ys long = ap (take each) (drop_at xs ys (length xs) refl) ∙ take_all each ys (omega (arith, long))
 
@@ -54,7 +54,7 @@ length-back size old new sized =
     let rest = length-drop (length new) old in
     length-take-le size (new ++ drop (length new) old) (omega (arith, both, rest, sized)) ∙ sized
 
--- a list that was lent, and written back with another part
+-- a list that was borrowed, and written back with another part
 abbrev pub back : {X : Type 0} → ℕ → ℕ → ℕ → List X → List X → List X → List X
 back n k size old lent now = take size (put_mid n k lent now ++ drop (length (put_mid n k lent now)) old)
 

@@ -52,7 +52,7 @@ or_true : (b : Bool) → (b || true) ≡ true
 or_true true = refl
 or_true false = refl
 
--- ---- a key with a value behind it
+-- ---- a key with a value after it
 
 -- two rows are the same in some columns and one more where they are in those and in that
 same_pair : (by : List ℕ) (c : ℕ) (a b : List Value) → same_key (key_of (with_column by c) a) (key_of (with_column by c) b) ≡ (same_key (key_of by a) (key_of by b) && same_value (cell a c) (cell b c))
@@ -136,7 +136,7 @@ new_value by c k row rows none = ap (without_repeats same_value) (values-push by
         without_repeats-push same_value (values_of by c rows k) (cell row c)
         ∙ ap (λ b. one_more b (without_repeats same_value (values_of by c rows k)) (cell row c)) (among by c k row rows e f ∙ none)
 
--- a key that stands there with a value stands there
+-- a key that is there with a value is there
 has_key : (by : List ℕ) (c : ℕ) (row : List Value) (rows : List (List Value)) → has_pair by c rows row ≡ true → list_any (same_key (key_of by row)) (map (key_of by) rows) ≡ true
 has_key by c row [] there = absurd (true≢false (sym there))
 has_key by c row (r ∷ rows) there =

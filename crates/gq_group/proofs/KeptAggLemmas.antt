@@ -1,4 +1,4 @@
--- Which aggregates are kept for a group, and what they tell.
+-- Which aggregates are kept for a group, and what follows from them.
 use Rattle.std.proofs.Common.{◌≡◌, ◌==◌, ◌<◌, ◌+◌, ◌++◌, ◌∷◌, [], ℕ, zero, suc, Bool, true, false, not, cond, List, length, take, drop, ◌||◌, Some, None, refl, sym, ap, ◌∙◌, arith, slice_index_or, length-append}
 use Rattle.std.specs.List.{list_any, slice_get}
 use Rattle.std.proofs.lemmas.Bool.Decides.{nat_tests}
@@ -29,7 +29,7 @@ some_kept (a ∷ asked) i less = at (length (others (a ∷ asked)) == 0) refl
     at true e = let both = length-append (others (a ∷ asked)) (a ∷ []) in omega (arith, both)
     at false e = let both = length-append (others (a ∷ asked)) [] in let some : (0 < length (others (a ∷ asked))) = grind (arith, nat_tests) in omega (arith, both, some)
 
--- ---- what is asked next, and where it is told
+-- ---- what is asked next, and where its value is
 
 at_drop : {X : Type 0} (xs : List X) (n : ℕ) (x : X) (ys : List X) → drop n xs ≡ x ∷ ys → slice_get xs n ≡ Some x
 at_drop [] zero x ys h = let none : ⊥ = cc in absurd none
@@ -52,7 +52,7 @@ module _ (asked : List (AggKind × ℕ)) (i place : ℕ) (d : AggKind × ℕ) (l
       at true h = let same : place + 0 ≡ place = omega arith in let more : suc i ≡ i + 1 = omega arith in ap (λ n. drop n (kept_aggs asked)) same ∙ h ∙ ap (λ n. others (drop n asked) ++ alone asked) more
       at false h = let more : suc i ≡ i + 1 = omega arith in sym (drop-drop 1 place (kept_aggs asked)) ∙ ap (drop 1) h ∙ ap (λ n. others (drop n asked) ++ alone asked) more
 
-  -- what is kept tells it
+  -- its value follows from what is kept
   pub next_known : (rows : List (List Value)) (count : ℕ) (old aggs : List Running) → count ≡ length rows → old ≡ tallies (kept_aggs asked) rows → drop place aggs ≡ drop place old
       → IsKnown (counts_all next.0) next.0 (column_of next.1 rows) count aggs place
   next_known rows count old aggs counted is rest = at (counts_all next.0) left_is

@@ -1,4 +1,4 @@
--- Groups whose keys stand in one list and their aggregates in another: the finite map of them, with one group more, or with one changed.
+-- Groups whose keys are in one list and their aggregates in another: the finite map of them, with one group more, or with one changed.
 use Rattle.std.proofs.Common.{◌≡◌, ℕ, suc, zero, ◌+◌, ◌*◌, ◌≤◌, ◌<◌, Bool, true, false, cond, List, [], ◌∷◌, ◌++◌, length, map, Option, Some, None, refl, sym, ap, subst, ◌∙◌, arith, true≢false, inl, inr, length-append}
 use Rattle.std.specs.Prelude.{is_some, IfSome, IsSome}
 use Rattle.std.specs.Option.{option_map, option_to_list}
@@ -21,13 +21,13 @@ use Rattle.gq_group.specs.Maps.{Start, chunk, pair_at, starts_from, pairs_from, 
 use Rattle.gq_group.proofs.ChunkLemmas.{chunk-append, chunk-last, pairs-other, Written}
 use Rattle.gq_group.proofs.MapGroups.{listed_first}
 
--- ---- lists in which no class stands twice
+-- ---- lists in which no class occurs twice
 
 module _ {V : Type 0} where
   abbrev First : List Value × V → List ℕ
   First p = class_of p.0
 
-  -- what the map has stands in the list
+  -- what the map has is in the list
   pub listed_tells : (xs : List (List Value × V)) (c : List ℕ) (p : List Value × V) → get (listed xs) c ≡ Some p → (n : ℕ) × (slice_get xs n ≡ Some p) × (class_of p.0 ≡ c)
   listed_tells [] c p e = absurd (none_some p (sym (get-empty _ c) ∙ e))
   listed_tells (x ∷ xs) c p e = told (same c (class_of x.0)) refl (listed_tells xs c p) (sym (get-insert nat_list_cmp_total (listed xs) (class_of x.0) x c) ∙ e)
@@ -40,7 +40,7 @@ module _ {V : Type 0} where
   behind : (x : List Value × V) (xs : List (List Value × V)) → AreDifferent First (x ∷ xs) → AreDifferent First xs
   behind x xs different i j a b at at' is = let next : suc i ≡ suc j = different (suc i) (suc j) a b at at' is in omega (arith, next)
 
-  -- the first is of no class behind it
+  -- the first is of no class after it
   first_alone : (x : List Value × V) (xs : List (List Value × V)) → AreDifferent First (x ∷ xs) → contains_key (listed xs) (class_of x.0) ≡ false
   first_alone x xs different = told (get (listed xs) (class_of x.0)) refl
     where
@@ -58,7 +58,7 @@ module _ {V : Type 0} where
       ∙ ap (λ b. cond b (len (listed xs)) (len (listed xs) + 1)) (first_alone x xs different)
       ∙ (let rest = listed_all xs (behind x xs different) in omega (arith, rest))
 
-  -- the map has what stands in the list
+  -- the map has what is in the list
   pub listed_there : (xs : List (List Value × V)) (n : ℕ) (p : List Value × V) → AreDifferent First xs → slice_get xs n ≡ Some p → get (listed xs) (class_of p.0) ≡ Some p
   listed_there [] n p different at = absurd (none_some p at)
   listed_there (x ∷ xs) zero p different at = subst (λ (q : List Value × V). get (listed (x ∷ xs)) (class_of q.0) ≡ Some q) (some_is x p at) (listed_first x xs)
@@ -70,7 +70,7 @@ module _ {V : Type 0} where
       told true is later = let bad : suc n ≡ 0 = different (suc n) 0 p x at refl (same_is (class_of p.0) (class_of x.0) is) in absurd (omega (arith, bad))
       told false is later = later
 
-  -- one more behind them, of another class
+  -- one more after them, of another class
   get_push : (xs : List (List Value × V)) (p : List Value × V) (c : List ℕ) → get (listed xs) (class_of p.0) ≡ None → get (listed (xs ++ p ∷ [])) c ≡ cond (same c (class_of p.0)) (Some p) (get (listed xs) c)
   get_push [] p c none = get-insert nat_list_cmp_total empty (class_of p.0) p c
   get_push (x ∷ xs) p c none =
@@ -338,7 +338,7 @@ kept-none each running keys none empty = record {
   whole = ap length empty ∙ (let zero_is : 0 ≡ 0 * each = omega arith in zero_is) ∙ ap (λ (ks : List (List Value)). length ks * each) (sym none);
 }
 
--- a key that no group has, put behind the others
+-- a key that no group has, appended to the others
 pub kept_more : (each : ℕ) (keys : List (List Value)) (xs ys more : List Running) (k : List Value) → length more ≡ each → ys ≡ xs ++ more → AreKept each xs keys
     → get (listed (pairs_from each 0 xs keys)) (class_of k) ≡ None → AreKept each ys (keys ++ k ∷ [])
 kept_more each keys xs ys more k long is kept none =

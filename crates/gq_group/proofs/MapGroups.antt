@@ -119,7 +119,7 @@ grouped-step spec rows row old new grouped put k =
         apart true f = absurd (true≢false (sym (same_key_itself k) ∙ ap (same_key k) (class_tells k (key_of spec.by row) (same_is (class_of k) (class_of (key_of spec.by row)) f)) ∙ e))
         apart false f = refl
 
--- the entry in which a row's key stands
+-- the entry of a row's key
 pub stands : (spec : Spec) (rows : List (List Value)) (m : List Pair) (i : ℕ) (k : List Value) → Grouped spec rows m
     → get (listed m) (class_of k) ≡ slice_get m i → IsSome (slice_get m i) → slice_get m i ≡ Some (k, tallies spec.aggs (of_key spec.by rows k))
 stands spec rows m i k grouped found full = told (list_any (same_key k) (keys_of spec.by rows)) (slice_get m i) (sym (grouped k) ∙ found) full
@@ -207,7 +207,7 @@ first_new x xs h = told (contains_key (listed xs) (class_of x.0)) refl (len-inse
     told true is e most = absurd (omega arith)
     told false is e most = (is, omega arith)
 
--- what the list has behind its first it has
+-- the list has what it has without its first
 pub listed_behind : {V : Type 0} (x : List Value × V) (xs : List (List Value × V)) (c : List ℕ) (p : List Value × V) → contains_key (listed xs) (class_of x.0) ≡ false → get (listed xs) c ≡ Some p → get (listed (x ∷ xs)) c ≡ Some p
 listed_behind {V} x xs c p new e = get-insert nat_list_cmp_total (listed xs) (class_of x.0) x c ∙ other (same c (class_of x.0)) refl
   where
@@ -219,7 +219,7 @@ listed_behind {V} x xs c p new e = get-insert nat_list_cmp_total (listed xs) (cl
 pub listed_first : {V : Type 0} (x : List Value × V) (xs : List (List Value × V)) → get (listed (x ∷ xs)) (class_of x.0) ≡ Some x
 listed_first x xs = get-insert nat_list_cmp_total (listed xs) (class_of x.0) x (class_of x.0) ∙ ap (λ b. cond b (Some x) (get (listed xs) (class_of x.0))) (same_itself (class_of x.0) (class_of x.0) refl)
 
--- how often a key stands among those of the entries
+-- how often a key occurs among those of the entries
 counted : (xs : List Pair) (k : List Value) → length xs ≡ len (listed xs) → count_by (same_key k) (map (λ (p : Pair). p.0) xs) ≡ one (is_some (get (listed xs) (class_of k)))
 counted [] k h = sym (ap (λ o. one (is_some o)) (get-empty _ (class_of k)))
 counted (x ∷ xs) k h =

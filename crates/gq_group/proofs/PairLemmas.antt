@@ -64,7 +64,7 @@ cells_behind front (x ∷ xs) more =
     (λ i. at_seam front x (xs ++ more) i ∷ map (cell (sym (append_assoc front (x ∷ []) (xs ++ more)) i)) (range_with_len (sym n i) (length xs)))
     ∙ ap (λ l. x ∷ l) (cells_behind (front ++ x ∷ []) xs more)
 
--- a key with a value behind it
+-- a key with a value after it
 abbrev pub paired : Pairing → List Value → List Value
 paired p row = key_of (with_column p.by p.column) row
 
@@ -131,7 +131,7 @@ same_groups p rows = each (keys_of (counts_of (length p.by)).by (map (paired p) 
         ∙ ap (λ o. o ∷ []) (count_folded (column_of p.column (of_key p.by rows k))) in
         λ i. (k, its i) ∷ each ks i
 
--- ---- the keys are first rows, laid out anew
+-- ---- the keys are first rows, laid out again
 
 pub record LaidOut (p : Pairing) (rows : List (List Value)) : Type 0 where
   pub firsts : List (List Value)

@@ -99,7 +99,7 @@ len-more old new key p new_key put =
     ∙ len-insert nat_list_cmp_total (listed old) (class_of key) p
     ∙ ap (λ b. cond b (len (listed old)) (len (listed old) + 1)) new_key
 
--- one entry more, or none where memory was wanting
+-- one entry more, or none if an allocation failed
 pub within-added : {T E : Type 0} (result : Result T E) (old new : List Pair) (key : List Value) (p : Pair) (budget : ℕ)
     → OnOk result (listed new ≡ insert (listed old) (class_of key) p) → OnErr result (new ≡ old)
     → has_entry old key ≡ false → len (listed old) < budget → len (listed new) ≤ budget
@@ -174,7 +174,7 @@ offers-left spec budget rows row m hash resident new_key full =
       left = left-push spec m rows row ∙ ap (λ b. left_over spec m rows ++ cond (not b) (row ∷ []) []) new_key;
     }
 
--- ---- the entry in which a row's key stands
+-- ---- the entry of a row's key
 
 pub record Found (spec : Spec) (budget : ℕ) (rows : List (List Value)) (m : List Pair) (i : ℕ) (key : List Value) : Type 0 where
   pub few : length (of_key spec.by (taken spec m rows) key) ≤ length rows

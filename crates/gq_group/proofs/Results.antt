@@ -33,7 +33,7 @@ pub on_err : {T E : Type 0} (P Q : Type 0) (r : Result T E) → (P → Q) → On
 on_err P Q (Ok x) f h = tt
 on_err P Q (Err e) f h = f h
 
--- ---- what the way out of a `?` returns
+-- ---- what the exit path of a `?` returns
 
 pub on_ok_err : {T E : Type 0} (P : Type 0) (r : Result T E) → IsErr r → OnOk r P
 on_ok_err P (Ok x) is = absurd (true≢false (sym is))

@@ -18,7 +18,7 @@ use Rattle.gq_group.proofs.AccessLemmas.{keeps-apart, leaves-trans}
 use Rattle.gq_group.proofs.ReadLemmas.{apart-empty, apart-flip, apart-step, cause-later, leaves-left, not-damaged, others-empty, ours-empty, ours-stays, placing, placing-cause, reads-end, reads-none, reads-step}
 use Rattle.gq_group.proofs.PartitionLemmas.{held-stays}
 
--- what was done so far, where so many rows are left at most
+-- what was done so far; at most `left` rows are still to come
 pub record RowsSoFar (spec : Spec) (budget : ℕ) (part_of : List Value → ℕ) (fan_out most left : ℕ) (gives now : List (List Value) → Type 0) (a b : RunSet) (source_ready : Type 0) (source_makes : Bool) (old new : Runs)
     (count written began columns : ℕ) (pairs : List Pair) (partitions : List Partition) : Type 0 where
   pub ready : source_ready

@@ -1,4 +1,4 @@
--- The keys of the rows that pass a test which doesn't tell same keys apart are the keys that pass it.
+-- The keys of the rows that pass a test that gives the same for same keys are the keys that pass it.
 use Rattle.std.proofs.Common.{◌≡◌, Bool, true, false, cond, not, List, [], ◌∷◌, refl, sym, ap, ◌∙◌}
 use Rattle.std.specs.Prelude.{filter}
 use Rattle.gq_row.specs.declared.value.Value.{Value}

@@ -199,7 +199,7 @@ popped-from stack behind other same is = sym same ∙ is
 pub stack-same : (a b : RunSet) (stack other : List Partition) (r s : Runs) → stack ≡ other → OnStack a b stack r s → OnStack a b other r s
 stack-same a b stack other r s same on = subst (λ st. OnStack a b st r s) same on
 
--- a run was read and discarded, and what it gave is on the stack: the stack, what the source owns, and what is held in front
+-- a run was read and discarded, and its partitions are on the stack: the stack, what the source owns, and that the earlier partitions are still held
 pub record Turned (a src k' : RunSet) (front later : List Partition) (r0 r t : Runs) : Type 0 where
   pub on : OnStack a (either src k') later r0 t
   pub kept : KeepsOwn src r t

@@ -6,7 +6,7 @@ use Rattle.std.proofs.lemmas.List.Sums.{sum_by-append}
 abbrev is_lf : ℕ → Bool
 is_lf byte = eqb byte 10
 
--- what is left of bytes is a piece, and what is left behind it
+-- the remaining bytes are a piece, and what remains after it
 pub piece_more : (bytes : List ℕ) (count at end : ℕ) → at ≤ end → count + count_by (λ byte. eqb byte 10) (drop at bytes) ≡ count_by (λ byte. eqb byte 10) bytes
     → count + count_by (λ byte. eqb byte 10) (take (end - at) (drop at bytes)) + count_by (λ byte. eqb byte 10) (drop end bytes) ≡ count_by (λ byte. eqb byte 10) bytes
 piece_more bytes count at end h total =

@@ -156,6 +156,6 @@ all_fit short schema bounds (names ∷ others) rows h =
     let fit = rows_fit schema bounds.text a.0 1 (map (completed short (length a.0)) others) b.0 b.1 in
     subst (AreFit schema bounds) (ok_same b.0 rows c.1) (record { fitting = fit.fitting; keyed = fit.keyed; few = ltb-false bounds.rows (length b.0) c.0 })
 
--- what is loaded may stand in the table
+-- what is loaded fits the table
 pub loaded_fit : (short : Short) (schema : PlainSchema) (bounds : Bounds) (bytes : List ℕ) (rows : List (List Value)) → load short schema bounds bytes ≡ Ok rows → AreFit schema bounds rows
 loaded_fit short schema bounds bytes rows h = all_fit short schema bounds (records default_config (strip_bom bytes)) rows h

@@ -156,7 +156,7 @@ module _ (schema : PlainSchema) (text : ℕ) (places : List ℕ) (number : ℕ) 
           let here = subst (λ o. IfSome o (λ others. fault_of (rows_from schema text places (number + 1) others) ≡ Some fault)) h.2 some in
           left_fault most spent first others (first ∷ others) row refl (rw h.1 at good) fault here
 
--- ---- records as they are read
+-- ---- records, completed if asked for
 
 pub took_as_read : (short : Short) (count : ℕ) (left rest : Option Records) (found : Bool) (fields : List (List ℕ)) → Took left found fields rest
     → Took (option_map (map (completed short count)) left) found (completed short count fields) (option_map (map (completed short count)) rest)

@@ -45,7 +45,7 @@ pub row_none : (schema : PlainSchema) (most : ℕ) (places : List ℕ) (number :
 unfolding rows_from
 row_none schema most places number front = ap Ok (append-nil front)
 
--- a fault that is handed on
+-- a fault that is passed on
 pub carried : {A B : Type 0} (e : LoadRefusal) (x : Result A LoadRefusal) (y : Result B LoadRefusal) → (x ≡ Err e → y ≡ Err e) → (e ≡ Memory) ⊎ (x ≡ Err e) → (e ≡ Memory) ⊎ (y ≡ Err e)
 carried e x y f (inl m) = inl m
 carried e x y f (inr h) = inr (f h)
@@ -67,7 +67,7 @@ faulty None fault h = tt
 faulty (Some given) row_fault.Read h = inl refl
 faulty (Some given) (row_fault.Refused why) h = h
 
--- what of one thing is of another
+-- mapping what is known gives the mapped value
 pub same_of : {A B : Type 0} (f : A → B) (o : Option A) → IfSome o (λ x. option_map f o ≡ Some (f x))
 same_of f None = tt
 same_of f (Some x) = refl

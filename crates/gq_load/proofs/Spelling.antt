@@ -73,7 +73,7 @@ piece_marked piece z s = by s.sign
     by (inr (inl e)) = rw e.0 (refl, digits_marked s.digits s.all)
     by (inr (inr e)) = rw e.0 (refl, digits_marked s.digits s.all)
 
--- fronts
+-- prefixes
 
 front_passes : (p : ℕ → Bool) (bs : List ℕ) → list_all p (take (prefix_len p bs) bs) ≡ true
 front_passes p [] = refl
@@ -85,7 +85,7 @@ front_passes p (b ∷ bs) = by (p b) refl (front_passes p bs)
         rw n (rw e others)
     by false e others = refl
 
--- a front that passes, before what doesn't
+-- a prefix that passes, before what doesn't
 abbrev Stops : (ℕ → Bool) → List ℕ → Type 0
 Stops p [] = Unit {0}
 Stops p (b ∷ bs) = p b ≡ false

@@ -34,7 +34,7 @@ use Rattle.gq_options.proofs.BudgetLemmas.{same-test as budget-test}
 abbrev name_at : ℕ → Text
 name_at k = (slice_index_or ARGUMENTS k SEED).id
 
--- an argument of this name and parser stands at this place, and no other has its name
+-- an argument of this name and parser is at this place, and no other has its name
 pub record OnlyAt (xs : List Arg) (d : Arg) (k : ℕ) (name : Text) (parser : ValueParser) : Type 0 where
   pub there : k < length xs
   pub id : (slice_index_or xs k d).id.now ≡ name
@@ -107,7 +107,7 @@ first-text test how (v ∷ vs) t how_is all e =
     let written : read_as how v.now ≡ v.now = ap (λ h. read_as h v.now) how_is in
     subst (λ w. test w ≡ true) (sym written ∙ v_is) (all 0 v (omega arith))
 
--- of an option that stands at a place in the line, and whose texts are read as they are written
+-- of an option at a place in the line, whose texts are read as written
 module _ (place : ℕ) (name : Text) (takes : ValueParser) (test : Text → Bool)
     (at : (xs : List Arg) (d : Arg) → map rule_of xs ≡ ARGUMENTS → OnlyAt xs d place name takes)
     (own : (t : Text) → t ≡ name → (t ≡ codes "help") ⊎ (t ≡ codes "version") → ⊥)

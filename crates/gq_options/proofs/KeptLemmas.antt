@@ -1,4 +1,4 @@
--- A seed whose text names none is refused, whatever words stand behind it: its row stays as it is, or a word has a fault.
+-- A seed whose text names none is refused, whatever words follow it: its row stays, or a word has a fault.
 use Rattle.std.proofs.Common.{refl, sym, ap, subst, codes, ℕ, zero, suc, Bool, true, false, true≢false, Option, Some, None, is_some, List, [], ◌∷◌, ◌++◌, ◌≡◌, ◌∙◌, ◌&&◌, ◌||◌, cond, not, length, append-nil, if◌then◌else◌}
 use Rattle.std.specs.Prelude.{drop, encode_utf8, find, fold, option_and_then, slice_get}
 use Rattle.std.specs.List.{list_all}
@@ -78,7 +78,7 @@ module _ (text : Text) where
   kept-alone id how source values rows new named =
       subst (λ rs. Named (with_values id how source values rs)) (sym (without-new id rows new)) (kept-new id how source values rows new named)
 
-  -- values behind those of a row leave its first as it is
+  -- values after those of a row don't change its first
   abbrev first-value : Option Row → Option Text
   first-value = option_and_then (λ (q : Row). slice_get q.values 0)
 

@@ -11,7 +11,7 @@ use Rattle.gq_options.proofs.StepLemmas.{SHAPE, asks, ends, fails-at, fails-on, 
 one-path : (name path : Text) → has_dash path ≡ false → Names (name ∷ path ∷ []) (record DEFAULTS { script = Some path })
 one-path name path plain = names name (goes-on (path-turns nothing-waits plain) (ends (path-settles refl) (asks refl refl)))
 
--- a word with a fault, behind a path
+-- a word with a fault, after a path
 behind-path : (name path word : Text) (more : List Text) (kind : ErrorKind) → turn_fault SHAPE [] (path-waits [] path) word ≡ kind ∷ [] → has_dash path ≡ false
     → faults_of (name ∷ path ∷ word ∷ more) ≡ kind ∷ []
 behind-path name path word more kind is plain = refuses name (fails-on (path-turns nothing-waits plain) (fails-at (path-waits [] path) word more kind is))

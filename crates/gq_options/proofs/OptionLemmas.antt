@@ -1,4 +1,4 @@
--- Command lines with an option: each law stands once, for all options.
+-- Command lines with an option: each law is here once, for all options.
 use Rattle.std.proofs.Common.{refl, sym, subst, codes, ℕ, Bool, true, false, true≢false, Option, Some, None, List, [], ◌∷◌, ◌≡◌, ◌==◌, length, nat_lt, eqb-true}
 use Rattle.std.specs.Char.{digit_value}
 use Rattle.std.specs.List.{list_all}
@@ -40,7 +40,7 @@ pub record Waits (word id : Text) (test : Text → Bool) : Type 0 where
   pub settles : {rows : List Row} {text : Text} → has_row id rows ≡ false → test text ≡ true → Settles rows (Some (id, text ∷ [])) (put id text rows)
   pub refused : (text : Text) → test text ≡ false → settle-faults [] (Some (id, text ∷ [])) ≡ ValueValidation ∷ []
 
--- any word without a dash at its front is the value of an option that takes one
+-- any word without a leading dash is the value of an option that takes one
 pub value-turns : {id : Text} {rows : List Row} {text : Text} {position : ℕ} → has_dash text ≡ false
     → option_word (arg_by_id RULES id) id text (waits id rows position).held ≡ ((has-value id rows text position).held, idle)
     → Turns (waits id rows position) text (has-value id rows text position)

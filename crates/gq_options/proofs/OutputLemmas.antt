@@ -29,13 +29,13 @@ asks-output {rows} text output is there seed script asked_is = record {
   asked_is = ap (λ (o : Output). record (asked_in (with-defaults rows)) { output = o }) (ap output_by there ∙ rw is refl) ∙ asked_is;
 }
 
--- the text names no output format, which is found behind the last word
+-- the text names no output format, which is found after the last word
 names-no-output : {rows after : List Row} {pending : Option (Text × List Text)} {waiting : Waiting} {position : ℕ} (text : Text)
     → Settles rows pending after → seed_fault (first_of (codes "seed") (with-defaults after)) ≡ [] → first_of (codes "output") (with-defaults after) ≡ Some text → is_output text ≡ false
     → Fails (holding rows pending waiting position) [] InvalidValue
 names-no-output text settles seed there is = fails-last settles (rw (seed, there, is) refl)
 
--- `--output FORMAT`, and `-o FORMAT`; any text is its value, and is read behind the last word
+-- `--output FORMAT`, and `-o FORMAT`; any text is its value, and is read after the last word
 output-waits : Waits (codes "--output") (codes "output") (λ text. true)
 unfolding clap_on_literals
 output-waits = record {

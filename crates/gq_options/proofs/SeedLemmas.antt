@@ -69,7 +69,7 @@ number-read named text n is plain number n_is = (rw (is, plain, number) refl, rw
 pub text-refused : (named : Option Text) (text : Text) → named ≡ Some text → is_random text ≡ false → is_seed text ≡ false → seed_fault named ≡ ValueValidation ∷ []
 text-refused named text is plain number = rw (is, plain, number) refl
 
--- the faults of rows behind the seed's
+-- the faults of rows after the seed's
 abbrev other-faults : List Row → Kinds
 other-faults rows = or_else (output_fault (first_of (codes "output") rows)) (script_fault (first_of (codes "SCRIPT") rows) (values_in (codes "command") rows))
 
@@ -81,7 +81,7 @@ asks-number {rows} text is there others asked_is = record {
   asked_is = ap (λ (s : Seed). record (asked_in (with-defaults rows)) { seed = s }) (ap seed_by there ∙ number-named text is) ∙ asked_is;
 }
 
--- `--seed N`; any text is its value, and is read behind the last word
+-- `--seed N`; any text is its value, and is read after the last word
 pub seed-waits : Waits (codes "--seed") (codes "seed") (λ text. true)
 unfolding clap_on_literals
 seed-waits = record {

@@ -1,4 +1,4 @@
--- Command lines read word by word: what is held before a word, and behind it.
+-- Command lines read word by word: what is held before and after a word.
 use Rattle.std.proofs.Common.{refl, sym, ap, codes, ℕ, Bool, true, false, true≢false, Option, Some, None, is_some, List, [], ◌∷◌, ◌≡◌, ◌∙◌, ◌||◌, if◌then◌else◌}
 use Rattle.std.proofs.Math.Bool.{and-false}
 use Rattle.std.specs.Prelude.{fold}
@@ -27,7 +27,7 @@ SHAPE = BUILT.top
 abbrev pub RULES : List Rule
 RULES = SHAPE.rules
 
--- the faults that are found behind the last word
+-- the faults that are found after the last word
 abbrev pub end-faults : Walk → Kinds
 end-faults end = or_else (entered_fault BUILT end.stopped)
     (or_else (settle_fault RULES SHAPE.args_override_self end.held)
@@ -48,7 +48,7 @@ asked-from w words = asked_in (finished RULES (fold (walked RULES []) w words).h
 
 -- ---- a line, word by word
 
--- a word has no fault, and this is held behind it
+-- a word has no fault, and this is held after it
 pub record Turns (w : Walk) (word : Text) (v : Walk) : Type 0 where
   pub faultless : turn_fault SHAPE [] w word ≡ []
   pub leads : walked RULES [] w word ≡ v
@@ -68,7 +68,7 @@ names name goes = record { accepted = goes.accepted; asked_is = goes.asked_is }
 pub refuses : {words : List Text} {kind : ErrorKind} (name : Text) → Fails (walk_from nothing_held) words kind → faults_of (name ∷ words) ≡ kind ∷ []
 refuses name fails = fails.found
 
--- the faults of a word, or else those of the words behind it
+-- the faults of a word, or else those of the words after it
 abbrev word-or-rest : Walk → List Text → Kinds → Kinds
 word-or-rest behind words kinds = faults-by (or_else kinds (walk_fault SHAPE [] behind words)) (fold (walked RULES []) behind words)
 
@@ -86,7 +86,7 @@ goes-on {w} {v} {word} {words} turn rest = record {
 pub fails-on : {w v : Walk} {word : Text} {words : List Text} {kind : ErrorKind} → Turns w word v → Fails v words kind → Fails w (word ∷ words) kind
 fails-on {w} {v} {word} {words} turn rest = record { found = next-word w v word words turn ∙ rest.found }
 
--- a word with a fault, whatever stands behind it
+-- a word with a fault, whatever follows it
 pub fails-at : (w : Walk) (word : Text) (words : List Text) (kind : ErrorKind) → turn_fault SHAPE [] w word ≡ kind ∷ [] → Fails w (word ∷ words) kind
 unfolding walk_fault
 fails-at w word words kind is = record { found = ap (word-or-rest (walked RULES [] w word) words) is }
@@ -159,7 +159,7 @@ defaults-pass : (rows : List Row) → defaults_fault rows RULES ≡ []
 unfolding clap_on_literals has-fit-default no-kinds
 defaults-pass rows = defaults-pass-by RULES rows refl
 
--- behind the last word
+-- after the last word
 pub ends : {rows after : List Row} {pending : Option (Text × List Text)} {waiting : Waiting} {position : ℕ} {asked : Asked}
     → Settles rows pending after → Asks after asked → Goes (holding rows pending waiting position) [] asked
 unfolding walk_fault
@@ -168,7 +168,7 @@ ends {rows} {after} settles it = record {
   asked_is = rw settles.put_in it.asked_is;
 }
 
--- the matches have a fault, which is found behind the last word
+-- the matches have a fault, which is found after the last word
 pub fails-last : {rows after : List Row} {pending : Option (Text × List Text)} {waiting : Waiting} {position : ℕ} {kind : ErrorKind}
     → Settles rows pending after → faults_in (with-defaults after) ≡ kind ∷ [] → Fails (holding rows pending waiting position) [] kind
 unfolding walk_fault
@@ -180,7 +180,7 @@ pub names-no-seed : {rows after : List Row} {pending : Option (Text × List Text
     → Fails (holding rows pending waiting position) [] ValueValidation
 names-no-seed text settles there is = fails-last settles (rw (there, is) refl)
 
--- what waits has a fault, behind the last word
+-- what waits has a fault, after the last word
 pub fails-at-end : {rows : List Row} {pending : Option (Text × List Text)} {waiting : Waiting} {position : ℕ} {kind : ErrorKind}
     → settle-faults rows pending ≡ kind ∷ [] → Fails (holding rows pending waiting position) [] kind
 unfolding walk_fault
@@ -195,7 +195,7 @@ nothing-waits = record { faultless = refl; put_in = refl }
 abbrev pub path-waits : List Row → Text → Walk
 path-waits rows path = holding rows (Some (codes "SCRIPT", path ∷ [])) idle 2
 
--- a word without a dash at its front is no option
+-- a word without a leading dash is not an option
 pub no-dashes : (word : Text) → has_dash word ≡ false → bytes_eq word (45 ∷ 45 ∷ []) ≡ false
 no-dashes [] plain = refl
 no-dashes (c ∷ cs) plain = rw plain refl

@@ -1,4 +1,4 @@
--- What clap's errors are told as.
+-- How clap's errors are reported.
 use Rattle.std.proofs.Common.{rules, refl, subst, sym, inl, inr, List, Result, Ok, Err, [], ◌∷◌, ◌≡◌, ◌⊎◌, ◌∙◌}
 use Rattle.std.specs.Result.{IsErrAnd}
 use Rattle.clap.specs.Kinds.{Kinds, or_else}
@@ -15,7 +15,7 @@ among-first : (kinds next : Kinds) (k : ErrorKind) → IsAmong k kinds → IsAmo
 among-first [] next k among = absurd among
 among-first (x ∷ xs) next k among = among
 
--- an error's kind is one of the words' faults, so what it is told as is bad of the words
+-- an error's kind is one of the words' faults, so its report is bad of the words
 pub told-bad : (words : List Text) (k : ErrorKind) (bad : BadLine) → IsToldAs k bad
     → (k ≡ kind.OutOfMemory) ⊎ IsAmong k (fault_of LINE words) → IsBad (faults_of words) bad
 told-bad words k (Help text) told (inl memory) = let clash : kind.DisplayHelp ≡ kind.OutOfMemory = sym told ∙ memory in search rules
@@ -33,7 +33,7 @@ mistake-bad faults k (Version text) is asks told = absurd told
 mistake-bad faults k (Mistake text) is asks told = (k, rw is (inl refl), asks)
 mistake-bad faults k Memory is asks told = tt
 
--- what is passed on is told as it was
+-- what is passed on is reported the same
 pub passed-on : (rows : List Row) (bad : BadLine) (answer : Result Options BadLine) → IsBad (faults_in rows) bad → IsErrAnd answer (λ e. e ≡ bad) → ReadsMatches rows answer
 passed-on rows bad (Ok options) it is = absurd is
 passed-on rows bad (Err other) it is = subst (IsBad (faults_in rows)) (sym is) it

@@ -13,7 +13,7 @@ is-found (Ok (Some y)) is x h e = let same : x ≡ y = cc in sym h ∙ ap (λ z.
 is-found (Ok None) is x h e = let none : ⊥ = cc in absurd none
 is-found (Err a) is x h e = let none : ⊥ = cc in absurd none
 
--- a refusal is for want of memory, or what there is not
+-- a refusal is Memory, or says what is missing
 pub not-found : {A B : Type 0} (found : Result (Option A) AllocError) (is : Option A) (why : Refused) (whole : Result B Refused) → IfOk found (λ o. o ≡ is) → Err why ≡ or_no_column found
     → (is ≡ None → whole ≡ Err (unnumbered NoColumn)) → (why ≡ unnumbered Memory) ⊎ (whole ≡ Err why)
 not-found (Ok (Some y)) is why whole h e then = let none : ⊥ = cc in absurd none

@@ -44,12 +44,12 @@ groups_kept xs ys (s ∷ spans) h =
     λ i. (part_kept xs ys s.start (middle_of s) (omega arith) (omega (arith, first.within)) i, part_kept xs ys (middle_of s) (end_of s) (omega arith) first.within i)
     ∷ groups_kept xs ys spans (All-tail (IsGroupAt xs) s spans h) i
 
--- behind what is put there stand the same groups
+-- appending cells doesn't change the groups
 pub kept_on : (old new more : List Value) (spans now : List GroupSpan) → new ≡ old ++ more → now ≡ spans → All (IsGroupAt old) spans → All (IsGroupAt new) now
 kept_on old new more spans now longer same h =
     subst (All (IsGroupAt new)) (sym same) (subst (λ l. All (IsGroupAt l) spans) (sym longer) (all_kept old more spans h))
 
--- the cells of a group stand behind those of the others
+-- the cells of a group follow those of the others
 record IsNext (xs key values cells : List Value) (s : GroupSpan) : Type 0 where
   pub start : s.start ≡ length xs
   pub keyed : s.key ≡ length key
@@ -57,7 +57,7 @@ record IsNext (xs key values cells : List Value) (s : GroupSpan) : Type 0 where
   pub whole : cells ≡ (xs ++ key) ++ values
   pub prefixed : IsSortPrefix key s.prefix
 
--- a span of so many cells as the key and the values have
+-- a span of as many cells as the key and the values have
 next_by : (xs key values cells : List Value) (prefix : SortPrefix) (s : GroupSpan) → IsSpan prefix (length xs) (length key) (length values) s → IsSortPrefix key prefix → cells ≡ (xs ++ key) ++ values
     → IsNext xs key values cells s
 next_by xs key values cells prefix s span prefixed whole = record {
@@ -97,7 +97,7 @@ span_pushed xs key values cells spans s next h =
     } in
     subst (λ l. All (IsGroupAt l) (spans ++ s ∷ [])) (sym next.whole) (All-push (IsGroupAt ((xs ++ key) ++ values)) spans s others one)
 
--- a group more, in a list behind whose cells its own were put
+-- a group more, whose cells were appended to the list
 module _ (xs key values cells : List Value) (prefix : SortPrefix) (s : GroupSpan) (spans now : List GroupSpan) (whole : cells ≡ (xs ++ key) ++ values) (h : All (IsGroupAt xs) spans) where
   pub put_groups : IsSpan prefix (length xs) (length key) (length values) s → IsSortPrefix key prefix → now ≡ spans ++ s ∷ [] → All (IsGroupAt cells) now
   put_groups span prefixed is = subst (All (IsGroupAt cells)) (sym is) (span_pushed xs key values cells spans s (next_by xs key values cells prefix s span prefixed whole) h)

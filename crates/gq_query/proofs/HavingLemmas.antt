@@ -1,4 +1,4 @@
--- Rows that are kept move to the front, one after the other.
+-- Rows that are kept move to the beginning, one after the other.
 use Rattle.std.proofs.Common.{◌≡◌, ◌<◌, ◌≤◌, ◌+◌, ◌==◌, ℕ, Bool, true, false, cond, List, [], ◌∷◌, ◌++◌, length, take, drop, get_or, set, filter, append-nil, refl, sym, ap, subst, ◌∙◌, ◌⊎◌, inl, inr, arith}
 use Rattle.std.specs.List.{swap}
 use Rattle.std.proofs.Math.Nat.{eq-or-lt_of_le}
@@ -10,7 +10,7 @@ use Rattle.gq_row.specs.declared.value.Value.{Value}
 use Rattle.gq_select.specs.declared.condition.Test.{Test}
 use Rattle.gq_select.specs.Truths.{keeps}
 
--- of the first so many rows those that are kept stand in front, and the others stand where they stood
+-- among the first n rows those that are kept come first, and the other rows are where they were
 pub record AreKept {X : Type 0} (p : X → Bool) (all now : List X) (i kept : ℕ) : Type 0 where
   pub first : take kept now ≡ filter p (take i all)
   pub others : drop i now ≡ drop i all

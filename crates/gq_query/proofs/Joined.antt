@@ -188,7 +188,7 @@ joined_more place gs cs i d e less there = rw (one_more) (each gs cs i less ther
     each (g ∷ gs) (c ∷ cs) zero less there = refl
     each (g ∷ gs) (c ∷ cs) (suc i) less there = ap (λ l. (g.0, insert g.1 place (first_of c)) ∷ l) (each gs cs i (omega (arith, less)) (omega (arith, there)))
 
--- past all values a count stands behind them
+-- past all values a count follows them
 pub inserted_within : {X : Type 0} (xs : List X) (place : ℕ) (x : X) → insert xs (min place (length xs)) x ≡ insert xs place x
 inserted_within xs place x = λ i. take_min place xs i ++ x ∷ drop_min place xs i
 

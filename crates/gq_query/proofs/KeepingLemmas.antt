@@ -49,7 +49,7 @@ pub asks_ours : (columns others : List Column) (m : Option Matching) → CanMatc
 asks_ours columns others None h = All-nil (λ column. column < length columns)
 asks_ours columns others (Some m) h = h.0
 
--- the rows of a table have the columns that are handed on, and those that a match asks of them
+-- the rows of a table have the columns that are passed on, and those that a match needs
 pub source_ready : (columns : List Column) (used ours there : List ℕ) (rows given : List (List Value)) → given ≡ rows → there ≡ used → list_all (fits_columns columns) rows ≡ true
     → All (λ column. column < length columns) used → All (λ column. column < length columns) ours → AreLong there given × AreLong ours given
 source_ready columns used ours there rows given are same fits u o =

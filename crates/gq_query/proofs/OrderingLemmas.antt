@@ -46,14 +46,14 @@ sorted_by {g = g} {f = f} key xs up h =
     up (λ x y. is_lt (compare_keys (key x) (key y))) (ranks_by keys_total key)
     (always_returns_same g (λ a r. is_lt r ≡ is_lt (compare_keys (key a.0.now) (key a.1.0.now))) f (λ a r f' k. (ap is_lt (h a r f' k).0, (h a r f' k).1)))
 
--- elements in the order of the keys of what stands for them
+-- elements in the order of the keys that represent them
 pub sorted_map : {X Y : Type 0} (f : X → Y) (key : Y → List Value) (xs : List X) → IsSortedByKey (λ x. key (f x)) compare_keys xs → IsSortedByKey key compare_keys (map f xs)
 sorted_map f key [] up = λ k d low high. absurd (omega (arith, high))
 sorted_map f key (x ∷ xs) up = λ k d low high.
     let within : k + 1 < length (x ∷ xs) = omega (arith, high, length-map (x ∷ xs) f) in
     rw (get_or-map f (x ∷ xs) (k + 1) x d within, get_or-map f (x ∷ xs) k x d (omega (arith, within))) (up k x low within)
 
--- rows stand where their spans lie within the cells
+-- rows whose spans lie within the cells are there
 pub rows_in_are : (cells : List Value) (spans : List Span) → All (IsPart cells) spans → map (row_in cells) spans ≡ map (row_at cells) spans
 rows_in_are cells [] h = refl
 rows_in_are cells (s ∷ spans) h =

@@ -1,4 +1,4 @@
--- The levels of a rollup: one behind the other, and each beside the `group` by its columns.
+-- The levels of a rollup: one after the other, and each compared with the `group` by its columns.
 use Rattle.std.proofs.Common.{◌≡◌, ◌<◌, ◌≤◌, ◌+◌, ◌-◌, ℕ, zero, suc, Bool, true, IsTrue, List, [], ◌∷◌, ◌++◌, length, map, take, drop, filter, refl, sym, ap, subst, ◌∙◌, arith, Option, Some, None, pos}
 use Rattle.std.specs.Prelude.{option_map, option_and_then, replicate}
 use Rattle.std.specs.List.{flat_map, range_with_len}
@@ -23,13 +23,13 @@ use Rattle.gq_query.specs.Work.{RisesBy, both_spent, IsSpentOn}
 abbrev Rows : Type 0
 Rows = List (List Value)
 
--- ---- levels one behind the other
+-- ---- levels one after the other
 
 all_left : (n : ℕ) → n - 0 ≡ n
 all_left n = omega arith
 
 module _ (by : List ℕ) (shown : List OutputColumn) (having : List Test) (rows : Rows) where
-  -- the rows of a level, and those of the levels behind it
+  -- the rows of a level, and those of the levels after it
   pub level_first : (level : ℕ) (others : List ℕ) (found : Rows) → level_rows by shown having rows level ≡ Some found
       → option_map (λ more. found ++ more) (rows_of_levels by shown having rows others) ≡ rows_of_levels by shown having rows (level ∷ others)
   level_first level others found told = by-rest (all_of (map (level_rows by shown having rows) others)) ∙ ap (λ o. option_map (flat_map (λ rows. rows)) (option_and_then (λ x. option_map (λ xs. x ∷ xs) (all_of (map (level_rows by shown having rows) others))) o)) (sym told)
@@ -51,7 +51,7 @@ module _ (by : List ℕ) (shown : List OutputColumn) (having : List Test) (rows 
       by-rest None = refl
       by-rest (Some rest) = ap Some (append_assoc before found rest)
 
-  -- of all levels, those behind the first so many
+  -- of all levels, those after the first n
   pub record SoFar (level : ℕ) (found : Rows) : Type 0 where
     pub left : option_map (λ more. found ++ more) (rows_of_levels by shown having rows (range_with_len (level + 1) (length by - level))) ≡ rows_of_levels by shown having rows (levels by)
 
@@ -98,7 +98,7 @@ module _ (honest : Bool) (budget : ℕ) (by : List ℕ) (rows : Rows) (before : 
       let none : length by - level ≡ 0 = omega arith in
       h.goes_on now (subst (λ n. RisesBy honest budget rows (map (λ n. take n by) (range_with_len (level + 1) n)) now now) (sym none) RisesBy.IsDone)
 
--- ---- a level beside the `group` by its columns
+-- ---- a level compared with the `group` by its columns
 
 key_length : (by : List ℕ) (rows : Rows) → length (shown_key by rows) ≡ length by
 key_length [] rows = refl

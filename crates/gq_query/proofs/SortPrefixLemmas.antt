@@ -126,7 +126,7 @@ numbers m n p q = by_ranked (m <ℤ n) (m ≡ n) (n <ℤ m) (int_cmp m n) (int_r
     (λ e eq. same (from_least m) (from_least n) (ap from_least eq) ∙ sym e)
     (λ e gt. greater (from_least m) (from_least n) (omega (arith, ints, gt)) ∙ sym e)
 
--- the prefixes of two texts behind one tag, as numbers of fifteen bytes
+-- the prefixes of two texts after one tag, as numbers of fifteen bytes
 texts : (tag : ℕ) (s t : List ℕ) → AreBytes s → AreBytes t
     → ordering_then (nat_cmp (tag * 2 ^ 56 + leading 7 s) (tag * 2 ^ 56 + leading 7 t)) (nat_cmp (leading 8 (drop 7 s)) (leading 8 (drop 7 t))) ≡ nat_cmp (leading 15 s) (leading 15 t)
 texts tag s t p q =
@@ -249,7 +249,7 @@ decided Less k not h = h
 decided Equal k not h = absurd (not refl)
 decided Greater k not h = h
 
--- Where the prefixes of two keys do not tie, they tell the order of the keys.
+-- If the prefixes of two keys don't tie, they decide the order of the keys.
 pub told : (xs ys : List Value) (a b : SortPrefix) (r : Ordering) → IsSortPrefix xs a → IsSortPrefix ys b → r ≡ compare_prefixes a b → (r ≡ Equal → ⊥) → r ≡ compare_keys xs ys
 told xs ys a b r p q e not =
     let prefixes : compare_prefixes a b ≡ compare_prefixes (prefix_of (cell xs 0)) (prefix_of (cell ys 0)) = ap (λ f. compare_prefixes f b) p.0 ∙ ap (compare_prefixes (prefix_of (cell xs 0))) q.0 in

@@ -1,4 +1,4 @@
--- Keys as they are shown, and the least values that take their place.
+-- Keys as shown, and the minimum values that take their place.
 use Rattle.std.proofs.Common.{◌≡◌, ◌<◌, ℕ, zero, suc, Bool, true, false, cond, ◌||◌, List, [], ◌∷◌, ◌++◌, length, map, fold, get_or, All, refl, sym, ap, ◌∙◌, arith, Option, Some, None, IsTrue}
 use Rattle.std.specs.Prelude.{option_map, option_and_then, nat_lt}
 use Rattle.std.specs.List.{list_any, list_all}
@@ -118,7 +118,7 @@ module _ (by : List ℕ) (shown : List OutputColumn) (rows : List (List Value)) 
   pub no_spelled_answer : folded_answer by with_least rows ≡ None → answer by shown rows ≡ None
   no_spelled_answer h = rows_none (in_order (λ key. key) (keys_of by rows)) h
 
--- ---- keys without a text that has no case are shown as they are
+-- ---- keys without a text that has no case are shown unchanged
 
 least_first : (v : Value) → lesser Null v ≡ v
 least_first Null = refl
@@ -157,7 +157,7 @@ key_alone (c ∷ by) (v ∷ key) row rows h =
     let rest = key_alone by key row rows (all_map (λ r e. cons_tail (cell r c) v (cells_in by r) key e) (row ∷ rows) h) in
     λ i. first i ∷ rest i
 
--- the values of a row in some columns are all told apart by case
+-- the values of a row in some columns are all distinguished by case
 abbrev pub Plain : List ℕ → List (List Value) → Type 0
 Plain by rows = IsTrue (list_all (λ row. list_all has_case (cells_in by row)) rows)
 
@@ -276,7 +276,7 @@ all_may columns shown (c ∷ by) may h =
     (and_from (nat_lt c (length columns)) true (lt-ltb c (length columns) (All-head (λ column. column < length columns) c by h)) refl)
     (all_may columns shown by may (All-tail (λ column. column < length columns) c by h))
 
--- ---- a store is to blame where a least value is told as out of range
+-- ---- a store is to blame if a minimum is reported as out of range
 
 pub damaged_cause : (why : Refusal) (old new : Runs) → GroupCause why old new → (why ≡ SumRange → IsTrue old.honest → ⊥) → HasCause (as_damaged why) old new
 damaged_cause SumRange old new cause never = never refl

@@ -14,7 +14,7 @@ use Rattle.gq_row.specs.declared.value.Value.TheVariants.{Null, Int, Text, NoCas
 use Rattle.gq_record.specs.Records.{with_length, number_bytes, value_bytes, body_of, record_of, IsText, IsCell, IsStorable}
 use Rattle.gq_record.specs.Laws.{TellsOneRow}
 
--- two lists of one length in front of others
+-- two lists of one length before others
 pub fronts : {X : Type 0} (a b x y : List X) → length a ≡ length b → a ++ x ≡ b ++ y → (a ≡ b) × (x ≡ y)
 fronts a b x y len e = (
   sym (take_at a x (length b) len) ∙ ap (take (length b)) e ∙ take_at b y (length b) refl,
@@ -103,7 +103,7 @@ value_shortens (Int n) bytes rest e = omega (arith, ap length e)
 value_shortens (Text t) bytes rest e = omega (arith, simp length-append at (ap length e))
 value_shortens (NoCase t) bytes rest e = omega (arith, simp length-append at (ap length e))
 
--- no value begins with another tag, nor stands where too few bytes or no text follow its tag
+-- no value begins with another tag, or with its tag and then too few bytes or no text
 pub none_empty : (v : Value) (rest : List ℕ) → [] ≡ value_bytes v ++ rest → ⊥
 none_empty v rest e = value_some v rest (sym e)
 

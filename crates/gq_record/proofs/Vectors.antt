@@ -10,7 +10,7 @@ three_values : record_of (Null ∷ Int (neg_ℤ (pos 1)) ∷ Text (79 ∷ 115 �
 unfolding record_of value_bytes
 three_values = refl
 
--- Oslo without case: as it is written, behind a tag of its own
+-- Oslo without case: as it is written, after a tag of its own
 one_without_case : record_of (NoCase (79 ∷ 115 ∷ 108 ∷ 111 ∷ []) ∷ []) ≡ 0 ∷ 0 ∷ 0 ∷ 9 ∷ 3 ∷ 0 ∷ 0 ∷ 0 ∷ 4 ∷ 0x4f ∷ 0x73 ∷ 0x6c ∷ 0x6f ∷ []
 unfolding record_of value_bytes
 one_without_case = refl

@@ -39,7 +39,7 @@ number_shown (negsuc n) h = grind arith
 pub number_is_plain : (z : ℤ) → mag z < 2 ^ 63 → is_plain (signed_decimal z) ≡ true
 number_is_plain z h = rw (number_shown z h, plain_number z h) refl
 
--- a plain field stands as it is, and shows a byte
+-- a plain field is written unchanged, and shows a byte
 pub plain_field : (field : List ℕ) → is_plain field ≡ true → field_text default_writer field ≡ field
 plain_field field h = let no : needs_quotes default_writer field ≡ false = grind arith in rw no refl
 
@@ -67,12 +67,12 @@ last_digits n hundreds tens ones low high h t o =
     let o2 : 48 + n % 10 ≡ ones = omega (arith, o) in
     rw (decimal_step n (omega arith) high, decimal_step (n / 10) (omega arith) (omega arith), decimal_step (n / 10 / 10) (omega arith) (omega arith), by_ten, h2, t2, o2) (grind (arith, common_steps))
 
--- a field that another stands behind
+-- a field that another follows
 row_body_more : (v w : Value) (behind : List Value) → row_body default_writer (map cell_text (v ∷ w ∷ behind)) ≡ field_text default_writer (cell_text v) ++ 44 ∷ row_body default_writer (map cell_text (w ∷ behind))
 unfolding fields_text
 row_body_more v w behind = refl
 
--- one field more, with the comma behind it
+-- one field more, with the comma after it
 one_more : (v w : Value) (behind : List Value) (text next whole : List ℕ) → text ++ row_body default_writer (map cell_text (v ∷ w ∷ behind)) ≡ whole
     → next ≡ text ++ field_text default_writer (cell_text v) ++ 44 ∷ [] → next ++ row_body default_writer (map cell_text (w ∷ behind)) ≡ whole
 one_more v w behind text next whole e is =

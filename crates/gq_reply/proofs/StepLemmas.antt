@@ -25,7 +25,7 @@ gives m x f e = ap (λ m. m >>= f) e
 pub stops : {A B : Type 0} (m : Result A Refused) (why : Refused) (f : A → Result B Refused) → m ≡ Err why → (m >>= f) ≡ Err why
 stops m why f e = ap (λ m. m >>= f) e
 
--- an error that stands for what isn't there
+-- an error that means something missing
 pub missed : {X E : Type 0} (o : Option X) (e why : E) → Err e ≡ ok_or o why → (o ≡ None) × (e ≡ why)
 missed None e why h = let it : e ≡ why = cc in (refl, it)
 missed (Some x) e why h = let none : ⊥ = cc in absurd none

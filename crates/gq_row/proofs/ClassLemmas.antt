@@ -1,4 +1,4 @@
--- A key's class tells its values, and its bytes are those of the values.
+-- A key's class determines its values, and its bytes are those of the values.
 use Rattle.std.proofs.Common.{◌≡◌, ◌↔◌, ◌&&◌, ℕ, suc, Bool, true, false, List, [], ◌∷◌, ◌++◌, map, length, fold, refl, sym, ap, ◌∙◌, IsTrue}
 use Rattle.std.specs.Prelude.{pos, negsuc}
 use Rattle.std.proofs.lemmas.Bool.Decides.{same_from_decides}

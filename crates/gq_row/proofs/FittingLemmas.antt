@@ -45,7 +45,7 @@ stored_nothing : (columns : List Column) → stored_in columns [] ≡ []
 stored_nothing [] = refl
 stored_nothing (c ∷ cs) = refl
 
--- behind the last column, or the last value, nothing changes
+-- after the last column, or the last value, nothing changes
 pub stored_rest : (columns : List Column) (row : List Value) (i : ℕ) → min (length row) (length columns) ≤ i → stored_in (drop i columns) (drop i row) ≡ drop i row
 stored_rest columns row i far = elim (cases_lt (length row) (length columns)) [
   | inl fewer ↦ rw (drop_all i row (omega arith)) (stored_nothing (drop i columns))

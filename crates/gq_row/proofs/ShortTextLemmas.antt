@@ -1,4 +1,4 @@
--- Texts that stand in 22 bytes: how they are made, and when two are equal.
+-- Texts that fit in 22 bytes: how they are made, and when two are equal.
 use Rattle.std.proofs.Common.{◌≡◌, ◌-◌, ◌≤◌, ℕ, Bool, true, false, List, ◌++◌, length, take, drop, replicate, bytes_eq, ◌&&◌, refl, sym, ap, subst, ◌∙◌, arith, length-append, length-drop}
 use Rattle.std.specs.Prelude.{IsUtf8}
 use Rattle.std.proofs.lemmas.List.{drop-replicate, take_all, drop-drop, length-replicate, take-append-drop}

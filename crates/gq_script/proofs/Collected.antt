@@ -92,7 +92,7 @@ ended most a b c old mid new m m1 raw piece ends t more is add p told lines =
       line = λ e. grown most a b old mid new m raw piece t add (sym (ap is_other is) ∙ ap is_other last ∙ ended_other (mark_of mark.Start front) (sym (ap is_closing last) ∙ sym told ∙ e));
     }
 
--- the script's end behind a mark
+-- the script's end after a mark
 
 some_bytes : (raw : Bytes) → is_closing (mark_of mark.Start raw) ≡ true → 0 < length raw
 some_bytes [] e = absurd cc
@@ -111,7 +111,7 @@ marked_at_end most a b c old new m raw t more e closes lines =
       line = λ f. absurd cc;
     }
 
--- the script's end behind anything else
+-- the script's end after anything else
 
 counts_by : (k n : Known) (g0 g1 : ℕ) (raw : Bytes) → Consumes k n raw → Rises k g0 g1 (length raw) → IfSome k (λ xs. IfSome n (λ ys. g1 + length ys ≡ g0 + length xs))
 counts_by None n g0 g1 raw c r = tt
@@ -151,7 +151,7 @@ unclosed most a b c old new m raw t more e none =
 some_is : {A : Type 0} (x y : A) → Some x ≡ Some y → x ≡ y
 some_is x y e = cc
 
--- so many lines were counted
+-- each line that was taken was counted
 abbrev Numbers : ℕ → ℕ → Bytes → Bytes → Type 0
 Numbers l0 l1 xs ys = l1 + length (raw_lines ys) ≡ l0 + length (raw_lines xs)
 
@@ -187,7 +187,7 @@ twice : (front raw : Bytes) (o : Option (Bytes × List Bytes)) → prefixed fron
 twice front raw None = refl
 twice front raw (Some x) = ap (λ (l : Bytes). Some (l, x.1)) (sym (append_assoc front raw x.0))
 
--- one more line, of which goal tells what it comes to
+-- one more line; `goal` says what follows from it
 by_line : (front : Bytes) (k m n : Known) (g0 g1 g2 l0 l1 l2 : ℕ) (raw : Bytes) (P : Bytes → Bytes → Type 0) → PassedBy front k m g0 g1 l0 l1 → Consumes m n raw → Rises m g1 g2 (length raw) → IfSome m (λ xs. IfSome n (λ ys. raw_lines xs ≡ raw ∷ raw_lines ys)) → l2 ≡ l1 + 1
     → ((xs ws : Bytes) → payload_of (raw_lines xs) ≡ prefixed front (payload_of (raw ∷ raw_lines ws)) → P xs ws) → IfSome k (λ xs. (ys : Bytes) × (n ≡ Some ys) × P xs ys × (g2 + length ys ≡ g0 + length xs) × Numbers l0 l2 xs ys)
 by_line front None m n g0 g1 g2 l0 l1 l2 raw P h c g f l goal = tt

@@ -28,7 +28,7 @@ snoc : (P : List ℕ → Type 0) → P [] → ((xs : List ℕ) (b : ℕ) → P (
 snoc P none some [] = none
 snoc P none some (x ∷ xs) = snoc (λ (l : List ℕ). P (x ∷ l)) (some [] x) (λ l b. some (x ∷ l) b) xs
 
--- what stands before a last CR, and that
+-- what precedes a last CR, and that
 pub strip_and_last : (q : ℕ) (xs : List ℕ) → ends_with_byte q xs ≡ true → strip_last q xs ++ q ∷ [] ≡ xs
 strip_and_last q xs = snoc (λ (l : List ℕ). ends_with_byte q l ≡ true → strip_last q l ++ q ∷ [] ≡ l) (λ e. absurd cc)
     (λ l b e.

@@ -1,4 +1,4 @@
--- Bytes that are read into a buffer behind others.
+-- Bytes that are read into a buffer after others.
 use Rattle.std.proofs.Common.{◌≡◌, ℕ, ◌+◌, ◌-◌, ◌≤◌, Bool, true, false, List, [], ◌++◌, length, take, drop, Option, Some, None, refl, sym, ap, subst, ◌∙◌, arith, append_assoc, length-append, length-drop}
 use Rattle.std.proofs.lemmas.List.{take-append-le, length-take-le, take-append-drop, drop-take, drop-drop}
 use Rattle.std.proofs.Math.Seq.{take-append-add}

@@ -42,7 +42,7 @@ kept_push o (c ∷ front) b =
     let p = opening_after o c in
     ap (λ (l : Bytes). kept_at o p c ++ l) (kept_push p front b) ∙ sym (append_assoc (kept_at o p c) (kept_from p front) (kept_at (opening_of p front) (opening_after (opening_of p front) b) b))
 
--- all is kept behind the blanks of a line that is no blank line and no comment, but for a dash alone
+-- everything after the blanks is kept of a line that is neither blank nor a comment, except a dash alone
 
 kept_word : (bs : Bytes) → kept_from opening.Word bs ≡ bs
 kept_word [] = refl

@@ -24,7 +24,7 @@ ended_stays : (bs : Bytes) → word_of first.Ended bs ≡ first.Ended
 ended_stays [] = refl
 ended_stays (b ∷ bs) = ended_stays bs
 
--- the word at the front
+-- the first word
 abbrev front : Bytes → Bytes
 front bs = lower (take (prefix_len is_word_byte bs) bs)
 
@@ -60,7 +60,7 @@ word_a b h = grind (arith, nat_tests)
 word_d : (b : ℕ) → letter 100 68 b ≡ true → is_word_byte b ≡ true
 word_d b h = grind (arith, nat_tests)
 
--- a letter of the word: what comes behind it decides, or the word is another
+-- a letter of the word: what follows it decides, or the word is another
 letter_next : (b : ℕ) (bs : Bytes) (k : ℕ) (ks : Bytes) (test : Bool) (next : FirstWord) → eqb (to_ascii_lowercase b) k ≡ test → (test ≡ true → is_word_byte b ≡ true) → is_load (word_of next bs) ≡ bytes_eq (front bs) ks
     → is_load (word_of (cond test next first.Other) bs) ≡ bytes_eq (front (b ∷ bs)) (k ∷ ks)
 letter_next b bs k ks true next e word others = others ∙ ap (λ (v : Bool). v && bytes_eq (front bs) ks) (sym e) ∙ ap (λ (l : Bytes). bytes_eq l (k ∷ ks)) (sym (more b bs (word refl)))

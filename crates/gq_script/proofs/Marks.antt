@@ -54,7 +54,7 @@ no_lf b h = by_test (eqb b 10) refl
 plain_parts : (b : ℕ) (bs : Bytes) → list_all is_plain (b ∷ bs) ≡ true → (eqb b 10 ≡ false) × (list_all is_plain bs ≡ true)
 plain_parts b bs h = let p = both_are (is_plain b) (list_all is_plain bs) h in (no_lf b p.0, p.1)
 
--- behind a CR only LF goes on
+-- after a CR only LF continues
 return_next : (b : ℕ) (bs : Bytes) → list_all is_plain (b ∷ bs) ≡ true → mark_of mark.Return (b ∷ bs) ≡ mark.Other
 return_next b bs h = ap (λ (t : Bool). mark_of (cond t mark.Ended mark.Other) bs) (plain_parts b bs h).0 ∙ other_stays bs
 

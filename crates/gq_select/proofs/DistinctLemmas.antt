@@ -53,7 +53,7 @@ some_keys (column ∷ columns) rows some = refl
 pub counted_keys : (spec : Spec) (columns : List ℕ) (rows : List (List Value)) → 0 < length columns → spec.by ≡ columns → length (keys_of spec.by rows) ≡ length (keys columns rows)
 counted_keys spec columns rows some by = ap (λ c. length (keys_of c rows)) by ∙ ap length (some_keys columns rows some)
 
--- the groups that are pushed are the keys, with nothing beside them
+-- the groups that are pushed are the keys, with no aggregates
 pub pushes_keys : (spec : Spec) (columns : List ℕ) (rows : List (List Value)) (holds : List Group → Type 0) → 0 < length columns → spec.by ≡ columns → spec.aggs ≡ [] → Pushes spec rows holds → PushesKeys columns rows holds
 pushes_keys spec columns rows holds some by none pushed =
     let out : List Group = pushed.0 in

@@ -1,4 +1,4 @@
--- The reports of a script, as they are told.
+-- The reports of a script, as they are written.
 use Rattle.std.proofs.Common.{◌≡◌, ℕ, Bool, true, List, [], ◌∷◌, ◌++◌, Option, Some, None, refl, sym, ap, subst, ◌∙◌, append_assoc}
 use Rattle.std.proofs.lemmas.List.{append-nil}
 use Rattle.std.specs.Prelude.{IfSome}
@@ -60,7 +60,7 @@ told-all name script start now before after any reports begins t end = by-known 
           any_is = t.any_is;
         }
 
--- a front of them
+-- a prefix of them
 front-of : (name : Bytes) (script : Known) (start now : Place) (replies : Stream) (reports : List Report) → Begins script start → Between GREATEST start now reports → GotFront replies (texts name reports) → IfSome script (λ bytes. ToldFront name bytes replies)
 front-of name script start now replies reports begins between told = by-known script begins.left
   where

@@ -37,7 +37,7 @@ pub by-commands : {S : Type 0} (remaining : S → Option Bytes) (opens : Text �
 by-commands remaining opens input other old asked seed replies errors status [] same ran = by-script remaining opens input other old asked seed replies errors status asked.script (same refl) ran
 by-commands remaining opens input other old asked seed replies errors status (lines ∷ more) same ran = ran
 
--- lists and texts that are asked for, as words lend them
+-- lists and texts that are asked for, borrowed from the words
 cons_taken : {A B : Type 0} (f : A → B) (x : A) (xs : List A) → map f (x ∷ xs) ≡ [] → ⊥
 cons_taken f x xs h = omega (arith, ap length h)
 
@@ -53,7 +53,7 @@ takes f None [] h e = refl
 takes f None (x ∷ xs) h e = absurd (cons_taken f x xs h)
 takes f (Some x) xs h e = absurd (true≢false (ap is_some e))
 
--- lines of the command line, as words lend them
+-- lines of the command line, borrowed from the words
 pub lines_are : (items : List (Bor Text)) → flat_map (λ lines. lines.now ++ codes "\n") items ≡ script_of (map (λ s. s.now) items)
 lines_are items = sym (flat_map-map (λ (lines : Text). lines ++ codes "\n") (λ (s : Bor Text). s.now) items)
 

@@ -1,4 +1,4 @@
--- What each exit status tells.
+-- What each exit status means.
 use Rattle.std.proofs.Common.{arith, rules, refl, inl, inr, ℕ, Bool, true, false, Some, Ok, Err, Result, if◌then◌else◌, ◌≡◌, ◌≢◌, ◌==◌, ◌⊎◌}
 use Rattle.gq_engine.specs.declared.run.Summary.{Summary}
 use Rattle.gq_engine.specs.declared.run.Fault.{Fault}

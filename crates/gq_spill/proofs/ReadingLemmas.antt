@@ -16,7 +16,7 @@ use Rattle.gq_spill.specs.declared.store.RunId.{RunId}
 
 -- ---- reading ahead
 
--- what is read at the place behind the bytes ahead is what follows them
+-- what is read at the place after the bytes ahead is what follows them
 behind_is : (t : RunTail) (runs : Runs) (rest : List ℕ) (u : Unread t runs rest) (place : ℕ) → place ≡ t.at + length t.ahead → drop place (u.front ++ rest) ≡ u.behind
 behind_is t runs rest u place e =
     let whole : u.front ++ rest ≡ (u.front ++ t.ahead) ++ u.behind = ap (λ (l : List ℕ). u.front ++ l) u.begun ∙ sym (append_assoc u.front t.ahead u.behind) in
@@ -50,7 +50,7 @@ not_short t place more a rest e enough short u =
     let parts = ap length u.begun ∙ length-append t.ahead u.behind in
     omega (arith, u.ends)
 
--- ---- a row at the front
+-- ---- the first row
 
 pub length-record_of : (row : List Value) → length (record_of row) ≡ 4 + length (body_of row)
 unfolding record_of
@@ -93,7 +93,7 @@ same_refusal {T = T} {U = U} {E = E} x y e = ap (λ (z : E). Err z) (inside e)
 pub not_few : (row : List Value) (behind : List ℕ) (n : ℕ) → n ≤ length (record_of row) → length (record_of row ++ behind) < n → ⊥
 not_few row behind n long few = omega (arith, length-append (record_of row) behind)
 
--- the length at the front is that of the row there
+-- the first length is that of the row there
 pub same_length : (t : RunTail) (len : ℕ) (after : List ℕ) (runs : Runs) (row : List Value) (behind : List ℕ) → t.ahead ≡ to_be_bytes w32 len ++ after → len < 2 ^ 32 → IsStorable row → Unread t runs (record_of row ++ behind)
     → length (record_of row) ≡ 4 + len
 unfolding record_of
@@ -113,7 +113,7 @@ at_front t runs row behind long u =
 
 -- ---- rows that are left
 
--- what taking a row says of the reader before it and behind it
+-- what taking a row says of the reader before and after it
 abbrev pub Takes : Reading → Reading → Runs → Runs → List Value → Type 0
 Takes r s a b row = (rest : List ℕ) → Unread r.tail a rest → (behind : List ℕ) × (rest ≡ record_of row ++ behind) × Unread s.tail b behind
 

@@ -2,7 +2,7 @@
 use Rattle.std.proofs.Common.{◌≡◌, ℕ, ◌+◌, ◌-◌, ◌≤◌, List, length, take, drop, sym, ap, ◌∙◌, arith}
 use Rattle.std.proofs.lemmas.List.{drop-drop, drop-take, length-take}
 
--- what is left of a part behind its first bytes
+-- what is left of a part after its first bytes
 pub drop-part : (bytes : List ℕ) (start end count : ℕ) → count ≤ length (take (end - start) (drop start bytes)) → take (end - (start + count)) (drop (start + count) bytes) ≡ drop count (take (end - start) (drop start bytes))
 drop-part bytes start end count within =
     let len = length-take (end - start) (drop start bytes) in

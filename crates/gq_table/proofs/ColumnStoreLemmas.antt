@@ -67,7 +67,7 @@ row_there n i (column ∷ columns) h lt =
     before_there column (rows_across n columns) i (All-head (Long n) column columns h ∙ sym rest) (omega (arith, lt, rest))
     ∙ ap (λ l. slice_index_or column i Null ∷ l) (row_there n i columns tail lt)
 
--- as many columns behind others
+-- as many columns after others
 pub across_behind : (n m : ℕ) (columns more : List (List Value)) → AreAsLong n columns → length more ≡ length columns
     → rows_across (n + m) (columns_behind columns more) ≡ rows_across n columns ++ rows_across m more
 unfolding rows_across columns_behind
@@ -122,7 +122,7 @@ behind_step columns more i c lt same is =
     let next : i + 1 ≡ suc i = omega arith in
     (λ z. take (next z) (slice_set columns i c) ++ columns_behind (drop (next z) (slice_set columns i c)) (drop (next z) more)) ∙ behind_next columns more i c lt same is
 
--- what is put behind a column leaves its first cells
+-- appending to a column leaves its first cells
 pub kept_step : (n : ℕ) (columns old : List (List Value)) (i : ℕ) (c extra : List Value) → map (take n) columns ≡ old → AreAsLong n old → i < length columns
     → c ≡ slice_index_or columns i [] ++ extra → map (take n) (slice_set columns i c) ≡ old
 kept_step n [] old i c extra same long lt is = absurd (omega (arith, lt))
@@ -143,7 +143,7 @@ kept_start n [] h = refl
 kept_start n (column ∷ columns) h =
     λ z. take_all n column (omega (arith, All-head (Long n) column columns h)) z ∷ kept_start n columns (All-tail (Long n) column columns h) z
 
--- behind the last column
+-- after the last column
 pub behind_all : (columns more : List (List Value)) (i : ℕ) → length columns ≤ i → take i columns ++ columns_behind (drop i columns) more ≡ columns
 unfolding columns_behind
 behind_all columns more i h =
@@ -168,7 +168,7 @@ written_next xs ys i x d in_xs in_ys same is =
 pub whole : {X : Type 0} (n : ℕ) (xs ys : List X) → length xs ≡ n → take n (xs ++ drop (length xs) ys) ≡ xs
 whole n xs ys h = take-append-le n xs (drop (length xs) ys) (omega (arith, h)) ∙ take_all n xs (omega (arith, h))
 
--- ---- where a column store stands
+-- ---- positions in a column store
 
 pub position_within : (n i : ℕ) (columns : List (List Value)) (rows : List (List Value)) → rows_across n columns ≡ rows → AreAsLong n columns → i < length rows → i < n
 position_within n i columns rows view long lt = subst (λ k. i < k) (ap length (sym view) ∙ length-across n columns long) lt
@@ -195,7 +195,7 @@ both_wide n m columns more rows others view long some view2 long2 some2 even =
     let theirs = sym (wide m more long2 some2) ∙ ap (λ l. length (slice_index_or l 0 [])) view2 in
     theirs ∙ sym mine
 
--- rows behind those of a column store
+-- rows after those of a column store
 pub appended : (n m next : ℕ) (columns more new rows others : List (List Value)) → rows_across n columns ≡ rows → AreAsLong n columns
     → rows_across m more ≡ others → AreAsLong m more → length more ≡ length columns → next ≡ n + m → new ≡ columns_behind columns more
     → (AreAsLong next new) × (rows_across next new ≡ rows ++ others)

@@ -1,4 +1,4 @@
--- Rows that are put by their keys and found by an index of them: in the place of the row that has the key, or behind all.
+-- Rows that are put by their keys and found by an index of them: each replaces the row of its key, or is added at the end.
 use Rattle.std.proofs.Common.{◌≡◌, ℕ, zero, suc, ◌+◌, ◌-◌, ◌<◌, Bool, true, false, cond, not, ◌||◌, List, [], ◌∷◌, ◌++◌, length, map, refl, sym, ap, ◌∙◌, arith, IsPermutation, true≢false, take, swap_remove, zero-add, count_by, slice_get, Some}
 use Rattle.std.specs.Prelude.{slice_set, slice_index_or}
 use Rattle.std.specs.List.{list_any}
@@ -36,7 +36,7 @@ map-at f [] i d = refl
 map-at f (x ∷ xs) zero d = refl
 map-at f (x ∷ xs) (suc i) d = map-at f xs i d
 
--- what stands at an element's place may be written there again
+-- an element may be written to its own place again
 pub set_again : {X Y : Type 0} (f : X → Y) (xs : List X) (i : ℕ) (x d : X) → f (slice_index_or xs i d) ≡ f x → map f (slice_set xs i x) ≡ map f xs
 set_again f [] i x d e = refl
 set_again f (y ∷ xs) zero x d e = ap (λ z. z ∷ map f xs) (sym e)
@@ -71,7 +71,7 @@ module _ (key : List ℕ) where
       ap (λ b. cond b (row ∷ rows) (old ∷ put_by_key key rows row)) (ap (same_key (key_of key old)) (sym e) ∙ other)
       ∙ ap (λ l. old ∷ l) (put_at rows row n (omega arith) e parts.1)
 
-  -- where none has it, it goes behind all
+  -- if none has it, it is added at the end
   pub put_new : (rows : List Row) (row : Row) → has_row key rows (key_of key row) ≡ false → put_by_key key rows row ≡ rows ++ row ∷ []
   put_new [] row none = refl
   put_new (old ∷ rows) row none =
@@ -100,11 +100,11 @@ module _ (key : List ℕ) where
   pub key_there : (rows others : List Row) (i : ℕ) → keys rows ≡ keys others → key_of key (slice_index_or rows i []) ≡ key_of key (slice_index_or others i [])
   key_there rows others i same = map-at (key_of key) rows i [] ∙ ap (λ ks. slice_index_or ks i (key_of key [])) same ∙ sym (map-at (key_of key) others i [])
 
-  -- which keys there are is told by the list of keys
+  -- the list of keys determines which keys there are
   pub has_keys : (rows : List Row) (k : List Value) → has_row key rows k ≡ list_any (λ l. same_key l k) (keys rows)
   has_keys rows k = sym (mapped_any (key_of key) (λ l. same_key l k) rows)
 
--- ---- what an index of the keys tells
+-- ---- what an index of the keys implies
 
 pub read_at : {X Y : Type 0} (f : X → Y) (xs : List X) (i : ℕ) (y : Y) (d : X) → slice_get (map f xs) i ≡ Some y → (i < length xs) × (f (slice_index_or xs i d) ≡ y)
 read_at f [] i y d e = let none : ⊥ = cc in absurd none
@@ -215,10 +215,10 @@ swap_remove_keys f (y ∷ xs) i x d within =
     ∙ ap (take (length (y ∷ xs) - 1)) (map-set f (y ∷ xs) i (slice_index_or (y ∷ xs) (length (y ∷ xs) - 1) x) ∙ ap (slice_set (map f (y ∷ xs)) i) (map-read f (y ∷ xs) (length (y ∷ xs) - 1) x d (omega arith)))
     ∙ ap (λ n. take (n - 1) (slice_set (map f (y ∷ xs)) i (slice_index_or (map f (y ∷ xs)) (n - 1) (f d)))) (sym long)
 
--- ---- rows that are told by counts
+-- ---- rows by how often each occurs
 
 module _ (key : List ℕ) where
-  -- how often a row stands among those of other keys
+  -- how often a row occurs among those of other keys
   pub count_deleted : (rows : List (List Value)) (k z : List Value) → count_by (same_key z) (delete key rows k) ≡ cond (same_key (key_of key z) k) 0 (count_by (same_key z) rows)
   count_deleted [] k z = nothing (same_key (key_of key z) k)
     where

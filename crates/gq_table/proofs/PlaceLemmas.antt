@@ -233,7 +233,7 @@ list_first x y xs ys e = ap (λ l. slice_index_or l 0 x) e
 list_rest : {X : Type 0} (x y : X) (xs ys : List X) → x ∷ xs ≡ y ∷ ys → xs ≡ ys
 list_rest x y xs ys e = ap (drop 1) e
 
--- where rows were placed among some, those stand among these and more
+-- rows placed among some rows are placed among these and more
 pub there_still : (key : List ℕ) (hash : List ℕ → ℕ) (rows more now old : List Row) (places : List Found) → AreStillThere now old places → ArePlaces key hash rows old places → AreThere key (rows ++ more) now places
 there_still key hash rows more [] [] [] h are = tt
 there_still key hash rows more [] [] (place ∷ places) h are = are
@@ -257,7 +257,7 @@ even_still width now old same all k d within =
     let within_old : k < length old = subst (λ n. k < n) long within in
     sym (read_mapped length now k d 0 within) ∙ ap (λ l. slice_index_or l k 0) same ∙ read_mapped length old k d 0 within_old ∙ all k d within_old
 
--- rows with keys of their own, put behind rows that have none of these
+-- rows with keys of their own, appended to rows that have none of these
 put_behind : (key : List ℕ) (rows new : List Row) → NoneHas key rows new → no_repeats same_key (map (key_of key) new) ≡ true → fold (put_by_key key) rows new ≡ rows ++ new
 unfolding NoneHas
 put_behind key rows [] none apart = sym (append-nil rows)
@@ -337,7 +337,7 @@ there_long key rows new places are = AllZip-long (IsThere key rows) new places a
 
 -- ---- rows that go to their places, one by one
 
--- after so many: what is left to put makes of these rows what all make of the first ones
+-- after some of them: the rest, put into these rows, gives what all give, put into the first ones
 pub record Placing (key : List ℕ) (first new : List Row) (places : List Found) (i : ℕ) (rows staged : List Row) : Type 0 where
   pub put : fold (put_by_key key) rows (with_place (drop i staged) (drop i places)) ≡ fold (put_by_key key) first (with_place new places)
   pub keys : map (key_of key) rows ≡ map (key_of key) first
@@ -387,7 +387,7 @@ module _ (key : List ℕ) (first new : List Row) (places : List Found) (there : 
 
 -- ---- rows without a place that are added, one by one
 
--- after so many: the first rows and those that were added, and what is left of the new ones
+-- after some of them: the first rows and those that were added, and the rest of the new ones
 pub record Adding (first new : List Row) (places : List Found) (i : ℕ) (rows staged : List Row) : Type 0 where
   pub added : rows ≡ first ++ without_place (take i new) (take i places)
   pub there : AreStillThere staged new places

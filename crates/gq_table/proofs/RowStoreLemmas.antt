@@ -6,7 +6,7 @@ use Rattle.gq_row.specs.declared.value.Value.{Value}
 use Rattle.gq_row.specs.declared.value.Value.TheVariants.{Null}
 use Rattle.gq_table.specs.RowStores.{rows_along, with_row, written_over}
 
--- ---- where the rows stand
+-- ---- where the rows are
 
 pub length-along : (w n : ℕ) (cells : List Value) → length (rows_along w n cells) ≡ n
 unfolding rows_along
@@ -33,7 +33,7 @@ ends_within w n i lt = let rest : n ≡ i + 1 + (n - i - 1) = omega (arith, lt) 
 begins_before : (w n i : ℕ) → i ≤ n → i * w ≤ n * w
 begins_before w n i le = let rest : n ≡ i + (n - i) = omega (arith, le) in subst (λ k. i * w ≤ k * w) (sym rest) (omega arith)
 
--- ---- rows behind others
+-- ---- rows after others
 
 along_behind : (w n m : ℕ) (cells more : List Value) → length cells ≡ n * w → rows_along w (n + m) (cells ++ more) ≡ rows_along w n cells ++ rows_along w m more
 unfolding rows_along
@@ -65,7 +65,7 @@ along_parts w n m all front row back before here is =
     ∙ along_behind w n (1 + m) front (row ++ back) before
     ∙ ap (λ rows. rows_along w n front ++ rows) (along_behind w 1 m row back (omega (arith, here)) ∙ ap (λ r. r ++ rows_along w m back) (alone w row here))
 
--- ---- a row written where it stands
+-- ---- a row written in place
 
 cells_along : (w n : ℕ) (cells : List Value) → length cells ≡ n * w → flat_map (λ (row : List Value). row) (rows_along w n cells) ≡ cells
 unfolding rows_along
@@ -74,7 +74,7 @@ cells_along w (suc n) cells long =
     let left = length-drop w cells in
     ap (λ l. take w cells ++ l) (cells_along w n (drop w cells) (omega (arith, long, left))) ∙ take-append-drop w cells
 
--- what the cells come to that were lent
+-- writing over a row's cells writes the row
 with_row_is : (w n i : ℕ) (cells row : List Value) → length cells ≡ n * w → i < n
     → with_row (rows_along w n cells) i row ≡ rows_along w n (written_over cells (i * w) row)
 unfolding with_row
@@ -109,7 +109,7 @@ over_row w n i cells row long lt wide =
     ∙ along_parts w i (n - i - 1) n front row back first wide all
     ∙ sym (ap (λ rows. slice_set rows i row) before ∙ set_at (rows_along w i front) old (rows_along w (n - i - 1) back) row i (length-along w i front))
 
--- a list of so many elements that was lent from a place on, once it is back
+-- a list of n elements that was borrowed from a place on, after the borrow ends
 abbrev back : {X : Type 0} → ℕ → ℕ → List X → List X → List X
 back len at xs ys = let new = take at xs ++ (ys ++ drop (length ys) (drop at xs)) in take len (new ++ drop (length new) xs)
 
@@ -123,7 +123,7 @@ back_is {X} len at xs ys is le =
     = omega (arith, is, front, left, behind, length-append (take at xs) (ys ++ drop (length ys) (drop at xs)), length-append ys (drop (length ys) (drop at xs))) in
     take-append-le len new (drop (length new) xs) most ∙ ap (λ k. take k new) is
 
--- ---- where a row store stands
+-- ---- positions in a row store
 
 -- a position of its rows, and where its cells begin and end
 pub record Stands (w n i : ℕ) (cells : List Value) (rows : List (List Value)) : Type 0 where
@@ -145,7 +145,7 @@ stands w n i cells rows view long lt =
       long = ap length (sym row) ∙ length-take-le w (drop (i * w) cells) (omega (arith, end, left));
     }
 
--- a row that was lent, and is back
+-- a row after its borrow ends
 pub row_lent : (w n i len : ℕ) (cells row : List Value) (rows : List (List Value)) → rows_along w n cells ≡ rows → length cells ≡ n * w → len ≡ length cells → i < length rows
     → rows_along w n (back len (i * w) cells row) ≡ with_row rows i row
 row_lent w n i len cells row rows view long is lt =
@@ -160,7 +160,7 @@ row_back w n i cells row rows view long lt wide =
     let it = stands w n i cells rows view long lt in
     subst (λ l. with_row l i row ≡ slice_set l i row) view (with_row_is w n i cells row long it.within ∙ over_row w n i cells row long it.within wide)
 
--- ---- a row put behind those of a row store
+-- ---- a row appended to those of a row store
 
 -- one cell of it
 pub cell_behind : (front row old new : List Value) (i : ℕ) (cell : Value) → i < length row → old ≡ front ++ take i row → new ≡ old ++ cell ∷ [] → cell ≡ slice_index_or row i Null
@@ -171,7 +171,7 @@ cell_behind front row old new i cell lt before behind is =
     ∙ append_assoc front (take i row) (slice_index_or row i Null ∷ [])
     ∙ ap (λ l. front ++ l) (sym (take_more row i Null lt))
 
--- a row store that has rows is as wide as they are
+-- a row store that has rows has their width
 as_wide : (w n : ℕ) (cells row : List Value) (rows : List (List Value)) → rows_along w n cells ≡ rows → length cells ≡ n * w → All (λ (other : List Value). length other ≡ length row) rows → 0 < n → w ≡ length row
 as_wide w n cells row rows view long even some =
     let lt : 0 < length rows = omega (arith, some, ap length (sym view), length-along w n cells) in
@@ -209,7 +209,7 @@ first_rows w n m cells rows view long le =
     sym (ap (take m) (sym view ∙ (λ z. rows_along w (rest z) (sym (take-append-drop (m * w) cells) z)) ∙ along_behind w m (n - m) front back size)
     ∙ take_at (rows_along w m front) (rows_along w (n - m) back) m (length-along w m front))
 
--- where the last comes in the place of another
+-- the last row in another's place
 swapped : {X : Type 0} (xs : List X) (y d : X) (i : ℕ) → i < length xs → swap_remove (xs ++ y ∷ []) i d ≡ slice_set xs i y
 swapped xs y d i lt =
     let size : length (xs ++ y ∷ []) - 1 ≡ length xs = omega (arith, length-append xs (y ∷ [])) in

@@ -1,4 +1,4 @@
--- Rows that were put into an empty table, and then loaded from it: as if each were put. Rows are told, up to their order, by how often each stands among them.
+-- Rows that were put into an empty table, and then loaded from it: as if each were put. Rows are determined, up to their order, by how often each occurs.
 use Rattle.std.proofs.Common.{◌≡◌, ℕ, ◌+◌, Bool, true, false, cond, not, ◌||◌, IsTrue, List, [], ◌∷◌, ◌++◌, map, refl, sym, ap, subst, ◌∙◌, arith, count_by, IsPermutation, true≢false, add-zero}
 use Rattle.std.specs.List.{list_any}
 use Rattle.std.proofs.lemmas.Bool.{not-true, and_parts, or_parts, or_from}
@@ -23,7 +23,7 @@ module _ (column : ℕ) (columns : List ℕ) where
   abbrev key : List ℕ
   key = column ∷ columns
 
-  -- how often a row stands there once rows are put, where it stood there so often
+  -- how often a row occurs once rows are put, by how often it occurred before
   after : List Row → Row → ℕ → ℕ
   after [] z n = n
   after (row ∷ rows) z n = after rows z (cond (same_key (key_of key row) (key_of key z)) (one (same_key z row)) n)
@@ -55,7 +55,7 @@ module _ (column : ℕ) (columns : List ℕ) where
   times_put_all old [] z differ = refl
   times_put_all old (row ∷ rows) z differ = times_put_all (put key old row) rows z (keys_differ-put key old row differ) ∙ ap (after rows z) (times_put old row z differ)
 
-  -- a row whose key is put stands there as the rows say
+  -- a row whose key is put occurs as the rows say
   after_put : (rows : List Row) (z : Row) (n : ℕ) → after rows z n ≡ cond (has_row key rows (key_of key z)) (after rows z 0) n
   unfolding after
   after_put [] z n = refl

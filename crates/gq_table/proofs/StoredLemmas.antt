@@ -1,4 +1,4 @@
--- What a call leaves of a table whose rows stand under keys or in a list, and why it refuses.
+-- What a call leaves of a table whose rows are keyed or in a list, and why it refuses.
 use Rattle.std.proofs.Common.{◌≡◌, map, fold, ℕ, ◌+◌, ◌<◌, ◌≤◌, ◌⊎◌, inl, inr, Bool, true, false, cond, not, IsTrue, List, [], ◌∷◌, ◌++◌, length, Option, Some, None, Result, Ok, Err, refl, sym, ap, subst, ◌∙◌, arith, IsPermutation, length-append, append-nil, append_assoc}
 use Rattle.std.specs.Prelude.{nat_lt, OnOk, OnErr, IfErr}
 use Rattle.std.specs.List.{list_all}

@@ -37,7 +37,7 @@ plain (Err x) n P h p =
 pub parsed : {E : Type 0} (ds : List ℕ) (r : Result ℤ E) → ParsesSigned w64 10 ds r → 0 < length ds → all_ascii_digits ds ≡ true → result_ok r ≡ signed false (digits_value 10 ds)
 parsed ds r h some digits = plain r (digits_value 10 ds) (0 < length ds) (parse_signed_digits own w64 ds r h digits) some
 
--- the digits at the front are digits
+-- the leading digits are digits
 pub front_digits : (bs : List ℕ) → all_ascii_digits (take (prefix_len is_ascii_digit bs) bs) ≡ true
 front_digits [] = refl
 front_digits (b ∷ bs) = by_digit (is_ascii_digit b) refl (front_digits bs)

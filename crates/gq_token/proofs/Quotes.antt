@@ -49,7 +49,7 @@ behind_seam : (piece after : Bytes) (q : ℕ) → drop (length piece + 1) (piece
 behind_seam [] after q = refl
 behind_seam (b ∷ piece) after q = let e : suc (length piece) + 1 ≡ suc (length piece + 1) = omega arith in rw e (behind_seam piece after q)
 
--- what stands behind an ASCII byte of a text is a text
+-- what follows an ASCII byte of a text is a text
 pub utf8_behind : (q : ℕ) (piece after : Bytes) → q < 128 → IsUtf8 (piece ++ (q ∷ after)) → IsUtf8 after
 utf8_behind q piece after small u =
     let bs = piece ++ (q ∷ after) in

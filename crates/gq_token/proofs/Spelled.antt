@@ -1,4 +1,4 @@
--- The token at the front is the longest.
+-- The token that is read is the longest.
 use Rattle.std.proofs.Common.{◌≡◌, ℕ, suc, ◌+◌, Bool, true, false, cond, eqb, [], ◌∷◌, ◌++◌, take, drop, Option, Some, None, refl, sym, ap, subst, ◌∙◌, arith, append_assoc, inl, inr, eq-eqb}
 use Rattle.std.proofs.lemmas.List.{take-append-drop}
 use Rattle.std.proofs.lemmas.Bool.{eqb-true}
@@ -30,7 +30,7 @@ bind_some : {A B : Type 0} (r : Option A) (f : A → Option B) (y : B) → (r >>
 bind_some (Some x) f y e = (x, refl, e)
 bind_some None f y e = absurd cc
 
--- a piece of the front that spells the token
+-- a prefix that spells the token
 abbrev Found : Bytes → Token → Bytes → Type 0
 Found bs t rest = (piece : Bytes) × (bs ≡ piece ++ rest) × Spells piece rest t
 

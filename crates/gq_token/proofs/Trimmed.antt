@@ -1,4 +1,4 @@
--- A line has the tokens that it has without the blanks at its front.
+-- A line has the same tokens with and without leading blanks.
 use Rattle.std.proofs.Common.{◌≡◌, ℕ, zero, suc, ◌+◌, ◌<◌, ◌≤◌, Bool, true, false, cond, List, [], ◌∷◌, length, take, drop, Option, Some, None, refl, sym, ap, ◌∙◌, arith, length-drop}
 use Rattle.std.proofs.lemmas.Str.{IsUtf8-append, IsUtf8-from_ascii, is_utf8-from_IsUtf8, IsUtf8-from_is_utf8}
 use Rattle.std.specs.List.{prefix_len, slice_index}
@@ -47,7 +47,7 @@ skipped_once (b ∷ bs) = by_blank (is_blank b) refl (skipped_once bs)
     by_blank true e next = ap skip_blanks (blank_first b bs e) ∙ next ∙ sym (blank_first b bs e)
     by_blank false e next = ap skip_blanks (no_blank_first b bs e)
 
--- the tokens of what stands behind the blanks
+-- the tokens after the blanks
 behind : Bytes → Option (List Token)
 behind bs = elim bs [ [] ↦ Some [] | b ∷ rest ↦ (token_at (b ∷ rest) >>= λ first. lexed first.1 >>= λ others. Some (first.0 ∷ others)) ]
 

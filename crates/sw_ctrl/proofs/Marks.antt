@@ -14,7 +14,7 @@ chosen false = refl
 pub All-marked : (bs : List ℕ) → All IsControl (map marked bs)
 All-marked bs = All-map IsControl marked bs (λ k d lt. chosen (is_full (slice_index_or bs k d)))
 
--- what a `Vec` holds once all its items were lent
+-- what a `Vec` holds after all its items were borrowed
 pub lent_whole : (xs ys : List ℕ) (n : ℕ) → n ≡ length xs → length ys ≡ length xs → take n (ys ++ drop (length ys) xs) ≡ ys
 lent_whole xs ys n e long = ap (λ l. take n (ys ++ l)) (drop_all (length ys) xs (omega arith)) ∙ ap (take n) (append-nil ys) ∙ take_all n ys (omega arith)
 

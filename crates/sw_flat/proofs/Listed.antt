@@ -15,7 +15,7 @@ module _ {K V : Type 0} (class : K → List ℕ) where
   pub apart_behind : (o : Option (K × V)) (ps : List (Option (K × V))) → Apart (o ∷ ps) → Apart ps
   apart_behind o ps h i j p q a b e = let f = h (suc i) (suc j) p q a b e in omega (arith, f)
 
-  -- an entry of the map stands at some place
+  -- an entry of the map is at some place
   pub place_of : (ps : List (Option (K × V))) (q : List ℕ) (p : K × V) → get (entries_in class ps) q ≡ Some p → (i : ℕ) × (get_or ps i None ≡ Some p)
   place_of [] q p e = absurd (none_some p (sym (get-empty _ q) ∙ e))
   place_of (None ∷ ps) q p e = let it = place_of ps q p e in (suc it.0, it.1)
@@ -25,7 +25,7 @@ module _ {K V : Type 0} (class : K → List ℕ) where
         | false ↦ λ f. let it = place_of ps q p f in (suc it.0, it.1)
       ] (sym (get-insert nat_list_cmp_total (entries_in class ps) (class x.0) x q) ∙ e)
 
-  -- the class of the first entry has no entry behind it
+  -- the class of the first entry has no later entry
   pub absent_behind : (x : K × V) (ps : List (Option (K × V))) → Apart (Some x ∷ ps) → get (entries_in class ps) (class x.0) ≡ None
   absent_behind x ps h =
       elim (get (entries_in class ps) (class x.0)) as (λ o. get (entries_in class ps) (class x.0) ≡ o → o ≡ None) [
@@ -60,7 +60,7 @@ module _ {K V : Type 0} (class : K → List ℕ) where
   filled_small (None ∷ ps) = let h = filled_small ps in omega (arith, h)
   filled_small (Some p ∷ ps) = let h = filled_small ps in omega (arith, h)
 
--- the keys of entries without values, and nothing beside each
+-- the entries of a set, by their keys
 pub with_nothing : {K : Type 0} (items : List (K × Unit {0})) → map (λ k. (k, tt)) (map (λ p. p.0) items) ≡ items
 with_nothing [] = refl
 with_nothing (p ∷ items) = ap (λ r. p ∷ r) (with_nothing items)

@@ -1,4 +1,4 @@
--- One map into another: what stands over after some slots.
+-- One map into another: what remains after some slots.
 use Rattle.std.proofs.Common.{◌≡◌, ℕ, zero, suc, ◌+◌, ◌<◌, ◌≤◌, Bool, true, false, cond, not, List, [], ◌∷◌, map, length, drop, set, get_or, Option, Some, None, refl, sym, ap, ◌∙◌, subst, arith}
 use mathlib.Core.Bool.{true≢false}
 use Rattle.std.specs.Prelude.{is_some, IsSome, IfSome, IfNone}
@@ -73,7 +73,7 @@ module _ {K V : Type 0} (class : K → List ℕ) where
       let behind : suc i ≡ i + 1 = omega arith in
       ap (lacked_count m) (next_filled ps from i x le none here ∙ ap (λ k. x ∷ filled (drop k ps)) behind)
 
-  -- the entries from here on are the next one and those behind it
+  -- the entries from here on are the next one and those after it
   entries_next : (ps : List (Option (K × V))) (from i : ℕ) (x : K × V) → from ≤ i → ((j : ℕ) → from ≤ j → j < i → get_or ps j None ≡ None) → get_or ps i None ≡ Some x
       → entries_in class (drop from ps) ≡ insert (entries_in class (drop (i + 1) ps)) (class x.0) x
   entries_next ps from i x le none here =
@@ -153,7 +153,7 @@ module _ {K V : Type 0} (class : K → List ℕ) where
     this : (q : List ℕ) → same q (class x.0) ≡ true → get (entries_in class (drop from ps)) q ≡ Some x
     this q e = coming q ∙ ap (λ b. cond b (Some x) (get (entries_in class (drop (i + 1) ps)) q)) e
 
-    -- what is behind the slot is still to come
+    -- what follows the slot is still to come
     later : (q : List ℕ) → is_some (get (entries_in class (drop (i + 1) ps)) q) ≡ true → is_some (get (entries_in class (drop from ps)) q) ≡ true
     later q e = ap is_some (coming q) ∙ elim (same q (class x.0)) as (λ b. is_some (cond b (Some x) (get (entries_in class (drop (i + 1) ps)) q)) ≡ true) [ true ↦ refl | false ↦ e ]
 

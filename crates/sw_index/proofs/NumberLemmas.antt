@@ -114,7 +114,7 @@ module _ {K : Type 0} (class : K → List ℕ) where
       only = λ c n u e. absurd (none_some (n, u) (sym (ap (λ (m : Entries Numbered (Unit {0})). get m c) none ∙ get-empty _ c) ∙ e));
     }
 
-    -- the number behind all others is not there yet
+    -- the number after all others is not there yet
     pub no_number : (keys : List K) (numbers : Entries Numbered (Unit {0})) (told : ℕ) → IsIndexed class hash keys numbers → get numbers (told ∷ length keys ∷ []) ≡ None
     no_number keys numbers told indexed = at (get numbers (told ∷ length keys ∷ [])) refl
       where
@@ -137,7 +137,7 @@ pub get_last : {K : Type 0} (keys : List K) (k : K) → slice_get (keys ++ k ∷
 get_last [] k = refl
 get_last (x ∷ keys) k = get_last keys k
 
--- what stands in the longer list stood there before, or is the last
+-- what is in the longer list was there before, or is the last
 pub data Stood {K : Type 0} (keys : List K) (k : K) (i : ℕ) (l : K) : Type 0 where
   before : slice_get keys i ≡ Some l → Stood keys k i l
   last : i ≡ length keys → l ≡ k → Stood keys k i l

@@ -1,4 +1,4 @@
--- Keys that go, and a key that comes to the number of another.
+-- Keys that are removed, and a key that takes the number of another.
 use Rattle.std.proofs.Common.{◌≡◌, ◌≢◌, ◌⊎◌, ◌++◌, ◌<◌, ◌≤◌, ◌+◌, ◌-◌, ℕ, zero, suc, Bool, true, false, cond, nat_eq, List, [], ◌∷◌, length, take, set, get_or, swap_remove, Option, Some, None, refl, sym, ap, subst, ◌∙◌, arith, inl, inr}
 use Rattle.std.specs.List.{slice_get}
 use Rattle.std.specs.Cmp.Lexicographic.{nat_list_cmp_total}
@@ -27,7 +27,7 @@ differs c d apart = told (same c d) refl
     told true e = absurd (apart (same_is c d e))
     told false e = refl
 
--- ---- what stands at each number, without one of them
+-- ---- the key at each number, without one of them
 
 abbrev without : {K : Type 0} → (ℕ → Option K) → ℕ → ℕ → Option K
 without at n j = cond (nat_eq j n) None (at j)
@@ -46,7 +46,7 @@ module _ {K : Type 0} where
   ]
 
 module _ {K : Type 0} (class : K → List ℕ) (hash : List ℕ → ℕ) where
-  -- an index, of what stands at each number
+  -- an index, by the key at each number
   record AreNumbered (at : ℕ → Option K) (numbers : Numbers) : Type 0 where
     different : (i j : ℕ) (k l : K) → at i ≡ Some k → at j ≡ Some l → class k ≡ class l → i ≡ j
     each : (i : ℕ) (k : K) → at i ≡ Some k → get numbers (hash (class k) ∷ i ∷ []) ≡ Some (numbered (hash (class k)) i, tt)
@@ -62,7 +62,7 @@ module _ {K : Type 0} (class : K → List ℕ) (hash : List ℕ → ℕ) where
     only = λ c n u e. let known = is.only c n u e in (known.0, (known.1.0, stands n.number ∙ known.1.1, known.1.2));
   }
 
-  -- where no key stands the table has no number
+  -- if a number has no key the table doesn't have the number
   no_number_at : (at : ℕ → Option K) (numbers : Numbers) (h n : ℕ) → at n ≡ None → AreNumbered at numbers → get numbers (h ∷ n ∷ []) ≡ None
   no_number_at at numbers h n none is = told (get numbers (h ∷ n ∷ [])) refl
     where
@@ -100,7 +100,7 @@ module _ {K : Type 0} (class : K → List ℕ) (hash : List ℕ → ℕ) where
             true≢false (sym (same_itself c (hash (class k) ∷ n ∷ []) (known.0 ∙ (λ z. hashes z ∷ here z ∷ []))) ∙ e) in
             (known.0, (known.1.0, without_other at n x.number other ∙ known.1.1, known.1.2))
 
-    -- a key that comes to a number where none stands
+    -- a key that takes a number without a key
     numbered_more : (at' : ℕ → Option K) → at n ≡ None → ((j : ℕ) (l : K) → at j ≡ Some l → class l ≡ class k → ⊥) → at' n ≡ Some k → ((j : ℕ) → j ≢ n → at' j ≡ at j)
         → AreNumbered at' (insert numbers (hash (class k) ∷ n ∷ []) (numbered (hash (class k)) n, tt))
     numbered_more at' free none here others = record {
@@ -115,7 +115,7 @@ module _ {K : Type 0} (class : K → List ℕ) (hash : List ℕ → ℕ) where
         gets : (c : List ℕ) → get (insert numbers (hash (class k) ∷ n ∷ []) (numbered (hash (class k)) n, tt)) c ≡ cond (same c (hash (class k) ∷ n ∷ [])) (Some (numbered (hash (class k)) n, tt)) (get numbers c)
         gets c = get-insert nat_list_cmp_total numbers (hash (class k) ∷ n ∷ []) (numbered (hash (class k)) n, tt) c
 
-        -- what stands there now came, or stood there
+        -- what is there now was added, or was there
         stood : (j : ℕ) (l : K) → at' j ≡ Some l → ((j ≡ n) × (k ≡ l)) ⊎ ((j ≢ n) × (at j ≡ Some l))
         stood j l e = elim (cases_eq j n) [
           | inl it ↦ inl (it, some_is k l (sym here ∙ ap at' (sym it) ∙ e))
@@ -149,7 +149,7 @@ module _ {K : Type 0} (class : K → List ℕ) (hash : List ℕ → ℕ) where
             let other : x.number ≢ n = λ it. none_some known.1.0 (sym free ∙ ap at (sym it) ∙ known.1.1) in
             (known.0, (known.1.0, others x.number other ∙ known.1.1, known.1.2))
 
--- ---- what stands in the shorter list
+-- ---- the keys of the shorter list
 
 module _ {K : Type 0} where
   take_front : (keys : List K) (n j : ℕ) → j < n → slice_get (take n keys) j ≡ slice_get keys j
@@ -218,7 +218,7 @@ module _ {K : Type 0} where
       let n : length (rest ++ k ∷ []) - 1 ≡ length rest = omega (arith, length-append rest (k ∷ [])) in
       ap (slice_get (rest ++ k ∷ [])) n ∙ get_last rest k)
 
-  -- what stands at a number whose key went is the last key, where that is another
+  -- at the number of a removed key is the last key, if that is another
   pub comes_last : (keys : List K) (i : ℕ) (d l : K) → i < length keys → slice_get (swap_remove keys i d) i ≡ Some l → (i + 1 < length keys) × (slice_get keys (length keys - 1) ≡ Some l)
   comes_last keys i d l less there = elim (cases_eq (i + 1) (length keys)) [
     | inl last ↦ absurd (none_some l (sym (last_over keys i i d last ∙ without_here (slice_get keys) i i refl) ∙ there))
@@ -250,7 +250,7 @@ module _ {K : Type 0} {class : K → List ℕ} {hash : List ℕ → ℕ} {keys :
     pub indexed-last : i + 1 ≡ length keys → IsIndexed class hash rest one
     indexed-last last = indexed_of class hash (without (slice_get keys) i) rest one (λ j. ap (λ ks. slice_get ks j) shorter ∙ last_over keys i j k last) (one_less i k h one there hashed gone)
 
-    -- it was another, and the last comes to its number
+    -- it was another, and the last takes its number
     module _ {l : K} {h' n : ℕ} (comes : slice_get rest i ≡ Some l) (hashed' : h' ≡ hash (class l)) (behind : n ≡ length keys - 1) where
       last : (i + 1 < length keys) × (slice_get keys (length keys - 1) ≡ Some l)
       last = comes_last keys i k l (slice_get_within keys i k there) (ap (λ ks. slice_get ks i) (sym shorter) ∙ comes)

@@ -41,7 +41,7 @@ pigeons (suc n) (suc m) f one below =
     (λ i a. squeezed_lt v (f i) m (apart i a) (below i (omega (arith, a))) (below n (omega arith))) in
     omega (arith, ih)
 
--- whether f comes to v below n
+-- whether f reaches v below n
 find_below : (n : ℕ) (f : ℕ → ℕ) (v : ℕ) → ((i : ℕ) × (i < n) × (f i ≡ v)) ⊎ ((i : ℕ) → i < n → f i ≢ v)
 find_below zero f v = inr (λ i lt e. omega (arith, lt))
 find_below (suc n) f v = elim (cases_eq (f n) v) [
@@ -66,7 +66,7 @@ onto (suc n) f one below v lt = elim (find_below (suc n) f v) [
       omega (arith, h))
 ]
 
--- a walk over g groups comes to every group
+-- a walk over g groups reaches every group
 pub comes_to : (h g : ℕ) → IsGroupCount g → VisitsAll h g
 comes_to h g whole group lt =
     onto g (group_number h g) (λ i j a b e. once i j a b e) (λ i _. group_number-lt h g i whole) group lt

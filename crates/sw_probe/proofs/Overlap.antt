@@ -2,7 +2,7 @@
 use Rattle.std.proofs.Common.{◌≡◌, ℕ, ◌+◌, ◌-◌, ◌≤◌, List, ◌++◌, length, take, drop, sym, ap, ◌∙◌, arith}
 use Rattle.std.proofs.lemmas.List.{take-append-drop, drop-drop, take_all, length-drop}
 
--- the front of 8 and the rest from `last` on are all of it, where `last` is at most 8
+-- the first 8 and the rest from `last` on are all of it, if `last` is at most 8
 pub same_by_ends : (xs ys : List ℕ) (last : ℕ) → last ≤ 8 → length xs ≡ last + 8 → length ys ≡ last + 8 → take 8 xs ≡ take 8 ys → take 8 (drop last xs) ≡ take 8 (drop last ys) → xs ≡ ys
 same_by_ends xs ys last le m n front back =
     let whole : drop last xs ≡ drop last ys =

@@ -7,7 +7,7 @@ use Rattle.std.specs.Int.{w64, from_le_bytes}
 use Rattle.sw_probe.specs.Hashes.{number_of}
 use Rattle.sw_probe.specs.Words.{word_at, front_words, words_of}
 
--- the first word of what is left behind a place, each byte by its image
+-- the first word after a place, each byte by its image
 pub word_there : (g : ℕ → ℕ) (bytes rest : List ℕ) (i w : ℕ) → w ≡ from_le_bytes w64 (map g (take 8 rest)) → rest ≡ drop i bytes → w ≡ word_at (map g bytes) i
 unfolding word_at
 word_there g bytes rest i w is there =
@@ -33,7 +33,7 @@ behind_all next start acc w n bytes long count is word =
     ∙ sym (fold-append next (next start (length bytes)) (front_words (max 1 ((length bytes - 1) / 8)) bytes) (word_at bytes (length bytes - 8) ∷ []))
     ∙ ap (λ b. fold next (next start (length bytes)) (cond b (number_of bytes ∷ []) (front_words (max 1 ((length bytes - 1) / 8)) bytes ++ word_at bytes (length bytes - 8) ∷ []))) (sym (not_short (length bytes) long))
 
--- the last word, behind those from the first byte on
+-- the last word, after those from the first byte on
 pub last_word : (next : ℕ → ℕ → ℕ) (start acc w n len : ℕ) (bytes : List ℕ) → length bytes ≡ len → 8 ≤ len → n ≡ max 1 ((len - 1) / 8)
     → acc ≡ fold next (next start len) (front_words n bytes) → w ≡ word_at bytes (len - 8) → next acc w ≡ fold next start (words_of bytes)
 last_word next start acc w n len bytes same long count is word =

@@ -110,7 +110,7 @@ module _ (E : El) {M : Type 1} {𝓤 : Ura M} {𝓛 : Logic 𝓤} {K : Type 0} {
       block_made E t (holding E d i c) b o at_start (still_small E d i c small) $ move t (1 ∷ 0 ∷ []) $ closes t z (BlockRow E) (holding E d i c) (word_of (block_ptr b o) ∷ []) rb ro $ s)
 
 module _ (E : El) {M : Type 1} {𝓤 : Ura M} (𝓛 : Logic 𝓤) (κ : Lft) where
-  -- behind a `&` stand the word and what the block lends
+  -- a `&` to a block shows the word and the borrowed places
   block_shown : (d : BlockOf E) (b o : ℕ) → ent 𝓤 (sem 𝓛 (hidden_shr (BlockRow E) κ d b o)) (sep 𝓤 (sem 𝓛 (hidden_shr RawPtr κ d.start b (o + 0))) (sem 𝓛 (block_lent (R E) d.start d.places κ)))
   block_shown d b o = qed 𝓛 (‵ (hidden_shr (BlockRow E) κ d b o) ∷ []) ∵
       use1 𝓛 (‵ (hidden_shr (Word E) κ (d.start, tt) b o) ⊛ ‵ (fhide (C.the_lent (R E) d d.start κ))) (lent_out 𝓛 (C.struct (R E)) (C.the_codes (el_x E) (R E).coded) (C.the_heap (R E)) (C.the_lent (R E)) κ d b o) $ split ! $

@@ -1,4 +1,4 @@
--- A borrow of a block lends the value of each filled place.
+-- A borrow of a block borrows the value of each filled place.
 use Prim.Native.Nat.{ℕ, ◌+◌}
 use Rattle.std.specs.Prelude.{List, [], ◌∷◌, Option, Some, None}
 use Rattle.std.specs.Mem.{type_size}

@@ -57,7 +57,7 @@ vacant_at {X} n i = none_or (get_or (replicate n None) i None) (λ (x : X) e. ne
 blank_at : (n i : ℕ) → i < n → 128 ≤ slice_index (replicate n EMPTY) i
 blank_at n i lt = omega (arith, get_or-replicate n i EMPTY 0 lt)
 
--- a walk that has come to the end stands so among empty bytes too
+-- a walk that has reached the end is also a walk over empty bytes
 pub walking_blank : (bs : List ℕ) (w : Walk) → IsWalking bs w → ((i : ℕ) → w.from ≤ i → i < length bs → 128 ≤ slice_index bs i) → IsWalking (replicate (length bs) EMPTY) w
 walking_blank bs w is none = record {
   group = (is.group.0, omega (arith, is.group.1, length-replicate (length bs) EMPTY));

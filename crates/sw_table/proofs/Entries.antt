@@ -59,7 +59,7 @@ module _ {K V : Type 0} (class : K → List ℕ) where
   apart_tail : (o : Option (K × V)) (ps : List (Option (K × V))) → Apart (o ∷ ps) → Apart ps
   apart_tail o ps h i j p q a b e = let f = h (suc i) (suc j) p q a b e in omega (arith, f)
 
-  -- the entry at a place behind is of another class
+  -- a later entry is of another class
   apart_head : (x : K × V) (ps : List (Option (K × V))) → Apart (Some x ∷ ps) → (i : ℕ) (p : K × V) → get_or ps i None ≡ Some p → class p.0 ≡ class x.0 → ⊥
   apart_head x ps h i p e is = let f = h (suc i) 0 p x e refl is in omega (arith, f)
 

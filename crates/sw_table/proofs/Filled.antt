@@ -16,7 +16,7 @@ module _ {X : Type 0} where
   next_filled (o ∷ s) (suc from) zero x le none here = absurd (omega (arith, le))
   next_filled (o ∷ s) (suc from) (suc i) x le none here = next_filled s from i x (omega (arith, le)) (λ j a b. none (suc j) (omega (arith, a)) (omega (arith, b))) here
 
-  -- the same, with the place behind it as the code counts it
+  -- the same, with the place after it as the code counts it
   pub filled_on : (s : List (Option X)) (from i : ℕ) (x : X) → from ≤ i → ((j : ℕ) → from ≤ j → j < i → get_or s j None ≡ None) → get_or s i None ≡ Some x → filled (drop from s) ≡ x ∷ filled (drop (i + 1) s)
   filled_on s from i x le none here =
       let behind : suc i ≡ i + 1 = omega arith in

@@ -1,4 +1,4 @@
--- What the full bytes of a group tell of its slots.
+-- What the full bytes of a group say about its slots.
 use Rattle.std.proofs.Common.{◌≡◌, ℕ, ◌+◌, ◌-◌, ◌*◌, ◌<◌, ◌≤◌, Bool, true, false, List, map, length, take, drop, get_or, slice_index, Option, None, IsSome, sym, ap, ◌∙◌, arith}
 use Rattle.std.proofs.lemmas.Bool.{ltb-true, ltb-false}
 use Rattle.std.proofs.lemmas.List.{get_or-map, length-map}

@@ -1,4 +1,4 @@
--- What the lanes of a group tell of the bytes, and what a full table would be.
+-- What the lanes of a group say about the bytes, and what a full table would be.
 use Rattle.std.proofs.Common.{◌≡◌, ◌≢◌, ℕ, suc, ◌+◌, ◌*◌, ◌/◌, ◌%◌, ◌^◌, ◌<◌, ◌≤◌, Bool, true, false, cond, not, List, [], ◌∷◌, map, length, take, drop, get_or, slice_index, nat_eq, nat_lt, count_by, Option, Some, None, is_some, refl, sym, ap, ◌∙◌, subst, arith, inl, inr}
 use mathlib.Core.Bool.{true≢false}
 use native.Mathlib.Decide.{dec_lt}
@@ -50,7 +50,7 @@ passed_upto bs h n index at e before here m le = elim (dec_lt m index) [
   | no ge ↦ let same : m ≡ index = omega (arith, ge, le) in subst (NoFree bs) (e ∙ ap (group_number h n) (sym same)) here
 ]
 
--- a walk that cannot go on stands at the last group
+-- a walk that can't advance is at the last group
 pub walk_ends : (b : Bool) (i n : ℕ) → b ≡ false → (i + 1 < n → b ≡ true) → n ≤ i + 1
 walk_ends b i n e more = elim (dec_lt (i + 1) n) [
   | yes lt ↦ absurd (true≢false (sym (more lt) ∙ e))

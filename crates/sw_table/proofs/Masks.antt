@@ -1,4 +1,4 @@
--- What the lowest lane of a mask tells.
+-- What the lowest lane of a mask says.
 use Rattle.std.proofs.Common.{◌≡◌, ℕ, ◌<◌, Bool, false, not, cond, List, length, set, get_or, count_by, Some, None, sym, ap, ◌∙◌, arith}
 use Rattle.std.specs.List.{position, position_or_len, prefix_len}
 use Rattle.std.proofs.lemmas.Bool.{lt-ltb, le-ltb, not-true}

@@ -26,7 +26,7 @@ never_filled {X = X} n i x e = elim (dec_lt i n) [
 ]
 
 module _ {K V : Type 0} (class : K → List ℕ) where
-  -- what stands in one list stands in the other
+  -- what is in one list is in the other
   abbrev pub Within : List (Option (K × V)) → List (Option (K × V)) → Type 0
   Within ps qs = (i : ℕ) (p : K × V) → get_or ps i None ≡ Some p → (j : ℕ) × (get_or qs j None ≡ Some p)
 

@@ -35,7 +35,7 @@ pub which : (j i : ℕ) → (j ≡ i) ⊎ (j ≢ i)
 which = cases_eq
 
 module _ {K V : Type 0} (ps : List (Option (K × V))) (i : ℕ) (p : K × V) (there : get_or ps i None ≡ Some p) (q : K × V) where
-  -- what stands at a place once another entry stands at i
+  -- what is at a place once another entry is at i
   stands : (j : ℕ) (r : K × V) → get_or (set ps i (Some q)) j None ≡ Some r → ((j ≡ i) × (q ≡ r)) ⊎ ((j ≢ i) × (get_or ps j None ≡ Some r))
   stands j r e = elim (which j i) [
     | inl here ↦ inl (here, some_is (sym (get_or-set_at ps i j (Some q) None here (some_within ps i p there)) ∙ e))
@@ -49,7 +49,7 @@ module _ {K V : Type 0} (ps : List (Option (K × V))) (i : ℕ) (p : K × V) (th
   ]
 
   module _ (class : K → List ℕ) (hash : List ℕ → ℕ) (bs : List ℕ) (len used : ℕ) (it : IsTable class hash ps bs len used) where
-    -- its key has the hash of the one that stood there, and no other entry is of its class
+    -- its key has the hash of the one that was there, and no other entry is of its class
     pub IsTable-changed : hash (class q.0) ≡ hash (class p.0) → ((j : ℕ) (r : K × V) → j ≢ i → get_or ps j None ≡ Some r → class q.0 ≡ class r.0 → ⊥) → IsTable class hash (set ps i (Some q)) bs len used
     IsTable-changed alike alone = let t = it.laid in record {
       laid = record {

@@ -1,4 +1,4 @@
--- What a search of the groups tells.
+-- What a search of the groups says.
 use Rattle.std.proofs.Common.{◌≡◌, ◌≢◌, ℕ, ◌+◌, ◌*◌, ◌/◌, ◌%◌, ◌<◌, ◌≤◌, ◌⊎◌, Bool, true, false, List, map, length, take, drop, get_or, slice_index, nat_eq, Option, Some, None, IsSome, sym, ap, ◌∙◌, subst, arith, inl, inr}
 use mathlib.Core.Bool.{true≢false}
 use native.Mathlib.Nat.{mod-lt}

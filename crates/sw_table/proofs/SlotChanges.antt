@@ -77,7 +77,7 @@ module _ {K V : Type 0} (class : K → List ℕ) (hash : List ℕ → ℕ) (ps :
     unfolding low
     never e none = omega (arith, low, e)
 
-    -- what stands at a place now
+    -- what is at a place now
     was : (j : ℕ) (q : K × V) → get_or (set ps i (Some p)) j None ≡ Some q → ((j ≡ i) × (p ≡ q)) ⊎ ((j ≢ i) × (get_or ps j None ≡ Some q))
     was j q e = elim (which j i) [
       | inl here ↦ inl (here, some_is (sym (get_or-set_at ps i j (Some p) None here within) ∙ e))

@@ -14,7 +14,7 @@ use Rattle.gq_shell.specs.Streams.{Stream}
 use Rattle.gq_shell.specs.declared.checking.CheckStop.{CheckStop}
 use Rattle.gq_shell.proofs.checking.tell_all.Goals as goal
 
--- after an error a front was told
+-- after an error a prefix was written
 stopped : (name : Bytes) (script : Option Bytes) (replies : Stream) (r : Result Bool CheckStop) → IsErr r → IfSome script (λ bytes. ToldFront name bytes replies) → ToldReports name script replies r
 stopped name script replies (Ok any) is front = absurd (true≢false (sym is))
 stopped name script replies (Err why) is front = front

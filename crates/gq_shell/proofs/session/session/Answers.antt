@@ -4,7 +4,7 @@ use Rattle.gq_shell.specs.Streams.{GotFront, Stream, Told, stream}
 use Rattle.gq_shell.specs.declared.telling.CutShort.{CutShort}
 use Rattle.gq_shell.proofs.session.session.Goals as goal
 
--- all of a text is a front of it
+-- all of a text is a prefix of it
 told-front : (s : Stream) (text : List ℕ) (r : Result (Unit {0}) CutShort) → Told s text r → GotFront s text
 told-front s text (Ok done) got = record { front = text; rest = []; is = sym (append-nil text); appends = got }
 told-front s text (Err fault) front = front

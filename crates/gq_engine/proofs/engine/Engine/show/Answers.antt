@@ -18,7 +18,7 @@ use Rattle.gq_engine.proofs.OrderLemmas.{same_tables}
 use Rattle.gq_engine.proofs.StepLemmas.{no_memory, refuses, carries}
 use Rattle.gq_engine.proofs.engine.Engine.show.Goals as goal
 
--- what showing a table of the database comes to
+-- the result of showing a table of the database
 shown_comes : (db : Database) (name : List ℕ) (table : PlainTable) (result : Result Reply Refused) → table_at db name ≡ Some table
     → IfOk result (λ answer. answer ≡ reply.Rows (column_names table.schema.columns) (rows_shown table)) → IfErr result (λ why. why ≡ unnumbered Memory) → Comes (show_table db name) result db db
 shown_comes db name table (Ok (reply.Rows header rows)) found told lost = carries (show_table db name) (reply.Rows header rows) db db (show_gives db name table found ∙ ap (λ (r : Reply). Ok (db, r)) (sym told)) (same_tables db)

@@ -10,7 +10,7 @@ module _ {K : Type 0} (keys seen : List K) (i : ℕ) (k : K) (same : keys ≡ se
   was_there : i < length seen → k ≡ get_or keys i k → slice_get keys i ≡ Some k
   was_there less at = slice_get_read keys (length keys) i k refl (omega (arith, less, ap length same)) at
 
-  -- the key that comes to its number
+  -- the key that takes its number
   comes : true ≡ nat_lt i (length keys) → k ≡ get_or keys i k → slice_get seen i ≡ Some k
   comes less at = ap (λ ks. slice_get ks i) (sym same) ∙ slice_get_read keys (length keys) i k refl (grind (arith, nat_tests)) at
 

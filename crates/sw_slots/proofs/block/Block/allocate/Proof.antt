@@ -121,7 +121,7 @@ module _ (E : El) (Z : Al) where
         let locals : Env 𝓤 H = env body.locals l in
         let cases : Body = head (after 2 body.body) in
         let Onward : After 𝓤 H = any_q (after_seq 𝓤 H (Wp 𝓤 H 𝓣.C 𝓣.Λ locals (after 3 body.body) (at_return 𝓤 H locals Post)) (at_return 𝓤 H locals Post)) in
-        -- the handle is lent to `allocate`, which answers a block or a refusal
+        -- `allocate` borrows the handle, and returns a block or a refusal
         let call : (Takes Z 𝓛 at_mem run).Ghost = at_takes Z 𝓛 at_mem run κ q handle alloc (len * each) alignment (block_ty E len) in
         sets ! (is ! (bin ! (get ! refl) (size_word !) (record { fits = subst (λ (k : ℕ). k < 2 ^ 64) (sym (uncapped len each bytes)) bytes })) (ap (vint w64) (uncapped len each bytes))) refl (tt, record { fits = bytes }) $
         use2 𝓛 (raw ((Takes Z 𝓛 at_mem run).pre call)) (Takes-goes Z 𝓛 at_mem run κ q handle alloc (Incl-trans z.0.2.0 inside) (len * each) alignment (block_ty E len) (block_size E len bytes) (block_align E len) bytes (capped_fits (align (elτ E)))) $

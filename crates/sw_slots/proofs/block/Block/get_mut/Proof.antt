@@ -1,4 +1,4 @@
--- `get_mut` lends the value of a filled place, and the block follows it.
+-- `get_mut` borrows the value of a filled place, and the block follows it.
 use mathlib.Core.Path.{◌≡◌, refl}
 use Prim.Native.Nat.{ℕ, ◌+◌, ◌*◌, ◌<◌, ◌^◌}
 use mathlib.Core.List.{List, [], ◌∷◌}
@@ -105,7 +105,7 @@ module _ (E : El) where
         sets ! (bin ! (get ! refl) (size_lit ! (record { fits = offset.0 })) (record { fits = offset.1 })) refl (tt, record { fits = offset.1 }) $ sets ! (bin ! (get ! refl) (get ! refl) tt) refl (tt, tt) $
         sets_last ! (addr ! (through ! refl (stop !))) refl (tt, tt) $
         exec ! 𝓣.C 𝓣.Λ (env body.locals l) (after 1 body.body) (at_ret (env body.locals l) ((walk_of 𝓛 ended stays held).post (words z))) $ sets ! (of_opd ! (get ! refl)) refl (tt, tt) $
-        -- the value is lent out of the block's own loan, to which it comes back
+        -- the value is borrowed from the block's own loan, to which it returns
         move ! (1 ∷ 2 ∷ []) $ fjoin ! $ move ! (2 ∷ 3 ∷ 4 ∷ 1 ∷ 0 ∷ []) $ group ! 5 $
         use1 𝓛 (later (some (λ (δ : GName). ‵ ((MutRef (named 0) κ (R E)).own_val (record { ref_ptr = (b, at); ghost_name = δ; now = x }) (vptr b at ∷ [])) ⊛ ‵ (flft κ q) ⊛ ‵ (follows (BlockRow E) (R E) γ δ (writes E d i)))))
         (lends_Part 𝓛 (BlockRow E) (R E) (writes E d i) (named 0) κ q rb ro b at γ (sem 𝓛 (Rest E d i 𝓛 rb ro b o)) (back E d i 𝓛 rb ro b o at_start within small) ((BlockRow E).coded.code d) ((BlockRow E).coded.code d) x) $

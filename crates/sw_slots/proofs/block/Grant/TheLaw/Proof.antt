@@ -1,4 +1,4 @@
--- A `&` to a grant lends nothing.
+-- A `&` to a grant borrows nothing.
 use denote.RattleType.{RattleType}
 use denote.RawPtr.{RawPtr}
 use denote.Param.Laws.{Laws}

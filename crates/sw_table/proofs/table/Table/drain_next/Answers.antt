@@ -10,7 +10,7 @@ use Rattle.sw_table.proofs.Walking.{walking_kept}
 use Rattle.sw_table.proofs.table.Table.drain_next.Goals as goal
 use Rattle.sw_table.proofs.table.Table.drain_next.Goals.{then-self-gt0, else-self-gt0}
 
--- nothing stands before the walk, and nothing from there on
+-- nothing is before the walk, and nothing from there on
 nothing : {K V H : Type 0} (t : View K V H) (from : ℕ) → ((i : ℕ) → i < from → entry_at t i ≡ None) → ((i : ℕ) → from ≤ i → entry_at t i ≡ None) → (i : ℕ) → entry_at t i ≡ None
 nothing t from before behind i = elim (dec_lt i from) [ yes lt ↦ before i lt | no ge ↦ behind i (omega (arith, ge)) ]
 
