@@ -3,8 +3,8 @@
 
     definitions.py [CRATE]..      those that public contracts use, then those that only contracts within a crate use
     definitions.py --under NAME   NAME and the definitions that it rests on; NAME is one as Ran, or CRATE.FILE.NAME
-    definitions.py --check        prints nothing; status 1 if a definition has no comment, or if a quote in
-                                  docs/DEFINITIONS.md isn't in the file that its first line names
+    definitions.py --check        prints nothing; status 1 if a definition has no comment, or if docs/DEFINITIONS.md quotes or
+                                  names what isn't in the file that it says
 
 A definition without a comment belongs to the one before it, and the first of a file to the head of the file. A public
 contract is one of an exported function, trait or type; it uses a definition if a clause names it, or another that rests on it.
@@ -25,6 +25,8 @@ IMPORT = re.compile(r"use Rattle\.(\w+\.specs\.[\w.]+)\.\{([^}]*)\}")
 ITEM = re.compile(r"^(?:pub )?(?:unsafe )?(impl|trait|fn|struct|enum)\b(.*)", re.M)
 WORD = re.compile(r"[^\s(){}\[\],;.`\"]+")
 QUOTE = re.compile(r"^```antt\n-- (\S+)\n(.*?)^```$", re.M | re.S)
+# `name` of `crate` `File`, or `crate` `File` alone.
+NAMED = re.compile(r"(?:`(\w+)`\s+of\s+)?`((?:gq|sw)_\w+)`\s+`([A-Z]\w+)`")
 
 # A crate, a file of its specs, and a name.
 Name = tuple[str, str, str]
@@ -171,7 +173,12 @@ def mistakes(specs: Specs) -> Iterator[str]:
     """What --check finds."""
     for (crate, file), groups in specs.groups.items():
         yield from (f"{crate} {file}: no comment on {group.names[0]}" for group in groups if not group.comment)
-    quotes = QUOTE.findall(PAGE.read_text())
+    page = PAGE.read_text()
+    for name, crate, file in NAMED.findall(page):
+        names = {other for group in specs.groups.get((crate, file), ()) for other in group.names}
+        if not names or (name and name not in names):
+            yield f"{PAGE.name} names {name or 'definitions'} of {crate} {file}, which isn't there"
+    quotes = QUOTE.findall(page)
     if not quotes:
         yield f"{PAGE.name} quotes nothing"
     for name, quote in quotes:
