@@ -1,4 +1,4 @@
--- Values in one list, as they are stored and lent.
+-- Values in one list, as they are stored and borrowed.
 use Rattle.std.specs.Prelude.{ℤ, List, Option, None, Some, map}
 use Rattle.gq_row.specs.declared.value.Value.{Value}
 use Rattle.gq_row.specs.declared.value.Value.TheVariants.{Null, Int, Text, NoCase}
@@ -15,14 +15,14 @@ abbrev pub number_cell : Option ℤ → Value
 number_cell None = Null
 number_cell (Some n) = Int n
 
--- a text
+-- a value is a text
 abbrev pub IsText : Value → Type 0
 IsText Null = ⊥
 IsText (Int n) = ⊥
 IsText (Text t) = Unit {0}
 IsText (NoCase t) = Unit {0}
 
--- the value that is lent
+-- the value that a reference refers to, and the values that a list stores
 abbrev pub value_of : CellRef → Value
 value_of lent.Null = Null
 value_of (lent.Int n) = Int n
@@ -35,28 +35,28 @@ cells_of (Nullable numbers) = map number_cell numbers.items
 cells_of (Values values) = values.items
 cells_of (Tagged values) = values
 
--- values that are lent together
+-- the values of a borrowed range
 abbrev pub slice_values : CellSlice → List Value
 slice_values (together.Numbers numbers) = map Int numbers.now
 slice_values (together.Nullable numbers) = map number_cell numbers.now
 slice_values (together.Values values) = values.now
 slice_values (together.Tagged words overflow) = map (word_value overflow.now) words.now
 
--- stored as numbers among which null may stand
+-- values are stored as numbers and nulls
 abbrev pub HasNullable : Stored → Type 0
 HasNullable (Numbers numbers) = ⊥
 HasNullable (Nullable numbers) = Unit {0}
 HasNullable (Values values) = ⊥
 HasNullable (Tagged values) = ⊥
 
--- stored as values
+-- values are stored as such
 abbrev pub HasValues : Stored → Type 0
 HasValues (Numbers numbers) = ⊥
 HasValues (Nullable numbers) = ⊥
 HasValues (Values values) = Unit {0}
 HasValues (Tagged values) = ⊥
 
--- stored so that texts may stand among them
+-- values are stored in a layout that admits texts
 abbrev pub HasTexts : Stored → Type 0
 HasTexts (Numbers numbers) = ⊥
 HasTexts (Nullable numbers) = ⊥

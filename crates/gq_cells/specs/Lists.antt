@@ -3,7 +3,7 @@ use Rattle.std.specs.Prelude.{◌-◌, ◌≤◌, ℕ, List, length, take, drop}
 use Rattle.gq_cells.specs.declared.rows.Span.{Span}
 use Rattle.gq_row.specs.declared.value.Value.{Value}
 
--- what stands from one position up to another
+-- the elements of a list from one position up to another, which is left out
 abbrev pub part : {X : Type 0} → List X → ℕ → ℕ → List X
 part xs start end = take (end - start) (drop start xs)
 
@@ -11,6 +11,6 @@ part xs start end = take (end - start) (drop start xs)
 abbrev pub IsPart : {X : Type 0} → List X → Span → Type 0
 IsPart xs span = (span.start ≤ span.end) × (span.end ≤ length xs)
 
--- the row that stands there
+-- the row at a span of a list of cells
 abbrev pub row_at : List Value → Span → List Value
 row_at cells span = part cells span.start span.end

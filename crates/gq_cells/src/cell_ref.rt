@@ -1,4 +1,4 @@
-//! A value where it stands.
+//! References to values.
 ghost use Rattle.std.specs.Prelude.{◌≡◌, IsOk, OnOk};
 ghost use Rattle.gq_row.specs.Written.{IsInPlace};
 ghost use Rattle.gq_cells.specs.Cells.{number_cell, value_of};
@@ -6,7 +6,7 @@ ghost use Rattle.gq_cells.specs.Cells.{number_cell, value_of};
 use gq_row::{Text, Value};
 use std::alloc::{AllocError, Global};
 
-/// A value that is lent where it stands: a number by itself, a text as its list has it.
+/// A reference to a value in a list: a number is copied, a text is borrowed.
 #[derive(Clone, Copy)]
 pub enum CellRef<'a> {
     Null,
@@ -16,7 +16,7 @@ pub enum CellRef<'a> {
 }
 
 impl<'a> CellRef<'a> {
-    /// A value, lent.
+    /// A reference to a value.
     #[inline(always)]
     pub fn of(value: &'a Value) -> CellRef<'a>
         ensures { value_of result ≡ value.now }
@@ -29,7 +29,7 @@ impl<'a> CellRef<'a> {
         }
     }
 
-    // Writes it over another value.
+    // Overwrites a value with this one.
     #[inline(always)]
     pub(crate) fn copy_to(self, alloc: Global, over: &mut Value) -> Result<(), AllocError>
         ensures copied { OnOk result (over.new ≡ value_of self.entry) }

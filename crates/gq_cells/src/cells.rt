@@ -17,13 +17,13 @@ use std::cmp::Ordering;
 use std::marker::Model;
 use std::mem;
 
-/// Values one behind the other, seen as their list. As long as all are numbers each takes eight bytes, from the first
-/// null on sixteen, and from the first text on as much as a [`Value`], or, where texts are apart, eight bytes and each text
-/// a [`Value`] more.
+/// A list of values. Each takes eight bytes while all are numbers, sixteen from the first null on, and a [`Value`]'s
+/// size from the first text on. If texts are out of line, each takes eight bytes then, and those without a word a
+/// [`Value`] more.
 #[derive(Drop)]
 pub struct Cells {
     stored: Stored,
-    // Whether texts are apart from numbers.
+    // Whether texts are stored out of line.
     apart: bool,
 }
 
@@ -46,7 +46,7 @@ impl Model for Cells {
 }
 
 impl Cells {
-    /// No value. It takes no memory.
+    /// An empty list. It takes no memory.
     pub fn new(alloc: Global) -> Cells
         ensures { result ≡ [] }
     {
@@ -66,7 +66,7 @@ impl Cells {
         }
     }
 
-    /// These values, without a copy. Those that are put behind them take as much each, numbers too.
+    /// These values, without a copy. All that are appended to them take a [`Value`]'s size, numbers too.
     pub fn of(values: Vec<Value>) -> Cells
         ensures { result ≡ values.items }
     {
@@ -76,7 +76,7 @@ impl Cells {
         }
     }
 
-    /// The vector of the values. They are copied, unless each takes as much as a [`Value`].
+    /// The vector of the values. They are copied unless they are stored as [`Value`]s.
     pub fn into_values(self, alloc: Global) -> Result<Vec<Value>, AllocError>
         ensures { IfOk result (λ values. values.items ≡ self) }
     {
@@ -88,7 +88,7 @@ impl Cells {
         }
     }
 
-    /// How many there are.
+    /// The number of values.
     #[inline]
     pub fn len(&self) -> usize
         ensures { result ≡ length self.now }
@@ -115,7 +115,7 @@ impl Cells {
         }
     }
 
-    // The values of a part where they stand.
+    // Borrows a range of the values.
     #[inline(always)]
     pub(crate) fn lend(&self, part: Span) -> CellSlice<'_>
         requires { IsPart self.now part }
@@ -132,7 +132,7 @@ impl Cells {
         }
     }
 
-    /// Makes room for this number of values more.
+    /// Reserves room for `cells` more values.
     pub fn reserve(&mut self, cells: usize) -> Result<(), AllocError>
         ensures { self.new ≡ self.old }
     {
@@ -144,8 +144,7 @@ impl Cells {
         }
     }
 
-    /// Writes the value at a position, counted from 0, over another. Only a text of more than 22 bytes takes
-    /// memory, where the value has not enough.
+    /// Overwrites `over` with the value at a position, counted from 0. Only a text longer than 22 bytes may allocate.
     #[inline(always)]
     pub fn copy_to(
         &self,
@@ -171,7 +170,7 @@ impl Cells {
         }
     }
 
-    /// Puts a value behind the others. A text moves out of the place that is lent.
+    /// Appends a value. A text moves out of `value`.
     #[inline(always)]
     pub fn push(&mut self, alloc: Global, value: &mut Value) -> Result<(), AllocError>
         ensures pushed { OnOk result (self.new ≡ self.old ++ value.old ∷ []) }
@@ -198,8 +197,7 @@ impl Cells {
         self.stored.push_wide(alloc, self.apart, value)
     }
 
-    /// Puts some values behind the others. They move out of the slice that is lent, and what is left there is of no
-    /// value. Refused, some may stand behind the others.
+    /// Moves `values` to the end. On error a prefix of them may have been appended; what they hold then is unspecified.
     #[inline(always)]
     pub fn push_all(&mut self, alloc: Global, values: &mut [Value]) -> Result<(), AllocError>
         ensures pushed { OnOk result (self.new ≡ self.old ++ values.old) }
@@ -211,7 +209,7 @@ impl Cells {
         Ok(())
     }
 
-    /// Puts the values of another list behind these, out of which they move. Texts that are apart from numbers are copied.
+    /// Moves all values of another list to the end. Texts that are stored out of line are copied.
     pub fn append(&mut self, alloc: Global, more: Cells) -> Result<(), AllocError>
         ensures appended { OnOk result (self.new ≡ self.old ++ more) }
         ensures unchanged { OnErr result (self.new ≡ self.old) }
@@ -220,8 +218,8 @@ impl Cells {
         self.stored.append(alloc, &mut more.stored)
     }
 
-    /// Writes the values of a part over those of a list. Where that is as long, only texts of more than 22 bytes take
-    /// memory.
+    /// Overwrites `over` with the values of a range. If both have one length, only texts longer than 22 bytes may
+    /// allocate.
     pub fn copy_part(
         &self,
         alloc: Global,
@@ -237,13 +235,13 @@ impl Cells {
         self.write_over(alloc, part.start, over.as_mut_slice())
     }
 
-    // Writes those from a position on over as many others.
+    // Overwrites `over` with the values from a position on.
     fn write_over(&self, alloc: Global, start: usize, over: &mut [Value]) -> Result<(), AllocError>
         requires { start + length over.old ≤ length self.now }
         ensures copied { OnOk result (over.new ≡ part self.now start (start + length over.old)) }
         ensures in_place { All IsInPlace (part self.now start (start + length over.old)) → IsOk result }
     {
-        // Positions are those of a list in memory.
+        // All positions are within a list in memory, so this sum can't overflow.
         let _all = self.len();
         for i in 0..over.len() {
             self.copy_to(alloc, start + i, &mut over[i])?;
@@ -251,7 +249,7 @@ impl Cells {
         Ok(())
     }
 
-    /// The order of two parts, as of keys: from the left, a list before each longer one that begins with it.
+    /// Compares two ranges as keys: lexicographic, a list before each longer one that begins with it.
     pub fn compare(&self, a: Span, b: Span) -> Ordering
         requires { IsPart self.now a × IsPart self.now b }
         ensures { result ≡ compare_keys (row_at self.now a) (row_at self.now b) }
@@ -270,7 +268,7 @@ impl Cells {
         }
     }
 
-    /// Leaves out all values but the first, so many.
+    /// Keeps the first `cells` values.
     pub fn truncate(&mut self, cells: usize)
         ensures { self.new ≡ take cells self.old }
     {
@@ -286,7 +284,7 @@ impl Cells {
 impl Stored {
     ghost use Rattle.gq_cells.specs.Cells.{HasNullable, HasTexts, HasValues, cells_of};
 
-    // Puts a cell behind the others, for which there is no place among these as they are stored.
+    // Appends a value that the present layout can't store.
     #[cold]
     fn push_wide(&mut self, alloc: Global, apart: bool, value: &mut Value) -> Result<(), AllocError>
         ensures pushed { OnOk result (cells_of self.new ≡ cells_of self.old ++ value.old ∷ []) }
@@ -315,7 +313,7 @@ impl Stored {
         }
     }
 
-    // Stores numbers so that null may stand among them.
+    // Changes the layout to one that stores null among numbers.
     fn admit_null(&mut self, alloc: Global) -> Result<(), AllocError>
         requires { HasTexts self.old → ⊥ }
         ensures wide { OnOk result (HasNullable self.new) }
@@ -327,7 +325,7 @@ impl Stored {
         Ok(())
     }
 
-    // Stores numbers so that texts may stand apart from them.
+    // Changes the layout to one with texts out of line, unless it stores texts already.
     fn admit_texts_apart(&mut self, alloc: Global) -> Result<(), AllocError>
         ensures wide { OnOk result (HasTexts self.new) }
         ensures same { cells_of self.new ≡ cells_of self.old }
@@ -344,7 +342,7 @@ impl Stored {
         Ok(())
     }
 
-    // Stores numbers as values, and texts that are apart too.
+    // Changes the layout to one of `Value`s.
     fn admit_texts(&mut self, alloc: Global) -> Result<(), AllocError>
         ensures wide { OnOk result (HasValues self.new) }
         ensures same { cells_of self.new ≡ cells_of self.old }
@@ -364,7 +362,7 @@ impl Stored {
         Ok(())
     }
 
-    // Puts other cells behind these: numbers behind numbers, and else values behind values.
+    // Appends all of `more`. Numbers and nulls keep their layout; if there are texts, all become `Value`s.
     fn append(&mut self, alloc: Global, more: &mut Stored) -> Result<(), AllocError>
         ensures appended { OnOk result (cells_of self.new ≡ cells_of self.old ++ cells_of more.old) }
         ensures unchanged { OnErr result (cells_of self.new ≡ cells_of self.old) }
@@ -396,7 +394,7 @@ impl Stored {
     }
 }
 
-// The cell of a number, or null.
+// The value of a number, or null.
 #[inline]
 fn cell_of(number: Option<i64>) -> Value
     ensures { result ≡ number_cell number }
@@ -407,7 +405,7 @@ fn cell_of(number: Option<i64>) -> Value
     }
 }
 
-// The number of a cell, where it is one or null.
+// The number of a value, or null; `None` for a text.
 #[inline]
 fn number_of(value: &Value) -> Option<Option<i64>>
     ensures some { IfSome result (λ number. number_cell number ≡ value.now) }
@@ -444,14 +442,14 @@ pub(crate) fn push_value(values: &mut Vec<Value>, value: &mut Value) -> Result<(
     ensures unchanged { OnErr result (values.new.items ≡ values.old.items) }
 {
     match value {
-        // A number moves by itself.
+        // Copies the number, and not the whole `Value`.
         Value::Int(n) => values.push(Value::Int(*n))?,
         value => values.push(mem::replace(value, Value::Null))?,
     }
     Ok(())
 }
 
-// Numbers among which null may stand, with room for as many as the numbers have.
+// Numbers in the layout that admits null, with capacity for no more. So are the next four.
 fn nullable_of(alloc: Global, numbers: &[i64]) -> Result<Vec<Option<i64>>, AllocError>
     ensures { IfOk result (λ cells. map number_cell cells.items ≡ map Int numbers.now) }
 {
@@ -462,7 +460,7 @@ fn nullable_of(alloc: Global, numbers: &[i64]) -> Result<Vec<Option<i64>>, Alloc
     Ok(cells)
 }
 
-// Numbers as values, with room for as many as the numbers have.
+// Numbers as `Value`s.
 fn values_of(alloc: Global, numbers: &[i64]) -> Result<Vec<Value>, AllocError>
     ensures { IfOk result (λ values. values.items ≡ map Int numbers.now) }
 {
@@ -473,7 +471,7 @@ fn values_of(alloc: Global, numbers: &[i64]) -> Result<Vec<Value>, AllocError>
     Ok(values)
 }
 
-// Numbers and null as values, likewise.
+// Numbers and nulls as `Value`s.
 fn values_of_nullable(alloc: Global, numbers: &[Option<i64>]) -> Result<Vec<Value>, AllocError>
     ensures { IfOk result (λ values. values.items ≡ map number_cell numbers.now) }
 {
@@ -484,7 +482,7 @@ fn values_of_nullable(alloc: Global, numbers: &[Option<i64>]) -> Result<Vec<Valu
     Ok(values)
 }
 
-// Numbers from which texts may stand apart, likewise.
+// Numbers as tagged words.
 fn tagged_of(alloc: Global, numbers: &[i64]) -> Result<TaggedCells, AllocError>
     ensures { IfOk result (λ values. values ≡ map Int numbers.now) }
 {
@@ -496,7 +494,7 @@ fn tagged_of(alloc: Global, numbers: &[i64]) -> Result<TaggedCells, AllocError>
     Ok(values)
 }
 
-// And numbers and null.
+// Numbers and nulls as tagged words.
 fn tagged_of_nullable(alloc: Global, numbers: &[Option<i64>]) -> Result<TaggedCells, AllocError>
     ensures { IfOk result (λ values. values ≡ map number_cell numbers.now) }
 {

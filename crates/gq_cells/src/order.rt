@@ -7,21 +7,21 @@ ghost use Rattle.gq_cells.specs.Cells.{number_cell};
 
 use std::cmp::Ordering;
 
-/// That of lists of values which are numbers.
+/// The order of two lists of numbers, as of keys.
 pub(crate) fn compare_numbers(a: &[i64], b: &[i64]) -> Ordering
     ensures { result ≡ compare_keys (map Int a.now) (map Int b.now) }
 {
     compare_each(a, b)
 }
 
-/// And of those which are numbers or null.
+/// The order of two lists of numbers and nulls, as of keys.
 pub(crate) fn compare_nullable(a: &[Option<i64>], b: &[Option<i64>]) -> Ordering
     ensures { result ≡ compare_keys (map number_cell a.now) (map number_cell b.now) }
 {
     compare_each(a, b)
 }
 
-// From the left, a list before each longer one that begins with it.
+// Lexicographic: a list comes before each longer one that begins with it.
 fn compare_each<T: Ord>(a: &[T], b: &[T]) -> Ordering
     ensures { result ≡ slice_cmp T.cmp a.now b.now }
 {

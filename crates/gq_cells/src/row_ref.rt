@@ -1,4 +1,4 @@
-//! A row where it stands.
+//! References to rows.
 ghost use Rattle.std.specs.Prelude.{◌≡◌, ◌<◌, ◌==◌, length, slice_index_or};
 ghost use Rattle.gq_row.specs.Rows.{cell};
 ghost use Rattle.gq_cells.specs.Cells.{slice_values, value_of};
@@ -11,19 +11,19 @@ use crate::tagged_cells::lend_word;
 use gq_row::Value;
 use std::marker::Model;
 
-/// A reference to a row in a list of rows, seen as the list of its values.
+/// A reference to a row of a list, seen as the list of its values.
 #[derive(Drop)]
 pub struct RowRef<'a> {
     cells: CellSlice<'a>,
 }
 
-// A part of a list of values. How they are stored is said once for all of them.
+// A range of a list of values, borrowed; the variant says how all of them are stored.
 #[derive(Clone, Copy)]
 pub(crate) enum CellSlice<'a> {
     Numbers(&'a [i64]),
     Nullable(&'a [Option<i64>]),
     Values(&'a [Value]),
-    // Words, and their overflow.
+    // Words and their overflow.
     Tagged(&'a [u64], &'a [Value]),
 }
 
@@ -38,7 +38,7 @@ impl<'a> Model for RowRef<'a> {
 }
 
 impl<'a> RowRef<'a> {
-    // The row that stands at a span of a list of values.
+    // The row at a span of a list of values.
     #[inline(always)]
     pub(crate) fn new(cells: &'a Cells, span: Span) -> RowRef<'a>
         requires { IsPart cells.now span }
@@ -49,7 +49,7 @@ impl<'a> RowRef<'a> {
         }
     }
 
-    /// The number of its values.
+    /// The number of values.
     #[inline(always)]
     pub fn len(&self) -> usize
         ensures { result ≡ length self.now }

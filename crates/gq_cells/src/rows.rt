@@ -10,16 +10,15 @@ use gq_row::Value;
 use std::alloc::{AllocError, Global};
 use std::marker::Model;
 
-/// Where a row stands in a list of cells: from the first position up to the second, which it leaves out.
+/// The range of a row's cells in a list: `start` is included, `end` isn't.
 #[derive(Clone, Copy)]
 pub struct Span {
     pub start: usize,
     pub end: usize,
 }
 
-/// Rows whose cells stand one behind the other in one list, seen as the list of rows. They take two
-/// requests for memory in all, where a [`Row`](gq_row::Row) of each would take one a row. What moves,
-/// swaps or leaves out rows moves spans, and no cell.
+/// Rows whose cells are stored one after the other in one list, seen as the list of rows. They take two allocations
+/// in all, a list of [`Row`](gq_row::Row) one for each row. Swapping or removing rows moves spans, and no cell.
 #[derive(Drop)]
 pub struct Rows {
     cells: Cells,
@@ -39,7 +38,7 @@ impl Model for Rows {
 }
 
 impl Rows {
-    /// No row. It takes no memory.
+    /// An empty list. It takes no memory.
     pub fn new(alloc: Global) -> Rows
         ensures { result ≡ [] }
     {
@@ -49,7 +48,7 @@ impl Rows {
         }
     }
 
-    /// The rows that stand at these spans of a list of cells, without a copy.
+    /// The rows at these spans of a list of cells, without a copy.
     pub fn of(cells: Cells, spans: Vec<Span>) -> Rows
         requires { All (IsPart cells) spans.items }
         ensures { result ≡ map (row_at cells) spans.items }
@@ -57,7 +56,7 @@ impl Rows {
         Rows { cells, spans }
     }
 
-    /// The list of all cells, and where in it the rows stand, without a copy.
+    /// The list of all cells, and the span of each row, without a copy.
     pub fn into_parts(self) -> (Cells, Vec<Span>)
         ensures rows { map (row_at result.0) result.1.items ≡ self }
         ensures within { All (IsPart result.0) result.1.items }
@@ -65,7 +64,7 @@ impl Rows {
         (self.cells, self.spans)
     }
 
-    /// Makes room for this number of rows more, of `width` cells each.
+    /// Reserves room for `rows` more rows of `width` cells each.
     pub fn reserve(&mut self, rows: usize, width: usize) -> Result<(), AllocError>
         ensures { self.new ≡ self.old }
     {
@@ -88,7 +87,7 @@ impl Rows {
         self.spans.is_empty()
     }
 
-    /// The row at a position, counted from 0, lent where it stands.
+    /// Returns a reference to the row at a position, counted from 0.
     #[inline]
     pub fn row(&self, position: usize) -> RowRef<'_>
         requires { position < length self.now }
@@ -97,8 +96,8 @@ impl Rows {
         RowRef::new(&self.cells, self.spans[position])
     }
 
-    /// Writes the values of the row at a position over those of another. Where that is as long, only texts of more
-    /// than 22 bytes take memory.
+    /// Overwrites `row` with the row at a position. If both have one length, only texts longer than 22 bytes may
+    /// allocate.
     pub fn copy_row(
         &self,
         alloc: Global,
@@ -113,7 +112,7 @@ impl Rows {
         self.cells.copy_part(alloc, self.spans[position], row)
     }
 
-    /// Puts a row behind the others. Its values move out of the list that it is lent.
+    /// Appends a row, and leaves `row` empty.
     pub fn push(&mut self, alloc: Global, row: &mut Vec<Value>) -> Result<(), AllocError>
         ensures pushed { OnOk result (self.new ≡ self.old ++ row.old.items ∷ []) }
         ensures moved { OnOk result (row.new.items ≡ []) }
@@ -127,7 +126,7 @@ impl Rows {
         Ok(())
     }
 
-    /// Puts a copy of a row behind the others.
+    /// Appends a copy of a row.
     pub fn push_copy(&mut self, alloc: Global, row: &[Value]) -> Result<(), AllocError>
         ensures pushed { OnOk result (self.new ≡ self.old ++ row.now ∷ []) }
         ensures unchanged { OnErr result (self.new ≡ self.old) }
@@ -141,7 +140,7 @@ impl Rows {
         Ok(())
     }
 
-    /// Puts all rows of another list behind the others. They move, as by [`Cells::append`].
+    /// Appends all rows of another list. They move, as by [`Cells::append`].
     pub fn append(&mut self, alloc: Global, more: Rows) -> Result<(), AllocError>
         ensures appended { OnOk result (self.new ≡ self.old ++ more) }
         ensures unchanged { OnErr result (self.new ≡ self.old) }
@@ -150,7 +149,7 @@ impl Rows {
         self.spans.reserve(spans.len())?;
         let start = self.cells.len();
         self.cells.append(alloc, cells)?;
-        // Positions are those of a list in memory.
+        // Both lists are in memory, so these sums can't overflow.
         let _all = self.cells.len();
         for i in 0..spans.len() {
             let span = spans[i];
@@ -163,7 +162,7 @@ impl Rows {
         Ok(())
     }
 
-    /// Lets two rows change places.
+    /// Swaps two rows.
     pub fn swap(&mut self, a: usize, b: usize)
         requires { (a < length self.old) × (b < length self.old) }
         ensures { self.new ≡ swap self.old a b }
@@ -171,7 +170,7 @@ impl Rows {
         self.spans.swap(a, b);
     }
 
-    /// Leaves out all rows but the first, so many.
+    /// Keeps the first `rows` rows.
     pub fn truncate(&mut self, rows: usize)
         ensures { self.new ≡ take rows self.old }
     {

@@ -24,10 +24,10 @@ pub(crate) struct TaggedCells {
     overflow: Vec<Value>,
 }
 
-// What is added to a number.
+// The bias of numbers.
 const ZERO: i64 = 1 << 62;
 
-// What is added to a place.
+// The bias of indices into `overflow`.
 const OVERFLOW: u64 = 1 << 63;
 
 impl Model for TaggedCells {
@@ -43,7 +43,7 @@ impl Model for TaggedCells {
 }
 
 impl TaggedCells {
-    // No value. It takes no memory.
+    // An empty list. It takes no memory.
     pub(crate) fn new(alloc: Global) -> TaggedCells
         ensures { result ≡ [] }
     {
@@ -69,7 +69,7 @@ impl TaggedCells {
         lend_word(self.words[position], self.overflow.as_slice())
     }
 
-    // Makes room for this number of values more, with the share of `overflow` that the present ones have.
+    // Reserves room for `values` more values, and in `overflow` in the proportion of the present ones.
     pub(crate) fn reserve(&mut self, values: usize) -> Result<(), AllocError>
         ensures { self.new ≡ self.old }
     {
@@ -78,7 +78,7 @@ impl TaggedCells {
         self.overflow.reserve(share)
     }
 
-    // Appends a value. A text moves out of its place.
+    // Appends a value. A text moves out of `value`.
     #[inline(always)]
     pub(crate) fn push(&mut self, value: &mut Value) -> Result<(), AllocError>
         ensures pushed { OnOk result (self.new ≡ self.old ++ value.old ∷ []) }
@@ -96,7 +96,7 @@ impl TaggedCells {
         Ok(())
     }
 
-    // Writes the value at a position over another.
+    // Overwrites `over` with the value at a position.
     #[inline(always)]
     pub(crate) fn copy_to(
         &self,
@@ -111,7 +111,7 @@ impl TaggedCells {
         self.get(position).copy_to(alloc, over)
     }
 
-    // Copies of the values.
+    // A copy of the values.
     pub(crate) fn to_values(&self, alloc: Global) -> Result<Vec<Value>, AllocError>
         ensures { IfOk result (λ values. values.items ≡ self.now) }
     {
@@ -124,7 +124,7 @@ impl TaggedCells {
         Ok(values)
     }
 
-    // The words of a part, and the overflow of all.
+    // Borrows the words of a range, and the whole overflow.
     #[inline(always)]
     pub(crate) fn lend(&self, part: Span) -> (&[u64], &[Value])
         requires { IsPart self.now part }
@@ -133,7 +133,7 @@ impl TaggedCells {
         (&self.words[part.start..part.end], self.overflow.as_slice())
     }
 
-    // The order of two parts.
+    // Compares two ranges as keys.
     pub(crate) fn compare(&self, a: Span, b: Span) -> Ordering
         requires { IsPart self.now a × IsPart self.now b }
         ensures { result ≡ compare_keys (row_at self.now a) (row_at self.now b) }
@@ -147,7 +147,7 @@ impl TaggedCells {
         }
     }
 
-    // Keeps the first `values`. Nothing leaves `overflow`.
+    // Keeps the first `values` values. `overflow` doesn't shrink.
     pub(crate) fn truncate(&mut self, values: usize)
         ensures { self.new ≡ take values self.old }
     {
@@ -155,7 +155,7 @@ impl TaggedCells {
     }
 }
 
-// The word of a number, where it has one.
+// The word of a number, if it fits in one.
 #[inline(always)]
 fn word_of(n: i64) -> Option<u64>
     ensures some { IfSome result (λ word. (word < 2 ^ 63) × (pos word -ℤ pos (2 ^ 62) ≡ n)) }
@@ -181,8 +181,7 @@ pub(crate) fn lend_word(word: u64, overflow: &[Value]) -> CellRef<'_>
     }
 }
 
-// The order of the values of words, from the left, a list before each longer one that begins with it: by their folds
-// alone, or by their bytes too.
+// Compares the values of words lexicographically: by their folds alone, or by their bytes too.
 fn compare_words(a: &[u64], b: &[u64], overflow: &[Value], by_folds: bool) -> Ordering
     ensures { result ≡ slice_cmp (told_by by_folds)
         (map (word_value overflow.now) a.now) (map (word_value overflow.now) b.now) }
@@ -218,7 +217,7 @@ fn compare_word(x: u64, y: u64, overflow: &[Value], by_folds: bool) -> Ordering
     }
 }
 
-// The number that a word tells, or null.
+// The number in a word, or null if the word is an index.
 fn own_value(word: u64) -> Value
     ensures { result ≡ word_value [] word }
 {
@@ -229,7 +228,7 @@ fn own_value(word: u64) -> Value
     }
 }
 
-// The value of a word, where this is what it tells by itself.
+// The value of a word; `own` is what `own_value` returns for it.
 fn value_of_word<'a>(word: u64, overflow: &'a [Value], own: &'a Value) -> &'a Value
     requires { own.now ≡ word_value [] word }
     ensures { result.now ≡ word_value overflow.now word }
