@@ -1,4 +1,4 @@
--- Rows under their keys.
+-- Rows with an index of their keys.
 use Rattle.std.specs.Prelude.{◌≡◌, ℕ, Bool, List, map}
 use Rattle.gq_row.specs.declared.value.Value.{Value}
 use Rattle.gq_row.specs.Order.{same_key}
@@ -10,6 +10,6 @@ use Rattle.gq_table.specs.declared.keyed.KeyedRows.{KeyedRows}
 abbrev pub OwnKeys : {H : Type 0} → List ℕ → KeyedRows H → Type 0
 OwnKeys key m = m.index.keys ≡ map (key_of key) m.rows
 
--- whether no two rows have the same key
+-- no two rows have the same key
 abbrev pub AreApart : List ℕ → List (List Value) → Bool
 AreApart key rows = no_repeats same_key (map (key_of key) rows)

@@ -3,16 +3,16 @@ use Rattle.std.specs.Prelude.{ℕ, zero, suc, ◌*◌, List, [], ◌∷◌, ◌+
 use Rattle.std.specs.List.{flat_map}
 use Rattle.gq_row.specs.declared.value.Value.{Value}
 
--- so many rows, each the next `width` cells
+-- `n` rows, each the next `width` cells of a list
 unfoldable pub rows_along : ℕ → ℕ → List Value → List (List Value)
 rows_along width zero cells = []
 rows_along width (suc n) cells = take width cells ∷ rows_along width n (drop width cells)
 
--- a list with elements written over its own from a place on, as far as it goes
+-- a list overwritten from a position on by the elements of another, as far as it goes
 abbrev pub written_over : {X : Type 0} → List X → ℕ → List X → List X
 written_over xs at ys = take (length xs) (take at xs ++ (ys ++ drop (length ys) (drop at xs)))
 
--- the rows with cells written over their own, from the first cell of a row on
+-- rows whose cells are overwritten from the first cell of a row on
 unfoldable pub with_row : List (List Value) → ℕ → List Value → List (List Value)
 with_row rows position cells =
     let width = length (slice_index_or rows position []) in

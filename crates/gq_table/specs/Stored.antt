@@ -7,7 +7,7 @@ use Rattle.gq_table.specs.declared.rows.Storage.TheVariants.{Keyed, Columnar}
 use Rattle.gq_table.specs.Keyed.{OwnKeys}
 use Rattle.gq_table.specs.ValidTables.{IsValidTable}
 
--- the rows: those with keys in the order of the index, or those of the columns
+-- the rows of a table, in either layout; those with keys are in the order of the index
 abbrev pub rows_of : {H : Type 0} → Storage H → List (List Value)
 rows_of (Keyed m) = m.rows
 rows_of (Columnar rows) = rows

@@ -1,4 +1,4 @@
-//! Rows of one length, by columns.
+//! Rows of one width, stored by columns.
 ghost use Rattle.std.specs.Prelude.{◌≡◌, ◌<◌, ◌==◌, ◌++◌, ◌∷◌, [], ℕ, All, IfOk, IsOk, OnOk, OnErr, length, map, replicate, take, slice_index_or};
 ghost use Rattle.gq_row.specs.declared.value.Value.TheVariants.{Null};
 ghost use Rattle.gq_row.specs.Rows.{cells_in};
@@ -11,8 +11,8 @@ use std::alloc::{AllocError, Global};
 use std::marker::Model;
 use std::mem;
 
-/// Rows of one length, seen as the list of rows. Their cells are stored by columns, so that nothing is kept
-/// for a row but its cells, and those of a column of numbers take half of what values take.
+/// Rows of one width, seen as the list of rows. Their cells are stored by columns: a row takes no more than its
+/// cells, and a column of numbers half of what it takes as values.
 #[derive(Drop)]
 pub struct ColumnStore {
     columns: Vec<Cells>,
@@ -32,7 +32,7 @@ impl Model for ColumnStore {
 }
 
 impl ColumnStore {
-    /// No row. It takes no memory.
+    /// An empty store. It takes no memory.
     pub fn new(alloc: Global) -> ColumnStore
         ensures { result ≡ [] }
     {
@@ -42,7 +42,7 @@ impl ColumnStore {
         }
     }
 
-    /// Makes room for this number of rows more, if there is one already.
+    /// Reserves room for `rows` more rows, if there is one already.
     pub fn reserve(&mut self, rows: usize) -> Result<(), AllocError>
         ensures { self.new ≡ self.old }
     {
@@ -64,8 +64,8 @@ impl ColumnStore {
         self.rows == 0
     }
 
-    /// Writes the values of the row at a position, counted from 0, over those of another. Where that is as
-    /// long, only texts of more than 22 bytes take memory.
+    /// Overwrites `row` with the row at a position, counted from 0. If both have one length, only texts longer
+    /// than 22 bytes may allocate.
     #[inline]
     pub fn copy_row(
         &self,
@@ -82,8 +82,8 @@ impl ColumnStore {
         write_cells(alloc, self.columns.as_slice(), position, row.as_mut_slice())
     }
 
-    /// Writes the values in some columns of the row at a position over as many others. Only texts of more
-    /// than 22 bytes take memory.
+    /// Overwrites `cells` with the values of a row in some columns. Only texts longer than 22 bytes may
+    /// allocate.
     #[inline]
     pub fn copy_cells(
         &self,
@@ -103,14 +103,14 @@ impl ColumnStore {
         pick_cells(alloc, self.columns.as_slice(), position, columns, cells)
     }
 
-    /// Puts a row behind the others, all as long as it is. Its texts move out of it.
+    /// Appends a row of the same width as all others. Its texts move.
     #[inline]
     pub fn push(&mut self, alloc: Global, row: &mut [Value]) -> Result<(), AllocError>
         requires { All (λ other. length other ≡ length row.old) self.old }
         ensures pushed { OnOk result (self.new ≡ self.old ++ row.old ∷ []) }
         ensures unchanged { OnErr result (self.new ≡ self.old) }
     {
-        // There is no memory for so many rows that this fails.
+        // Can't overflow: the rows would not fit in memory.
         let Some(rows) = self.rows.checked_add(1) else {
             return Err(AllocError);
         };
@@ -127,7 +127,7 @@ impl ColumnStore {
         }
     }
 
-    /// Puts all rows of another list behind the others, all of one length. They move.
+    /// Appends all rows of another store, all of one width. They move.
     pub fn append(&mut self, alloc: Global, more: ColumnStore) -> Result<(), AllocError>
         requires { All (λ row. All (λ other. length other ≡ length row) self.old) more }
         ensures appended { OnOk result (self.new ≡ self.old ++ more) }
@@ -157,7 +157,7 @@ impl ColumnStore {
     }
 }
 
-// Makes the columns so many, where they have no rows yet.
+// Makes `width` empty columns, if there are no rows yet.
 #[inline]
 fn start_columns(
     alloc: Global,
@@ -177,7 +177,7 @@ fn start_columns(
     Ok(())
 }
 
-// So many columns without cells.
+// `columns` empty columns.
 fn no_cells(alloc: Global, columns: usize) -> Result<Vec<Cells>, AllocError>
     ensures { IfOk result (λ made. made.items ≡ replicate columns []) }
 {
@@ -188,7 +188,7 @@ fn no_cells(alloc: Global, columns: usize) -> Result<Vec<Cells>, AllocError>
     Ok(made)
 }
 
-// Makes room for this number of cells more in each column.
+// Reserves room for `cells` more cells in each column.
 fn reserve_cells(columns: &mut [Cells], cells: usize) -> Result<(), AllocError>
     ensures { columns.new ≡ columns.old }
 {
@@ -198,7 +198,7 @@ fn reserve_cells(columns: &mut [Cells], cells: usize) -> Result<(), AllocError>
     Ok(())
 }
 
-// Makes a row so long, whatever its values.
+// Resizes a row; its values are unspecified.
 #[cold]
 pub(crate) fn fit(row: &mut Vec<Value>, width: usize) -> Result<(), AllocError>
     ensures { OnOk result (length row.new.items ≡ width) }
@@ -206,7 +206,7 @@ pub(crate) fn fit(row: &mut Vec<Value>, width: usize) -> Result<(), AllocError>
     row.resize_with(width, || Value::Null)
 }
 
-// Writes the cells that stand at a position in columns over as many values.
+// Overwrites `row` with the cells at a position of all columns.
 #[inline]
 fn write_cells(
     alloc: Global,
@@ -224,7 +224,7 @@ fn write_cells(
     Ok(())
 }
 
-// Writes the cells that stand at a position in some of the columns over as many values.
+// Overwrites `cells` with those at a position of some columns.
 #[inline]
 fn pick_cells(
     alloc: Global,
@@ -249,8 +249,7 @@ fn pick_cells(
     Ok(())
 }
 
-// Puts the cells of a row behind those of the columns, of which it has as many. Refused, some columns may
-// have got theirs.
+// Appends each cell of a row to its column. On error some columns may have theirs.
 #[inline]
 fn push_cells(alloc: Global, columns: &mut [Cells], row: &mut [Value]) -> Result<(), AllocError>
     requires all { length row.old ≡ length columns.old }
@@ -263,8 +262,7 @@ fn push_cells(alloc: Global, columns: &mut [Cells], row: &mut [Value]) -> Result
     Ok(())
 }
 
-// Puts the cells of as many other columns behind those of the columns. Refused, some columns may have got
-// theirs.
+// Appends to each column the cells of another. On error some columns may have theirs.
 fn append_columns(
     alloc: Global,
     columns: &mut [Cells],
@@ -281,7 +279,7 @@ fn append_columns(
     Ok(())
 }
 
-// Leaves so many cells in each column.
+// Keeps the first `cells` cells of each column.
 #[cold]
 fn truncate_columns(columns: &mut [Cells], cells: usize)
     ensures { columns.new ≡ map (take cells) columns.old }

@@ -1,4 +1,4 @@
-//! Rows under their keys.
+//! Rows with an index of their keys.
 ghost use Rattle.std.specs.Prelude.{◌≡◌, ◌<◌, ◌≤◌, ◌++◌, ◌∷◌, [], All, IsTrue, OnOk, OnErr, IfErr, IsPermutation, length, slice_index_or};
 ghost use Rattle.sw_index.specs.Index.{IsAbsence};
 ghost use Rattle.gq_row.specs.Classes.{class_of};
@@ -15,7 +15,7 @@ use std::alloc::{AllocError, Global};
 use sw_index::{Absence, Found, Index};
 use sw_probe::KeyHash;
 
-/// Rows in one list, and the index of their keys, in the same order: the number of a key tells where its row stands.
+/// Rows in one list, and the index of their keys in the same order: the number of a key is its row's position.
 #[derive(Drop)]
 pub struct KeyedRows<H: KeyHash<Key>> {
     pub(crate) index: Index<Key, H>,
@@ -23,7 +23,7 @@ pub struct KeyedRows<H: KeyHash<Key>> {
 }
 
 impl<H: KeyHash<Key>> KeyedRows<H> {
-    // No row. It takes no memory.
+    // An empty store. It takes no memory.
     pub(crate) fn new(alloc: Global, hasher: H) -> KeyedRows<H>
         ensures rows { result.rows ≡ [] }
         ensures keys { result.index.keys ≡ [] }
@@ -41,7 +41,7 @@ impl<H: KeyHash<Key>> KeyedRows<H> {
         self.rows.len()
     }
 
-    // Makes room for this number of rows in total.
+    // Reserves room for `rows` rows in total.
     pub(crate) fn reserve(&mut self, rows: usize) -> Result<(), AllocError>
         ensures { self.new ≡ self.old }
     {
@@ -49,9 +49,8 @@ impl<H: KeyHash<Key>> KeyedRows<H> {
         self.rows.reserve(rows.saturating_sub(self.rows.len()))
     }
 
-    // Puts a row in the place of the one that has its key, or behind the others, where no more than `most`
-    // then stand there. One look-up, by one hash, tells where it goes. It takes no memory where the row
-    // replaces another, whose values are then left in its place.
+    // Replaces the row with the same key, or appends `row`, unless there would be more than `most`. It looks up
+    // once, and a replacement doesn't allocate; `row` then has the replaced values.
     pub(crate) fn put(
         &mut self,
         alloc: Global,
@@ -79,7 +78,7 @@ impl<H: KeyHash<Key>> KeyedRows<H> {
         }
     }
 
-    // Exchanges the values of a row with those of the one that has its key, at a position.
+    // Swaps `row` with the row at a position, which has the same key.
     fn replace(
         &mut self,
         positions: &[usize],
@@ -107,7 +106,7 @@ impl<H: KeyHash<Key>> KeyedRows<H> {
         Ok(())
     }
 
-    // Adds a row whose key no other has. Its values move, and its memory is left for another row.
+    // Appends a row whose key is absent. Its values move, and its memory can be reused.
     fn add(
         &mut self,
         alloc: Global,
@@ -139,7 +138,7 @@ impl<H: KeyHash<Key>> KeyedRows<H> {
         }
     }
 
-    // Puts a row and its key, which no other has, behind the others. Its values move.
+    // Appends a row and its key, which is absent. The row's values move.
     pub(crate) fn push(
         &mut self,
         absence: Absence,
@@ -163,8 +162,8 @@ impl<H: KeyHash<Key>> KeyedRows<H> {
         Ok(())
     }
 
-    // Takes the row of the key that some values name away, and tells whether there was one. The last row
-    // goes to its place. It takes no memory.
+    // Deletes the row with the key that `key` names, and returns whether there was one. The last row takes its
+    // place. It doesn't allocate.
     pub(crate) fn delete(&mut self, positions: &[usize], key: &[Value]) -> bool
         requires own { OwnKeys positions.now self.old }
         requires apart { IsTrue (AreApart positions.now self.old.rows) }

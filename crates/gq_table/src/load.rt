@@ -1,4 +1,4 @@
-//! The rows of one list put into another by their keys, all or none.
+//! Loads: all rows of one keyed store are put into another, or none.
 ghost use Rattle.std.specs.Prelude.{◌≡◌, ◌+◌, ◌<◌, ◌≤◌, ◌⊎◌, ◌++◌, All, IsTrue, IfOk, IfErr, OnOk, OnErr, length, take, count_by, fold};
 ghost use Rattle.gq_row.specs.Tables.{put_by_key};
 ghost use Rattle.gq_table.specs.Keyed.{OwnKeys, AreApart};
@@ -14,8 +14,8 @@ use sw_index::Found;
 use sw_probe::KeyHash;
 
 impl<H: KeyHash<Key> + Copy> KeyedRows<H> {
-    // Puts rows that stand under keys of their own, where no more than `most` then stand there: all or none.
-    // Each key is looked up once. Those that are absent are added first, since only that may be refused.
+    // Puts all of `staged`, unless there would be more than `most` rows; on error none. Each key is looked up
+    // once, and absent ones are added first, since only that can fail.
     pub(crate) fn load(
         &mut self,
         alloc: Global,
@@ -64,7 +64,7 @@ impl<H: KeyHash<Key> + Copy> KeyedRows<H> {
         Ok(())
     }
 
-    // Where each row's key stands here, or that it is absent.
+    // For each staged row, where its key is in this store, or that it is absent.
     fn places_of(
         &self,
         alloc: Global,
@@ -86,7 +86,7 @@ impl<H: KeyHash<Key> + Copy> KeyedRows<H> {
         Ok(places)
     }
 
-    // Adds the rows that have no place, whose values move. Refused, none is added.
+    // Adds the absent rows, whose values move. On error none is added.
     fn add_absent(
         &mut self,
         alloc: Global,
@@ -117,7 +117,7 @@ impl<H: KeyHash<Key> + Copy> KeyedRows<H> {
         }
     }
 
-    // Adds them one by one. Those that were there stay, whatever the outcome.
+    // Adds the absent rows one by one. On error some may have been added, after all others.
     fn add_each(
         &mut self,
         alloc: Global,
@@ -148,7 +148,7 @@ impl<H: KeyHash<Key> + Copy> KeyedRows<H> {
         Ok(())
     }
 
-    // Leaves so many rows, from the first on.
+    // Keeps the first `rows` rows.
     #[cold]
     fn leave(&mut self, rows: usize)
         ensures rows { self.new.rows ≡ take rows self.old.rows }
@@ -159,7 +159,7 @@ impl<H: KeyHash<Key> + Copy> KeyedRows<H> {
         self.index.truncate(rows);
     }
 
-    // Puts the rows that have a place: each is exchanged with the one that stands there.
+    // Exchanges each row that was found with the stored one.
     fn place_found(&mut self, positions: &[usize], places: &[Found], staged: &mut RowStore)
         requires even { AreEven self.old.rows staged.old }
         requires own { OwnKeys positions.now self.old }
@@ -178,7 +178,7 @@ impl<H: KeyHash<Key> + Copy> KeyedRows<H> {
     }
 }
 
-// How many have no place.
+// The number of absent rows.
 fn count_absent(places: &[Found]) -> usize
     ensures { result ≡ count_by is_absent places.now }
 {

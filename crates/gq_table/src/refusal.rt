@@ -1,10 +1,10 @@
-//! Why a table refuses.
+//! Refusals of a table.
 use thiserror::Error;
 
-/// Why a table refuses a row, or rows.
+/// The reason for which a table refuses rows.
 #[derive(Clone, Copy, Debug, PartialEq, Eq, Error)]
 pub enum TableRefusal {
-    /// There are not as many values as columns, or one is not of its column's kind.
+    /// The row has more or fewer values than there are columns, or one isn't of its column's kind.
     #[error("the values don't fit the columns")]
     TypeMismatch,
     /// A key column would hold null.
@@ -13,7 +13,7 @@ pub enum TableRefusal {
     /// There would be more rows than the limit.
     #[error("too many rows")]
     Limit,
-    /// Memory was refused.
+    /// An allocation failed.
     #[error("out of memory")]
     Memory,
 }

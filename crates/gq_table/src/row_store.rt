@@ -1,4 +1,4 @@
-//! Rows of one width, row by row in one list.
+//! Rows of one width, stored row by row in one list.
 ghost use Rattle.std.specs.Prelude.{◌≡◌, ◌<◌, ◌≤◌, ◌==◌, ◌+◌, ◌-◌, ◌++◌, ◌∷◌, [], List, All, OnOk, OnErr, length, take, drop, slice_set, slice_index_or};
 ghost use Rattle.std.specs.Borrow.{sem};
 ghost use Rattle.std.specs.List.{swap_remove};
@@ -11,8 +11,8 @@ use std::alloc::{AllocError, Global};
 use std::marker::Model;
 use std::mem;
 
-/// Rows of one width whose cells are row by row in one list, seen as the list of rows. A row takes nothing
-/// but its cells, and can be written in place.
+/// Rows of one width whose cells are stored row by row in one list, seen as the list of rows. A row takes no
+/// more than its cells, and can be changed in place.
 #[derive(Drop)]
 pub struct RowStore {
     cells: Vec<Value>,
@@ -33,7 +33,7 @@ impl Model for RowStore {
 }
 
 impl RowStore {
-    /// No row. It takes no memory.
+    /// An empty store. It takes no memory.
     pub fn new(alloc: Global) -> RowStore
         ensures { result ≡ [] }
     {
@@ -44,7 +44,7 @@ impl RowStore {
         }
     }
 
-    /// Makes room for this number of rows more, if there is one already.
+    /// Reserves room for `rows` more rows, if there is one already.
     pub fn reserve(&mut self, rows: usize) -> Result<(), AllocError>
         ensures { self.new ≡ self.old }
     {
@@ -66,7 +66,7 @@ impl RowStore {
         self.rows == 0
     }
 
-    /// The values of the row at a position, counted from 0.
+    /// A reference to the row at a position, counted from 0.
     #[inline]
     pub fn row(&self, position: usize) -> &[Value]
         requires { position < length self.now }
@@ -76,7 +76,7 @@ impl RowStore {
         &self.cells[start..start + self.width]
     }
 
-    /// The values of the row at a position, to write to.
+    /// A mutable reference to the row at a position.
     #[inline]
     pub fn row_mut(&mut self, position: usize) -> &mut [Value]
         requires { position < length self.old }
@@ -90,13 +90,13 @@ impl RowStore {
         self.cells.slice_mut(start..end)
     }
 
-    /// Puts a row behind the others, all as long as it is. Its values move out of it.
+    /// Appends a row of the same width as all others. Its values move.
     pub fn push(&mut self, row: &mut [Value]) -> Result<(), AllocError>
         requires { All (λ other. length other ≡ length row.old) self.old }
         ensures pushed { OnOk result (self.new ≡ self.old ++ row.old ∷ []) }
         ensures unchanged { OnErr result (self.new ≡ self.old) }
     {
-        // There is no memory for so many rows that this fails.
+        // Can't overflow: the rows would not fit in memory.
         let Some(rows) = self.rows.checked_add(1) else {
             return Err(AllocError);
         };
@@ -106,7 +106,7 @@ impl RowStore {
         Ok(())
     }
 
-    /// Lets a row and the one at a position, which is as long, change places.
+    /// Swaps `row` with the row at a position, which is as long.
     #[inline]
     pub fn exchange(&mut self, position: usize, row: &mut [Value])
         requires within { position < length self.old }
@@ -117,7 +117,7 @@ impl RowStore {
         exchange_values(self.row_mut(position), row);
     }
 
-    /// Leaves out the row at a position. The last takes its place.
+    /// Removes the row at a position. The last row takes its place.
     pub fn swap_remove(&mut self, position: usize)
         requires { position < length self.old }
         ensures { self.new ≡ swap_remove self.old position (slice_index_or self.old position []) }
@@ -131,7 +131,7 @@ impl RowStore {
         self.rows = last;
     }
 
-    /// Leaves out all rows but the first, so many.
+    /// Keeps the first `rows` rows.
     pub fn truncate(&mut self, rows: usize)
         ensures { self.new ≡ take rows self.old }
     {
@@ -142,7 +142,7 @@ impl RowStore {
     }
 }
 
-// Lets as many values change places.
+// Swaps two slices of one length.
 #[inline]
 fn exchange_values(values: &mut [Value], others: &mut [Value])
     requires { length values.old ≡ length others.old }
@@ -154,7 +154,7 @@ fn exchange_values(values: &mut [Value], others: &mut [Value])
     }
 }
 
-// Lets two values change places. Numbers go by themselves: of a value that was just written they are in a register still.
+// Swaps two values; of two numbers, only the numbers.
 #[inline]
 fn exchange_value(value: &mut Value, other: &mut Value)
     ensures value { value.new ≡ other.old }
@@ -167,7 +167,7 @@ fn exchange_value(value: &mut Value, other: &mut Value)
     mem::swap(value, other);
 }
 
-// Lets the last cells, from an end on, change places with as many others before it.
+// Swaps the cells from `end` on with those from `start` on, which all are before `end`.
 #[inline]
 fn exchange_last(cells: &mut [Value], start: usize, end: usize)
     requires within { end ≤ length cells.old }
@@ -178,7 +178,7 @@ fn exchange_last(cells: &mut [Value], start: usize, end: usize)
     others[start..start + last.len()].swap_with_slice(last);
 }
 
-// Puts the cells of a row behind others, all or none.
+// Appends the cells of a row; on error none of them.
 #[inline]
 fn push_cells(cells: &mut Vec<Value>, row: &mut [Value]) -> Result<(), AllocError>
     ensures pushed { OnOk result (cells.new.items ≡ cells.old.items ++ row.old) }

@@ -1,4 +1,4 @@
-//! How the rows of a table are stored, and a walk over them.
+//! How the rows of a table are stored, and a cursor over them.
 ghost use Rattle.std.specs.Prelude.{◌≡◌, ◌<◌, ◌∷◌, [], true, false, All, IsOk, OnOk, length};
 ghost use Rattle.gq_row.specs.Rows.{cells_in};
 ghost use Rattle.gq_row.specs.Written.{IsInPlace};
@@ -12,30 +12,29 @@ use std::marker::Model;
 use std::mem;
 use sw_probe::KeyHash;
 
-/// The rows of a table: row by row with an index of their keys if it has a key, and by columns if not.
+/// The rows of a table: with a key row by row, next to an index of the keys, and without by columns.
 #[derive(Drop)]
 pub enum Storage<H: KeyHash<Key>> {
     Keyed(KeyedRows<H>),
     Columnar(ColumnStore),
 }
 
-/// A reference to the rows of a table, however they are stored.
+/// A reference to the rows of a table, in either layout.
 #[derive(Clone, Copy)]
 pub enum RowsRef<'a> {
     Rows(&'a RowStore),
     Columns(&'a ColumnStore),
 }
 
-/// A walk over the rows of a table: at one of them, and before those that are still to come. A row of a table
-/// with a key can be read where it stands; one of a table without, which stands by columns, is first written out
-/// by [`RowCursor::read`].
+/// A cursor over the rows of a table. A row of a table with a key is read in place; one of a table without,
+/// which is stored by columns, is copied by [`RowCursor::read`].
 #[derive(Drop)]
 pub struct RowCursor<'a> {
     alloc: Global,
     rows: RowsRef<'a>,
-    // How many rows were begun.
+    // How many rows the cursor has entered.
     from: usize,
-    // A row that stood by columns and was written out.
+    // The row that was read last, if rows are stored by columns.
     copy: Vec<Value>,
 }
 
@@ -64,7 +63,7 @@ impl<'a> RowsRef<'a> {
 impl<'a> RowCursor<'a> {
     ghost use Rattle.gq_table.specs.Stored.{rows_of};
 
-    /// Before all of the rows.
+    /// A cursor before the first row.
     pub(crate) fn new<H: KeyHash<Key>>(alloc: Global, rows: &'a Storage<H>) -> RowCursor<'a>
         ensures { result.rest ≡ rows_of rows.now }
     {
@@ -80,14 +79,14 @@ impl<'a> RowCursor<'a> {
         }
     }
 
-    /// How many rows are still to come.
+    /// The number of rows after the current one.
     pub fn len(&self) -> usize
         ensures { result ≡ length self.now.rest }
     {
         self.rows.len().saturating_sub(self.from)
     }
 
-    /// Goes on to the next row, and tells whether there is one.
+    /// Moves to the next row, and returns whether there is one.
     #[inline]
     pub fn advance(&mut self) -> bool
         ensures next { result ≡ true → self.old.rest ≡ self.new.row ∷ self.new.rest }
@@ -100,8 +99,8 @@ impl<'a> RowCursor<'a> {
         true
     }
 
-    /// Makes the row where it stands the one that is lent. One that stands by columns is written over the one
-    /// before, and asks for memory where it is the first, and for texts of more than 22 bytes.
+    /// Reads the current row. One that is stored by columns is copied over the one read before, and may
+    /// allocate if it is the first, and for texts longer than 22 bytes.
     #[inline]
     pub fn read(&mut self) -> Result<(), AllocError>
         ensures read { OnOk result (self.new.read ≡ self.old.row) }
@@ -134,8 +133,8 @@ impl<'a> RowCursor<'a> {
         &[]
     }
 
-    /// Writes the values in some columns of the row where it stands over another row. Nothing else of it is
-    /// copied. Where memory is wanting nothing is said of what that row is then.
+    /// Overwrites `row` with the current row's values in some columns, and copies no other. On error what `row`
+    /// holds is unspecified.
     #[inline]
     pub fn write_cells(&self, columns: &[usize], row: &mut Row) -> Result<(), AllocError>
         requires { All (λ column. column < length self.now.row) columns.now }
@@ -149,7 +148,7 @@ impl<'a> RowCursor<'a> {
         self.write_values(columns, row.cells_mut())
     }
 
-    // Writes them over as many values.
+    // Overwrites `cells` with the current row's values in some columns.
     #[inline]
     fn write_values(&self, columns: &[usize], cells: &mut [Value]) -> Result<(), AllocError>
         requires within { All (λ column. column < length self.now.row) columns.now }
@@ -166,7 +165,7 @@ impl<'a> RowCursor<'a> {
     }
 }
 
-// Makes a row so long, whatever its values.
+// Resizes a row; its values are unspecified.
 #[cold]
 fn fit_row(alloc: Global, row: &mut Row, width: usize) -> Result<(), AllocError>
     ensures { OnOk result (length row.new ≡ width) }
@@ -177,7 +176,7 @@ fn fit_row(alloc: Global, row: &mut Row, width: usize) -> Result<(), AllocError>
     Ok(())
 }
 
-// Writes a row's values in some columns over as many others.
+// Overwrites `cells` with a row's values in some columns.
 #[inline]
 fn write_cells(
     alloc: Global,

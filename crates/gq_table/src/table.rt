@@ -1,4 +1,4 @@
-//! One table: its schema, and its rows.
+//! A table: its schema and its rows.
 ghost use Rattle.std.specs.Prelude.{◌≡◌, ◌+◌, ◌<◌, All, ◌≤◌, ◌⊎◌, ◌++◌, ◌∷◌, [], IsTrue, IfOk, IfErr, OnOk, OnErr, None, false, length};
 ghost use Rattle.gq_row.specs.Fitting.{fits_columns, has_null};
 ghost use Rattle.gq_row.specs.Tables.{has_row};
@@ -17,10 +17,9 @@ use std::alloc::{AllocError, Global};
 use std::marker::Model;
 use sw_probe::KeyHash;
 
-/// A table: its schema, and its rows, under their keys where there are key columns. Each row fits
-/// the columns, no two rows have the same key, and there are at most 2^24 of them.
-///
-/// Contracts see its schema and the list of its rows, in an order that any change may turn into another.
+/// A schema and rows, with an index of their keys if there are key columns. Each row fits the columns, no two
+/// have the same key, and there are at most 2^24. Contracts see the schema and the list of rows, whose order
+/// any change may change.
 #[derive(Drop)]
 pub struct Table<H: KeyHash<Key>> {
     alloc: Global,
@@ -61,7 +60,7 @@ impl<H: KeyHash<Key> + Copy> Table<H> {
         }
     }
 
-    /// A table of the same columns and key without rows.
+    /// An empty table with the same columns and key.
     pub fn new_like(&self) -> Result<Table<H>, AllocError>
         ensures { IfOk result
             (λ table. table ≡ record { schema = self.now.schema; rows = [] }) }
@@ -77,7 +76,7 @@ impl<H: KeyHash<Key> + Copy> Table<H> {
         &self.schema
     }
 
-    /// The number of its rows.
+    /// The number of rows.
     pub fn len(&self) -> usize
         ensures count { result ≡ length self.now.rows }
         ensures valid { IsValidTable self.now }
@@ -92,8 +91,8 @@ impl<H: KeyHash<Key> + Copy> Table<H> {
         }
     }
 
-    /// Makes room for this number of rows in total, if there is a row already that says how long they are: a
-    /// table that expects many asks for memory once. The table stays as it was, also if memory is refused.
+    /// Reserves room for `rows` rows in total; for their cells only if there is a row, which says how wide they
+    /// are. The table doesn't change, on error neither.
     pub fn reserve(&mut self, rows: usize) -> Result<(), AllocError>
         ensures { self.new ≡ self.old }
     {
@@ -115,10 +114,8 @@ impl<H: KeyHash<Key> + Copy> Table<H> {
         RowCursor::new(self.alloc, &self.rows)
     }
 
-    /// Replaces the row that has the same key, however that is spelled, or adds the row, which is
-    /// stored as it is given; and says else the first reason to refuse it: `TypeMismatch` where its values don't fit the columns, `NullKey` where one of a
-    /// key column is null, and `Limit` where there would be too many rows. A row that replaces
-    /// another takes no memory; for want of memory the rest is refused with `Memory`.
+    /// Replaces the row with the same key, which then is spelled as in `row`, or adds `row`. On error nothing
+    /// changes: the first of [`TableRefusal`] that applies is returned. A replacement never allocates.
     pub fn upsert(&mut self, row: Row, limits: &Limits) -> Result<(), TableRefusal>
         ensures ok { OnOk result (IsPut self.old row self.new) }
         ensures taken { OnOk result (row_refusal limits.now.bounds self.old row ≡ None) }
@@ -135,10 +132,8 @@ impl<H: KeyHash<Key> + Copy> Table<H> {
         self.put(&mut row, limits)
     }
 
-    /// Puts a row that fits the columns and has no null in its key, in the place of the row that
-    /// has the same key if there is one: the same as [`Table::upsert`] of it. `row` may then hold
-    /// any values, and its memory be used for another row: it is exchanged with the row that it
-    /// replaces, or left without its texts where the table has no key.
+    /// As [`Table::upsert`], for a row that fits the columns and has no null in its key. What `row` holds then
+    /// is unspecified; its memory can be reused for the next row.
     pub fn put(&mut self, row: &mut Row, limits: &Limits) -> Result<(), TableRefusal>
         requires fits { IsTrue (fits_columns self.old.schema.columns row.old) }
         requires keyed { has_null self.old.schema.key row.old ≡ false }
@@ -158,9 +153,8 @@ impl<H: KeyHash<Key> + Copy> Table<H> {
         }
     }
 
-    /// Puts the rows of another table with the same columns and key, one after the other, all or
-    /// none: `Limit` where there would be too many, and else `Memory` for want of it. Into a table
-    /// without rows they move as a whole.
+    /// Puts all rows of another table with the same columns and key, in order, or on error none: `Limit` if
+    /// there would be too many, `Memory` if an allocation fails. An empty table takes them over as a whole.
     pub fn load(&mut self, staged: Table<H>, limits: &Limits) -> Result<(), TableRefusal>
         requires { staged.schema ≡ self.old.schema }
         ensures ok { OnOk result (IsLoaded self.old staged.rows self.new) }
@@ -186,7 +180,7 @@ impl<H: KeyHash<Key> + Copy> Table<H> {
         }
     }
 
-    // Its rows, as they are stored.
+    // The rows, as they are stored.
     fn into_rows(self) -> Storage<H>
         ensures rows { rows_of result ≡ self.rows }
         ensures stored { IsStored self.schema result }
@@ -194,8 +188,8 @@ impl<H: KeyHash<Key> + Copy> Table<H> {
         self.rows
     }
 
-    /// Takes the row away whose key columns hold values that are the same as these, if there is
-    /// one, and tells whether there was. It takes no memory.
+    /// Deletes the row whose key columns have the same values as `key`, and returns whether there was one. It
+    /// never allocates.
     pub fn delete(&mut self, key: &[Value]) -> bool
         requires { 0 < length self.old.schema.key }
         ensures rows { IsDeleted self.old (named_key key.now) self.new }
@@ -208,8 +202,7 @@ impl<H: KeyHash<Key> + Copy> Table<H> {
     }
 }
 
-// Puts a row at the end of a list, where no more than `most` rows then stand there. Its texts move, and
-// its memory is left for another row.
+// Appends a row, unless there would be more than `most`. Its texts move, and its memory can be reused.
 fn put_columnar(
     alloc: Global,
     rows: &mut ColumnStore,
@@ -232,7 +225,7 @@ fn put_columnar(
     }
 }
 
-// Puts rows at the end of a list, where no more than `most` then stand there: all or none.
+// Appends all of `rows`, unless there would be more than `most`; on error none is appended.
 fn load_columnar(
     alloc: Global,
     list: &mut ColumnStore,
