@@ -5,7 +5,7 @@ use Rattle.std.specs.declared.cmp.Ordering.{Ordering}
 use Rattle.gq_row.specs.declared.comparison.Comparison.{Comparison}
 use Rattle.gq_row.specs.declared.comparison.Comparison.TheVariants.{Equal, NotEqual, Less, LessEqual, Greater, GreaterEqual}
 
--- whether two values pass that stand in this order
+-- two values in this order satisfy a comparison
 abbrev pub passes : Comparison → Ordering → Bool
 passes Equal order = is_eq order
 passes NotEqual order = is_ne order

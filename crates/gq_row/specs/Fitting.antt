@@ -1,4 +1,4 @@
--- Whether values may stand in columns.
+-- Which values columns admit.
 use Rattle.std.specs.Prelude.{◌&&◌, ℕ, Bool, true, false, List, [], ◌∷◌}
 use Rattle.std.specs.List.{list_any}
 use Rattle.gq_row.specs.declared.value.Value.{Value}
@@ -9,7 +9,7 @@ use Rattle.gq_row.specs.declared.schema.Column.{Column}
 use Rattle.gq_row.specs.Folding.{without_case}
 use Rattle.gq_row.specs.Rows.{cell}
 
--- a value may stand in a column of its kind, and null in each
+-- a column admits a value: null, or one of its kind
 abbrev pub goes_in : Kind → Value → Bool
 goes_in k Null = true
 goes_in kind.Int (Int n) = true
@@ -22,19 +22,20 @@ goes_in kind.Int (NoCase t) = false
 goes_in kind.Text (NoCase t) = false
 goes_in kind.NoCase (NoCase t) = true
 
--- what a column stores of a value: one of texts without case takes a text as such, and else it is the value
+-- the value that a column stores: a text becomes one without case if the column is of those, and any other
+-- value is unchanged
 abbrev pub stored : Kind → Value → Value
 stored kind.Int v = v
 stored kind.Text v = v
 stored kind.NoCase v = without_case v
 
--- the values of a row, each as its column stores it
+-- the values of a row as their columns store them
 abbrev pub stored_in : List Column → List Value → List Value
 stored_in [] row = row
 stored_in (c ∷ cs) [] = []
 stored_in (c ∷ cs) (v ∷ vs) = stored c.kind v ∷ stored_in cs vs
 
--- as many values as columns, and each may stand in its column
+-- a row fits columns: it has as many values, and each column admits its value
 abbrev pub fits_columns : List Column → List Value → Bool
 fits_columns [] [] = true
 fits_columns [] (v ∷ vs) = false
@@ -47,6 +48,6 @@ is_null (Int n) = false
 is_null (Text t) = false
 is_null (NoCase t) = false
 
--- whether a row has null in one of some columns
+-- a row has null in one of some columns
 abbrev pub has_null : List ℕ → List Value → Bool
 has_null columns row = list_any (λ column. is_null (cell row column)) columns

@@ -1,4 +1,4 @@
--- Keys, wherever their values stand.
+-- Keys, in each layout.
 use Rattle.std.specs.Prelude.{List, [], ◌∷◌}
 use Rattle.gq_row.specs.declared.value.Value.{Value}
 use Rattle.gq_row.specs.declared.key.Values.{Values}

@@ -1,4 +1,4 @@
--- Sameness of values is an equivalence, and so is equality, which `==` on them asks for.
+-- Sameness of values is an equivalence, and so is equality, as `==` on them requires.
 use Rattle.std.specs.Prelude.{◌≡◌, true, refl}
 use Rattle.std.specs.Cmp.{IsEquivalence, on_equiv}
 use Rattle.std.proofs.lemmas.Bool.{false≢true}

@@ -1,4 +1,4 @@
--- Texts, wherever their bytes stand.
+-- Texts, in each layout.
 use Rattle.std.specs.Prelude.{ℕ, List, string_bytes}
 use Rattle.gq_row.specs.declared.text.Chars.{Chars}
 use Rattle.gq_row.specs.declared.text.Chars.TheVariants.{Short, Long}

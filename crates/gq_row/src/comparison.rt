@@ -16,7 +16,7 @@ pub enum Comparison {
 }
 
 impl Comparison {
-    /// Whether two values pass that stand in this order.
+    /// Whether two values in this order satisfy the comparison.
     #[inline]
     pub fn passes(self, order: Ordering) -> bool
         ensures { result ≡ passes self order }

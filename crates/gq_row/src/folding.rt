@@ -1,6 +1,5 @@
-//! The fold of a text: its bytes with A to Z as a to z, and each other byte as it is. So it is of
-//! ASCII's letters alone, and knows no locale: a text and its fold are of one length, and both are
-//! UTF-8.
+//! The fold of a text: its bytes with A to Z as a to z. Only ASCII letters change, whatever the locale, so a
+//! text and its fold have one length, and both are UTF-8.
 ghost use Rattle.std.specs.Prelude.{◌≡◌, ◌+◌, ◌≤◌, length, take, drop, bytes_eq};
 ghost use Rattle.std.specs.Char.{to_ascii_lowercase};
 ghost use Rattle.std.specs.Ordering.{nat_cmp};
@@ -27,10 +26,10 @@ const FOLDS: [u8; 256] = [
     245, 246, 247, 248, 249, 250, 251, 252, 253, 254, 255,
 ];
 
-// How many bytes are folded and compared at once.
+// The number of bytes that are folded and compared at once.
 const LANES: usize = 8;
 
-// Whether the fold of a text is another text.
+// Whether the fold of a text is `folded`.
 #[inline]
 pub(crate) fn folds_to(text: &[u8], folded: &[u8]) -> bool
     ensures { result ≡ bytes_eq (fold_case text.now) folded.now }
@@ -44,7 +43,7 @@ pub(crate) fn folds_to(text: &[u8], folded: &[u8]) -> bool
     long_folds_to(text, folded)
 }
 
-// The same of a text of fewer than eight bytes, byte by byte.
+// As `folds_to`, for texts of fewer than eight bytes, byte by byte.
 fn short_folds_to(text: &[u8], folded: &[u8]) -> bool
     requires { length text.now ≡ length folded.now }
     ensures { result ≡ bytes_eq (fold_case text.now) folded.now }
@@ -57,8 +56,8 @@ fn short_folds_to(text: &[u8], folded: &[u8]) -> bool
     true
 }
 
-// The same of a longer one, eight bytes at a time. The last eight begin within those before them, so
-// that none is left over.
+// As `folds_to`, for longer texts, eight bytes at a time. The last eight overlap those before them, so that no
+// remainder is left.
 #[inline]
 fn long_folds_to(text: &[u8], folded: &[u8]) -> bool
     requires same_length { length text.now ≡ length folded.now }
@@ -76,7 +75,7 @@ fn long_folds_to(text: &[u8], folded: &[u8]) -> bool
     lanes_fold_to(text, folded, last)
 }
 
-// Whether the folds of the eight bytes at a place are those of another text there.
+// Whether the folds of the eight bytes at a position are the bytes of `folded` there.
 #[inline(always)]
 fn lanes_fold_to(text: &[u8], folded: &[u8], at: usize) -> bool
     requires text { at + LANES ≤ length text.now }
@@ -98,7 +97,7 @@ fn fold_lanes(lanes: u8x8) -> u8x8
     lanes.simd_lt(u8x8::splat(b'A')).select(lanes, up_to_z)
 }
 
-/// The folds of eight bytes, all at once.
+/// The folds of eight bytes, computed at once.
 #[inline]
 pub fn fold_eight(bytes: [u8; 8]) -> [u8; 8]
     ensures { result ≡ fold_case bytes }
@@ -106,8 +105,7 @@ pub fn fold_eight(bytes: [u8; 8]) -> [u8; 8]
     fold_lanes(u8x8::from_array(bytes)).to_array()
 }
 
-// The fold of a byte. Texts are folded byte by byte as they are hashed, and a look into a table is one
-// step where a test and a sum are five.
+// The fold of a byte. A table look-up takes fewer steps than a comparison and an addition.
 #[inline(always)]
 pub(crate) fn fold_byte(byte: u8) -> u8
     ensures { result ≡ to_ascii_lowercase byte }
@@ -115,7 +113,7 @@ pub(crate) fn fold_byte(byte: u8) -> u8
     FOLDS[byte as usize]
 }
 
-// The order of the folds of two texts, by their bytes.
+// Compares the folds of two texts by their bytes.
 pub(crate) fn compare_folds(a: &[u8], b: &[u8]) -> Ordering
     ensures { result ≡ slice_cmp nat_cmp (fold_case a.now) (fold_case b.now) }
 {

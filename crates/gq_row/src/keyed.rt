@@ -14,12 +14,10 @@ use crate::words::{fold_cell_words, fold_folded_words, fold_row_words};
 use std::marker::Model;
 use sw_probe::{Keyed, Names, Step, WordStep};
 
-/// Keys are the same where their values are. The bytes that are hashed of a key are those of its
-/// values, one after the other: null is 0; a number is 1 and its eight bytes in two's complement,
-/// the highest first; a text is 2, its length in four bytes, the highest first, and its own bytes; a
-/// text without case is 3, and then the same of its fold, which is what a key has. Of a length that
-/// needs more than 32 bits the low 32 count. They are folded one by one, without memory. The words are
-/// those of its values likewise: null is 0, a number itself, and a text the words of its bytes.
+/// Two keys are in one class if their values are the same. The bytes that are hashed of a key are those of its
+/// values' folds, in order: null is 0; a number is 1 and eight bytes in two's complement, big-endian; a text is
+/// 2, the low 32 bits of its length, big-endian, and its bytes; a text without case is 3, and then the same of
+/// its fold. The words are 0 for null, a number itself, and the words of a text's bytes. Neither takes memory.
 impl Keyed for Key {
     ghost class = { class_of };
 
@@ -43,8 +41,7 @@ impl Keyed for Key {
     }
 }
 
-/// The key of a row in the columns at some positions, borrowed: it names the same class as the
-/// [`Key`] of that row and these positions.
+/// The key of a row in some columns, borrowed: in the same class as the [`Key`] of the row.
 #[derive(Drop)]
 pub struct KeyRef<'a> {
     row: &'a [Value],
@@ -93,7 +90,7 @@ impl Names<Key> for KeyRef<'_> {
     }
 }
 
-/// Values as a borrowed key: they name the same class as the [`Key`] of their folds.
+/// Values as a borrowed key: in the same class as the [`Key`] of their folds.
 #[derive(Clone, Copy)]
 pub struct KeyCells<'a>(pub &'a [Value]);
 
@@ -116,7 +113,7 @@ impl Names<Key> for KeyCells<'_> {
     }
 }
 
-// Whether the folds of a row's values in the columns at these positions are those of a key.
+// Whether the folds of a row's values in the columns at these positions are a key's values.
 #[inline(always)]
 fn has_key(row: &[Value], positions: &[usize], key: &[Value]) -> bool
     requires { All (λ position. position < length row.now) positions.now }
@@ -133,7 +130,7 @@ fn has_key(row: &[Value], positions: &[usize], key: &[Value]) -> bool
     true
 }
 
-// Whether the folds of some values are others.
+// Whether the folds of `cells` are a key's values.
 #[inline]
 fn have_folds(cells: &[Value], key: &[Value]) -> bool
     ensures { result ≡ same_key (map folded cells.now) key.now }
@@ -183,7 +180,7 @@ fn fold_cells<F: Step>(cells: &[Value], start: u64, f: &F) -> u64
     acc
 }
 
-// The bytes of a value's fold, one by one: no fold of a text stands in memory.
+// Hashes the bytes of a value's fold one by one, without making the fold.
 #[inline]
 fn fold_cell<F: Step>(value: &Value, start: u64, f: &F) -> u64
     ensures { result ≡ fold (F.next f.now) start (spelling (folded value.now)) }
@@ -194,7 +191,7 @@ fn fold_cell<F: Step>(value: &Value, start: u64, f: &F) -> u64
     }
 }
 
-// A value's bytes into a fold: its tag first.
+// Hashes a value's bytes, its tag first.
 #[inline]
 fn fold_value<F: Step>(value: &Value, start: u64, f: &F) -> u64
     ensures { result ≡ fold (F.next f.now) start (spelling value.now) }
@@ -210,7 +207,7 @@ fn fold_value<F: Step>(value: &Value, start: u64, f: &F) -> u64
     }
 }
 
-// The first byte that is hashed of a value: its kind.
+// The first byte that is hashed of a value: its tag.
 #[inline]
 fn tag_of(value: &Value) -> u8
     ensures { result ≡ tag_of value.now }
@@ -234,7 +231,7 @@ fn fold_bytes<F: Step>(bytes: &[u8], start: u64, f: &F) -> u64
     acc
 }
 
-// The length of a text in four bytes.
+// Hashes the length of a text, in four bytes.
 #[inline]
 fn fold_length<F: Step>(text: &Text, start: u64, f: &F) -> u64
     ensures { result ≡ fold (F.next f.now) start (to_be_bytes w32 (length text.now % 2 ^ 32)) }
@@ -243,8 +240,7 @@ fn fold_length<F: Step>(text: &Text, start: u64, f: &F) -> u64
     fold_bytes(&length.to_be_bytes(), start, f)
 }
 
-// The length of a text and the bytes of its fold. Not a part of the look-ups of other values, which are shorter
-// without it.
+// Hashes the length and the fold of a text. Not inlined, so that look-ups of other values stay short.
 #[inline(never)]
 fn fold_lowered<F: Step>(text: &Text, start: u64, f: &F) -> u64
     ensures { result ≡ fold (F.next f.now) start
@@ -254,7 +250,7 @@ fn fold_lowered<F: Step>(text: &Text, start: u64, f: &F) -> u64
     fold_lowered_bytes(text.as_str().as_bytes(), acc, f)
 }
 
-// The folds of bytes.
+// Hashes the folds of bytes.
 #[inline]
 fn fold_lowered_bytes<F: Step>(bytes: &[u8], start: u64, f: &F) -> u64
     ensures { result ≡ fold (F.next f.now) start (fold_case bytes.now) }

@@ -1,18 +1,18 @@
-//! Texts of up to 22 bytes, which take no memory.
+//! Texts of up to 22 bytes, stored inline.
 ghost use Rattle.std.specs.Prelude.{◌≡◌, ◌+◌, ◌≤◌, [], length, take, drop, bytes_eq};
 
 use std::marker::Model;
 use std::simd::prelude::*;
 use std::str;
 
-/// The most bytes that stand in the value itself.
+/// The most bytes that are stored inline.
 pub(crate) const MOST: usize = 22;
 
-// How many bytes are compared at once.
+// The number of bytes that are compared at once.
 const LANES: usize = 16;
 
-/// A UTF-8 text of at most 22 bytes, seen as its bytes. Those behind them are 0, so that two texts are
-/// equal where all 22 and their lengths are.
+/// A UTF-8 text of at most 22 bytes, seen as its bytes. It is padded with zeros, so that two texts are equal
+/// exactly if all 22 bytes and their lengths are.
 #[derive(Clone, Copy)]
 pub(crate) struct ShortText {
     len: u8,
@@ -39,7 +39,7 @@ impl Model for ShortText {
 }
 
 impl ShortText {
-    /// The text without a byte.
+    /// The empty text.
     #[inline]
     pub(crate) fn empty() -> ShortText
         ensures { result ≡ [] }
@@ -78,7 +78,7 @@ impl ShortText {
         unsafe { str::from_utf8_unchecked(&self.bytes[..self.len as usize]) }
     }
 
-    /// Whether two texts are equal, by their lengths and all 22 bytes of both.
+    /// Whether two texts are equal: their lengths and all 22 bytes.
     #[inline]
     pub(crate) fn equals(&self, other: &ShortText) -> bool
         ensures { result ≡ bytes_eq self.now other.now }
@@ -87,7 +87,7 @@ impl ShortText {
     }
 }
 
-// Whether all 22 bytes are equal, sixteen at a time. The last sixteen begin within the first.
+// Whether all 22 bytes are equal, sixteen at a time; the last sixteen overlap the first.
 #[inline(always)]
 fn same_bytes(a: &[u8; MOST], b: &[u8; MOST]) -> bool
     ensures { result ≡ bytes_eq a.now b.now }
@@ -95,7 +95,7 @@ fn same_bytes(a: &[u8; MOST], b: &[u8; MOST]) -> bool
     same_lanes(a, b, 0) && same_lanes(a, b, MOST - LANES)
 }
 
-// Whether the sixteen bytes at a place are equal.
+// Whether the sixteen bytes at a position are equal.
 #[inline(always)]
 fn same_lanes(a: &[u8], b: &[u8], at: usize) -> bool
     requires a { at + LANES ≤ length a.now }

@@ -1,4 +1,4 @@
-//! The words of keys, value by value, for hashers that take eight bytes at once.
+//! Words of keys, value by value, for hashers that take eight bytes at once.
 ghost use Rattle.std.specs.Prelude.{◌≡◌, ◌<◌, All, length, map, fold};
 ghost use Rattle.std.specs.Char.{to_ascii_lowercase};
 ghost use Rattle.sw_probe.specs.Words.{words_of};
@@ -11,7 +11,7 @@ use crate::text::Text;
 use crate::value::Value;
 use sw_probe::{AsItIs, ByteMap, WordStep, fold_byte_words};
 
-// Those of values.
+// Hashes the words of values.
 #[inline]
 pub(crate) fn fold_cell_words<F: WordStep>(cells: &[Value], start: u64, f: &F) -> u64
     ensures { result ≡ fold (F.next f.now) start (worded cells.now) }
@@ -23,7 +23,7 @@ pub(crate) fn fold_cell_words<F: WordStep>(cells: &[Value], start: u64, f: &F) -
     acc
 }
 
-// Those of the folds of values.
+// Hashes the words of the folds of values.
 #[inline]
 pub(crate) fn fold_folded_words<F: WordStep>(cells: &[Value], start: u64, f: &F) -> u64
     ensures { result ≡ fold (F.next f.now) start (worded (map folded cells.now)) }
@@ -35,7 +35,7 @@ pub(crate) fn fold_folded_words<F: WordStep>(cells: &[Value], start: u64, f: &F)
     acc
 }
 
-// Those of the folds of a row's values in the columns at these positions.
+// Hashes the words of the folds of a row's values in the columns at these positions.
 #[inline]
 pub(crate) fn fold_row_words<F: WordStep>(
     positions: &[usize],
@@ -53,7 +53,7 @@ pub(crate) fn fold_row_words<F: WordStep>(
     acc
 }
 
-// Those of a value's fold, which stands in no memory.
+// Hashes the words of a value's fold, without making the fold.
 #[inline]
 fn fold_words_of_fold<F: WordStep>(value: &Value, start: u64, f: &F) -> u64
     ensures { result ≡ fold (F.next f.now) start (value_words (folded value.now)) }
@@ -77,7 +77,7 @@ fn fold_value_words<F: WordStep>(value: &Value, start: u64, f: &F) -> u64
     }
 }
 
-// The words of a text's fold. Not a part of the look-ups of other values, which are shorter without it.
+// Hashes the words of a text's fold. Not inlined, so that look-ups of other values stay short.
 #[inline(never)]
 fn fold_lowered_words<F: WordStep>(text: &Text, start: u64, f: &F) -> u64
     ensures { result ≡ fold (F.next f.now) start (words_of (fold_case text.now)) }
@@ -85,7 +85,7 @@ fn fold_lowered_words<F: WordStep>(text: &Text, start: u64, f: &F) -> u64
     fold_byte_words(text.as_str().as_bytes(), &Lowered, start, f)
 }
 
-// The fold of each byte in its place.
+// Maps each byte to its fold.
 struct Lowered;
 
 impl ByteMap for Lowered {
