@@ -1,4 +1,4 @@
-//! Rows from records.
+//! Decoding records.
 ghost use Rattle.std.specs.Prelude.{◌≡◌, ◌≤◌, ◌<◌, ℕ, ◌^◌, false, true, All, List, ◌++◌, length, take, IfOk, IfSome, IfNone, FitsSigned};
 ghost use Rattle.std.specs.Int.{to_be_bytes, w32, w64};
 ghost use Rattle.gq_row.specs.declared.value.Value.{Value as Cell};
@@ -10,7 +10,7 @@ use gq_row::{Row, Value};
 use std::alloc::{AllocError, Global};
 use std::mem;
 
-/// The length at the front, and what follows it; `None` where there are fewer than four bytes.
+/// The length that the bytes begin with, and the bytes after it; `None` if there are fewer than four.
 pub fn take_length(bytes: &[u8]) -> Option<(u32, &[u8])>
     ensures found { IfSome result (λ x. bytes.now ≡ to_be_bytes w32 x.0 ++ x.1.now) }
     ensures small { IfSome result (λ x. x.0 < 2 ^ 32) }
@@ -23,7 +23,7 @@ pub fn take_length(bytes: &[u8]) -> Option<(u32, &[u8])>
     Some((BigEndian::read_u32(front), rest))
 }
 
-// The number at the front, and what follows it.
+// The number that the bytes begin with, and the bytes after it.
 fn take_number(bytes: &[u8]) -> Option<(i64, &[u8])>
     ensures found { IfSome result (λ x. (bytes.now ≡ number_bytes x.0 ++ x.1.now) ×
         FitsSigned w64 x.0) }
@@ -36,7 +36,7 @@ fn take_number(bytes: &[u8]) -> Option<(i64, &[u8])>
     Some((BigEndian::read_i64(front), rest))
 }
 
-// The bytes that stand behind their length at the front, and what follows them.
+// The bytes after the length that these begin with, as many as it says, and the bytes after those.
 fn take_block(bytes: &[u8]) -> Option<(&[u8], &[u8])>
     ensures found { IfSome result (λ x. (bytes.now ≡ with_length x.0.now ++ x.1.now) ×
         (length x.0.now < 2 ^ 32)) }
@@ -51,7 +51,7 @@ fn take_block(bytes: &[u8]) -> Option<(&[u8], &[u8])>
     Some(rest.split_at(len))
 }
 
-// The text at the front, and what follows it.
+// The text that the bytes begin with, and the bytes after it.
 fn take_text(bytes: &[u8]) -> Option<(&str, &[u8])>
     ensures found { IfSome result (λ x. (bytes.now ≡ with_length x.0.now ++ x.1.now) ×
         IsText x.0.now) }
@@ -65,7 +65,7 @@ fn take_text(bytes: &[u8]) -> Option<(&str, &[u8])>
     }
 }
 
-// Writes the value at the front over another, and gives what follows it.
+// Overwrites `over` with the value that the bytes begin with, and returns the bytes after it.
 #[inline(always)]
 #[tactic(auto, unfolding(crate::specs::Records::value_bytes))]
 fn take_value<'a>(
@@ -111,8 +111,8 @@ fn take_value<'a>(
     }
 }
 
-// Writes the values of the row of this body over others, and tells whether there is one. Room for so many values is made
-// at once.
+// Overwrites `cells` with the values of the row with this body, and returns whether there is one. `room` is the
+// number of values to reserve room for.
 fn take_body(
     alloc: Global,
     bytes: &[u8],
@@ -141,8 +141,8 @@ fn take_body(
     Ok(true)
 }
 
-// Writes the values of the row of this body over as many others where they stand, and tells whether it did. Only speed rests on
-// it: where it didn't, `take_row` tells whether there is a row.
+// Overwrites as many values as there are with those of a body, in place, and returns whether it has just as
+// many. This is only a shortcut: else `take_row` decides whether there is a row.
 #[inline]
 fn take_values(alloc: Global, bytes: &[u8], cells: &mut [Value]) -> Result<bool, AllocError>
     ensures { IfOk result (λ is_body. is_body ≡ true →
@@ -158,7 +158,7 @@ fn take_values(alloc: Global, bytes: &[u8], cells: &mut [Value]) -> Result<bool,
     Ok(rest.is_empty())
 }
 
-// Writes the row of this body over another of any length, and tells whether there is one.
+// Overwrites a row of any length with the row of this body, and returns whether there is one.
 #[cold]
 fn take_row(alloc: Global, bytes: &[u8], columns: usize, row: &mut Row) -> Result<bool, AllocError>
     ensures found { IfOk result (λ is_body. is_body ≡ true →
@@ -167,15 +167,14 @@ fn take_row(alloc: Global, bytes: &[u8], columns: usize, row: &mut Row) -> Resul
         All IsCell row → bytes.now ≡ body_of row → ⊥) }
 {
     let mut cells = mem::replace(row, Row::new(Vec::new(alloc))).into_cells();
-    // Each value takes a byte at least.
+    // Each value takes at least one byte.
     let is_body = take_body(alloc, bytes, columns.min(bytes.len()), &mut cells)?;
     *row = Row::new(cells);
     Ok(is_body)
 }
 
-/// As [`decode_row`], for rows that mostly have so many columns, and over another row, whose values are dropped: where
-/// its memory is enough no more is taken. Where the bytes begin with no row's record, or memory is wanting, nothing is
-/// said of what the row is then.
+/// As [`decode_row`], but overwrites `row`, and allocates only if its memory doesn't suffice. The number of
+/// columns is a hint. If there is no row, or on error, what `row` holds is unspecified.
 pub fn decode_row_over(
     alloc: Global,
     bytes: &[u8],
@@ -197,8 +196,8 @@ pub fn decode_row_over(
     Ok(Some(4 + body.len()))
 }
 
-/// The row whose record is at the front, and how many bytes the record takes; `None` where the bytes
-/// begin with no row's record.
+/// The row whose record the bytes begin with, and the length of the record; `None` if they begin with no row's
+/// record.
 pub fn decode_row(alloc: Global, bytes: &[u8]) -> Result<Option<(Row, usize)>, AllocError>
     ensures within { IfOk result (λ o. IfSome o (λ found. found.1 ≤ length bytes.now)) }
     ensures found { IfOk result (λ o. IfSome o (λ found. (take found.1 bytes.now ≡ record_of

@@ -1,4 +1,4 @@
-//! Rows to records.
+//! Encoding rows as records.
 ghost use Rattle.std.specs.Prelude.{◌≡◌, ◌↔◌, take, ◌++◌, ◌∷◌, ◌<◌, ◌^◌, All, length, OnOk, OnErr, IsTrue, IfSome, IfNone};
 ghost use Rattle.std.specs.Int.{to_be_bytes, w32};
 ghost use Rattle.gq_record.specs.Records.{IsStorable, IsCell, record_of, body_of, value_bytes, with_length, number_bytes};
@@ -8,7 +8,7 @@ use byteorder::{BigEndian, ByteOrder};
 use gq_row::{Row, Text, Value};
 use std::alloc::AllocError;
 
-// Puts a number behind its tag at the end, all nine bytes at once.
+// Appends a tag and a number, all nine bytes at once.
 fn put_number(n: i64, out: &mut Vec<u8>) -> Result<(), AllocError>
     ensures ok { OnOk result (out.new.items ≡ out.old.items ++ INT ∷ number_bytes n) }
     ensures keeps { take (length out.old.items) out.new.items ≡ out.old.items }
@@ -18,7 +18,7 @@ fn put_number(n: i64, out: &mut Vec<u8>) -> Result<(), AllocError>
     out.extend_from_slice(&field)
 }
 
-// Puts a text behind a tag and its length at the end, as it is written.
+// Appends a tag, a text's length, and its own bytes.
 fn put_text(tag: u8, text: &Text, out: &mut Vec<u8>) -> Result<(), AllocError>
     requires { length text.now < 2 ^ 32 }
     ensures ok { OnOk result (out.new.items ≡ out.old.items ++ tag ∷ with_length text.now) }
@@ -30,7 +30,7 @@ fn put_text(tag: u8, text: &Text, out: &mut Vec<u8>) -> Result<(), AllocError>
     out.extend_from_slice(text.as_str().as_bytes())
 }
 
-// Puts a value at the end.
+// Appends a value.
 #[tactic(auto, unfolding(crate::specs::Records::value_bytes))]
 fn put_value(value: &Value, out: &mut Vec<u8>) -> Result<(), AllocError>
     requires { IsCell value.now }
@@ -48,7 +48,7 @@ fn put_value(value: &Value, out: &mut Vec<u8>) -> Result<(), AllocError>
     }
 }
 
-// Puts the values of a row at the end, one after the other.
+// Appends the values of a row.
 fn put_body(row: &Row, out: &mut Vec<u8>) -> Result<(), AllocError>
     requires { All IsCell row.now }
     ensures ok { OnOk result (out.new.items ≡ out.old.items ++ body_of row.now) }
@@ -60,7 +60,7 @@ fn put_body(row: &Row, out: &mut Vec<u8>) -> Result<(), AllocError>
     Ok(())
 }
 
-// How many bytes a value takes; None for a text that is too long for its length.
+// The length of a value's bytes, or `None` if a text is too long.
 #[tactic(auto, unfolding(crate::specs::Records::value_bytes))]
 fn value_len(value: &Value) -> Option<u64>
     ensures some { IfSome result (λ len. (len ≡ length (value_bytes value.now)) × (len < 2 ^ 33) ×
@@ -70,7 +70,7 @@ fn value_len(value: &Value) -> Option<u64>
     match value {
         Value::Null => Some(1),
         Value::Int(n) => {
-            // What is read is known to be of 64 bits.
+            // A value of the type is one of 64 bits.
             let _n = *n;
             Some(9)
         }
@@ -84,7 +84,7 @@ fn value_len(value: &Value) -> Option<u64>
     }
 }
 
-// How many bytes the body of a row takes; None where the row has no record.
+// The length of a row's body, or `None` if the row has no record.
 fn body_len(row: &Row) -> Option<u64>
     ensures some { IfSome result (λ len. (len ≡ length (body_of row.now)) × IsStorable row.now) }
     ensures none { IfNone result (IsStorable row.now → ⊥) }
@@ -102,15 +102,15 @@ fn body_len(row: &Row) -> Option<u64>
     Some(total)
 }
 
-/// Whether a row has a record: whether its values take fewer than 2^32 bytes there.
+/// Whether a row has a record: whether its body takes fewer than 2^32 bytes.
 pub fn is_storable(row: &Row) -> bool
     ensures { IsTrue result ↔ IsStorable row.now }
 {
     body_len(row).is_some()
 }
 
-// Puts the record of a row at the end; where memory is wanting, perhaps a part of it. The length is written last, over
-// four bytes that wait for it, so that nothing goes over the row before it is written.
+// Appends the record of a row; on error a part of it may have been appended. The length is written last, over
+// four bytes that are left for it, which saves a pass over the row.
 fn put_record(row: &Row, out: &mut Vec<u8>) -> Result<(), AllocError>
     requires { IsStorable row.now }
     ensures ok { OnOk result (out.new.items ≡ out.old.items ++ record_of row.now) }
@@ -124,7 +124,7 @@ fn put_record(row: &Row, out: &mut Vec<u8>) -> Result<(), AllocError>
     Ok(())
 }
 
-/// Puts the record of a row at the end of the bytes. Where memory is wanting they are as they were.
+/// Appends the record of a row. On error the bytes don't change.
 pub fn encode_row(row: &Row, out: &mut Vec<u8>) -> Result<(), AllocError>
     requires { IsStorable row.now }
     ensures ok { OnOk result (out.new.items ≡ out.old.items ++ record_of row.now) }

@@ -1,4 +1,4 @@
-//! The byte before a value that tells its kind.
+//! The tags of values.
 
 pub const NULL: u8 = 0;
 

@@ -1,4 +1,4 @@
-//! Records of rows: the bytes as which rows go to runs, and come back.
+//! Records of rows: the bytes that are written to runs, and read back.
 //!
 //! ```text
 //! let mut bytes = Vec::new(alloc);
@@ -9,12 +9,11 @@
 //!
 //! # The contract above this crate
 //!
-//! [`encode_row`] appends the record of a row, as `specs/Records.antt` spells it, or leaves the bytes as
-//! they were. [`decode_row`] answers a row only where the bytes begin with its record, and `None` only
-//! where they begin with no row's; so does [`decode_row_over`], which writes the row over another. A row
-//! has a record where its values take fewer than 2^32 bytes, as [`is_storable`] tells. A text without case
-//! has its own tag and stands there as it is written, not by its fold. By a law no record begins another,
-//! and none is of two rows.
+//! [`encode_row`] appends the record of a row, as `specs/Records.antt` defines it, or on error leaves the bytes
+//! unchanged. [`decode_row`] returns a row only if the bytes begin with its record, and `None` only if they
+//! begin with no row's; so does [`decode_row_over`], which overwrites a row. A row has a record if its body
+//! takes fewer than 2^32 bytes, as [`is_storable`] says. A text without case has its own tag, and is written as
+//! it is spelled, not as its fold. By a law no record begins with another, and none is of two rows.
 #![tactic(auto)]
 
 mod decoding;

@@ -1,11 +1,12 @@
--- What the definitions come to, in the subject's own words.
+-- What the definitions imply, in the subject's own words.
 use Rattle.std.specs.Prelude.{◌≡◌, ℕ, All, IsTrue, List, length}
 use Rattle.gq_row.specs.declared.value.Value.{Value}
 use Rattle.gq_spill.specs.Runs.{Runs, SameRun}
 use Rattle.gq_spill.specs.Reading.{Reading, Left, opened}
 use Rattle.gq_spill.specs.Writing.{Writing, Wrote}
 
--- the rows that were written are left to a reader that is opened on their run, and stay so while the run stays as it is
+-- a reader that is opened on a run has all rows left that were written, and they stay left while the run stays
+-- the same
 pub record ReadsBack : Type 0 where
   pub opens : (w : Writing) (runs : Runs) (rows : List (List Value)) (columns : ℕ) → Wrote w runs rows → All (λ row. length row ≡ columns) rows
       → Left (opened w.mark columns) runs rows

@@ -7,7 +7,8 @@ use Rattle.gq_spill.specs.declared.run_mark.RunMark.{RunMark}
 use Rattle.gq_spill.specs.declared.run_tail.RunTail.{RunTail}
 use Rattle.gq_spill.specs.declared.spill_refusal.SpillRefusal.{SpillRefusal}
 
--- a reader: what is left of its run, how many rows its mark tells and how many columns they have, how many rows it gave, and the refusal that it answers from now on, if there was one
+-- a reader: the rest of its run, how many rows it has by its mark, how many columns they have, how many rows
+-- were read, and the error that is returned from now on, if there was one
 pub record Reading : Type 0 where
   pub tail : RunTail
   pub records : ℕ
@@ -19,7 +20,8 @@ pub record Reading : Type 0 where
 abbrev pub opened : RunMark → ℕ → Reading
 opened mark columns = record { tail = record { id = mark.id; at = 0; end = mark.bytes; ahead = [] }; records = mark.records; columns = columns; given = 0; refused = None }
 
--- from the place on the run has these bytes to its end, and they begin with those that were read ahead
+-- the unread rest of a run: from the reader's position on it has these bytes, and they begin with those that
+-- were read ahead
 pub record Unread (tail : RunTail) (runs : Runs) (rest : List ℕ) : Type 0 where
   pub front : List ℕ
   pub behind : List ℕ
@@ -28,7 +30,8 @@ pub record Unread (tail : RunTail) (runs : Runs) (rest : List ℕ) : Type 0 wher
   pub ends : tail.end ≡ tail.at + length rest
   pub begun : rest ≡ tail.ahead ++ behind
 
--- These rows are left: the run goes on with their records and nothing else, they and the rows given are as many as the mark tells, each has the right number of columns, and nothing was refused.
+-- rows are left: the rest of the run is their records and nothing else, the rows read and these are as many as
+-- the mark says, each has the reader's number of columns, and no error was returned
 pub record Left (r : Reading) (runs : Runs) (rows : List (List Value)) : Type 0 where
   pub bytes : Unread r.tail runs (records_of rows)
   pub count_rows : r.records ≡ r.given + length rows

@@ -1,4 +1,4 @@
--- How writers and readers of runs tell what the store refused.
+-- How writers and readers of runs report the errors of the store.
 use Rattle.std.specs.Prelude.{◌≡◌, ◌+◌, Bool, true, false, Result, Ok, Err}
 use Rattle.gq_spill.specs.Runs.{Runs, one_if}
 use Rattle.gq_spill.specs.declared.store_error.StoreError.{StoreError}
@@ -6,18 +6,18 @@ use Rattle.gq_spill.specs.declared.store_error.StoreError.TheVariants.{Memory as
 use Rattle.gq_spill.specs.declared.spill_refusal.SpillRefusal.{SpillRefusal}
 use Rattle.gq_spill.specs.declared.spill_refusal.SpillRefusal.TheVariants.{Memory, StoreFault, Damaged}
 
--- what a store's error is told as
+-- the error that a store's error becomes
 abbrev pub told_as : StoreError → SpillRefusal
 told_as NoMemory = Memory
 told_as Fault = StoreFault
 
--- whether a call answers that the store failed
+-- a result is the error that the store failed
 abbrev pub tells_fault : {T : Type 0} → Result T SpillRefusal → Bool
 tells_fault (Ok x) = false
 tells_fault (Err Memory) = false
 tells_fault (Err StoreFault) = true
 tells_fault (Err Damaged) = false
 
--- a call answers that the store failed exactly where it did, which is counted once
+-- a call reports a failure of the store exactly if it failed, and the failure is counted once
 abbrev pub TellsFaults : {T : Type 0} → Result T SpillRefusal → Runs → Runs → Type 0
 TellsFaults result old new = new.failures ≡ old.failures + one_if (tells_fault result)

@@ -6,7 +6,8 @@ use Rattle.gq_spill.specs.Runs.{Runs}
 use Rattle.gq_spill.specs.declared.run_mark.RunMark.{RunMark}
 use Rattle.gq_spill.specs.declared.spill_refusal.SpillRefusal.{SpillRefusal}
 
--- a writer: its run, how many bytes and rows it wrote there, and the refusal that it answers from now on, if there was one
+-- a writer: its run, how many bytes and rows it wrote, and the error that is returned from now on, if there was
+-- one
 pub record Writing : Type 0 where
   pub mark : RunMark
   pub refused : Option SpillRefusal
@@ -15,15 +16,15 @@ pub record Writing : Type 0 where
 abbrev pub begun : ℕ → Writing
 begun run = record { mark = record { id = record { number = run }; bytes = 0; records = 0 }; refused = None }
 
--- one row more is written
+-- a writer that has written one more row
 abbrev pub with_row : Writing → List Value → Writing
 with_row w row = record { mark = record { id = w.mark.id; bytes = w.mark.bytes + length (record_of row); records = w.mark.records + 1 }; refused = w.refused }
 
--- it refuses from now on
+-- a writer that returns an error from now on
 abbrev pub refusing : Writing → SpillRefusal → Writing
 refusing w why = record { mark = w.mark; refused = Some why }
 
--- the run has the records of these rows and nothing else, and nothing was refused
+-- rows were written: the run has their records and nothing else, and no error was returned
 pub record Wrote (w : Writing) (runs : Runs) (rows : List (List Value)) : Type 0 where
   pub content : runs.content w.mark.id.number ≡ Some (records_of rows)
   pub count_bytes : w.mark.bytes ≡ length (records_of rows)

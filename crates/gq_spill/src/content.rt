@@ -19,7 +19,7 @@ impl Model for Content {
 }
 
 impl Content {
-    // No byte. It takes no memory.
+    // An empty content. It takes no memory.
     pub(crate) fn new(alloc: Global) -> Content
         ensures { result ≡ [] }
     {
@@ -28,7 +28,7 @@ impl Content {
         }
     }
 
-    // Puts bytes at the end.
+    // Appends bytes.
     pub(crate) fn append(&mut self, bytes: &[u8]) -> Result<(), AllocError>
         ensures { OnOk result (self.new ≡ self.old ++ bytes.now) }
     {
@@ -43,7 +43,7 @@ impl Content {
     }
 }
 
-// Copies the bytes from a place on into the front of the buffer, as many as fit.
+// Copies as many bytes of `content` as fit into the buffer, from position `at` on, and returns how many.
 pub(crate) fn copy_from(content: &[u8], at: usize, buffer: &mut [u8]) -> usize
     ensures within { result ≤ length buffer.old }
     ensures bytes { take result buffer.new ≡ take (length buffer.old) (drop at content.now) }

@@ -1,9 +1,9 @@
-//! When a call goes wrong.
+//! The countdown to a call that goes wrong.
 ghost use Rattle.std.specs.Prelude.{◌≡◌, ◌+◌, ◌↔◌, true, false, IsTrue};
 ghost use Rattle.gq_spill.specs.Runs.{one_if};
 ghost use Rattle.gq_spill.specs.Fuses.{reads_whole, has_failed};
 
-/// How many calls there are until one goes wrong, or that it did.
+/// The number of calls until one goes wrong, or that one did.
 #[derive(Clone, Copy, Debug, PartialEq, Eq)]
 pub enum Fuse {
     Fails(u64),
@@ -13,7 +13,7 @@ pub enum Fuse {
 }
 
 impl Fuse {
-    // Counts a call, and answers whether it is the one that fails.
+    // Counts a call, and returns whether it is the one that fails.
     pub(crate) fn fails(&mut self) -> bool
         ensures now { IsTrue result ↔ (self.old ≡ Fuse.Fails 1) }
         ensures whole { reads_whole self.new ≡ reads_whole self.old }
@@ -32,7 +32,7 @@ impl Fuse {
         }
     }
 
-    // Counts a read that would give a byte, and answers whether it is the one to give one byte less.
+    // Counts a read that returns bytes, and returns whether it is the one to return one byte less.
     pub(crate) fn shortens(&mut self) -> bool
         ensures now { IsTrue result ↔ (self.old ≡ Fuse.Shortens 1) }
         ensures whole { reads_whole self.new ≡ reads_whole self.old }

@@ -6,19 +6,19 @@ use crate::fuse::Fuse;
 use crate::store::{RunId, RunStore};
 use crate::store_error::StoreError;
 
-/// What goes wrong.
+/// The call that goes wrong.
 #[derive(Clone, Copy, Debug, PartialEq, Eq)]
 pub enum Trouble {
-    /// The call of this number answers `Fault` and does nothing; `make`, `append` and `read` are
-    /// counted together, from 1.
+    /// The call of this number returns `Fault` and does nothing; `make`, `append` and `read` are counted
+    /// together, from 1.
     Fail(u64),
-    /// The read of this number gives one byte less; those that would give a byte are counted, from 1.
+    /// The read of this number returns one byte less. Only reads that return bytes are counted, from 1.
     Short(u64),
 }
 
-/// A store that does as the one within, but for the one call that goes wrong.
+/// A store that passes each call to its inner store, but for the one that goes wrong.
 ///
-/// Where a call fails it is as honest as the store within; where a read is cut short it is not honest.
+/// With a failing call it is as honest as the inner store; with a short read it isn't honest.
 #[derive(Drop)]
 pub struct FuseStore<S> {
     inner: S,
@@ -26,7 +26,7 @@ pub struct FuseStore<S> {
 }
 
 impl<S: RunStore> FuseStore<S> {
-    /// The store within, and what goes wrong with it.
+    /// A store over `inner`, with the trouble that it makes.
     pub fn new(inner: S, trouble: Trouble) -> FuseStore<S>
         ensures { ⟦<FuseStore<S> as RunStore>⟧.runs result ≡ fused (S.runs inner) (fuse_of trouble) }
     {

@@ -1,9 +1,8 @@
-//! Run stores, and rows in runs: where rows go that do not fit into memory.
+//! Run stores, and rows in runs: where rows are spilled that don't fit in memory.
 //!
-//! A run is a list of bytes that is written from its front to its end, read back, and discarded.
-//! [`RunStore`] is what every store of runs can do; [`MemStore`] keeps its runs in memory, and
-//! [`FuseStore`] is a store in which one call goes wrong, for tests. [`RunWriter`] writes rows to a
-//! run of its own, and [`RunReader`] gives them back:
+//! A run is a list of bytes that is appended to, read back, and discarded. [`RunStore`] is the interface of all
+//! stores; [`MemStore`] keeps its runs in memory, and [`FuseStore`] makes one call go wrong, for tests.
+//! [`RunWriter`] writes rows to a run of its own, and [`RunReader`] reads them:
 //!
 //! ```text
 //! let mut writer = RunWriter::begin(alloc, &mut store)?;
@@ -18,24 +17,23 @@
 //! store.discard(mark.id);
 //! ```
 //!
-//! A reader asks the store for pieces of 64 KiB, and for more where a record is longer, so that it
-//! costs a run on a disk few calls. Records are those of [`gq_record`], whose names are handed on.
+//! A reader reads pieces of 64 KiB, and larger ones if a record is longer, so that a run on a disk takes few
+//! calls. Records are those of [`gq_record`], whose names are exported too.
 //!
 //! # The contract above this crate
 //!
-//! Contracts know a store by one value of plain data, `Runs` of `specs/Runs.antt`: the live runs,
-//! their contents, whether the store is honest, and how many runs and failures there were. A store
-//! that is honest reads back what was written; each `Fault` is counted; no call changes a run that
-//! it doesn't name. [`MemStore`] is such a store, it is honest, and it never fails but for memory.
+//! Contracts see a store as one value of plain data, `Runs` of `specs/Runs.antt`: the live runs, their
+//! contents, whether the store is honest, and how many runs and failures there were. A store that is honest
+//! reads back what was written; each `Fault` is counted; no call changes a run that it doesn't name.
+//! [`MemStore`] is honest, and fails only if memory is refused.
 //!
-//! Over an honest store the rows read are the rows written, in their order (`Wrote` of
-//! `specs/Writing.antt`, `Left` of `specs/Reading.antt`, and the law that joins them), and no run that
-//! was written is found damaged. Over any store a reader gives rows of the right width alone, no more
-//! of them than the mark tells, and says that there are no more only behind the last; that the store
-//! failed is answered exactly where it did; and after a refusal a writer or a reader answers the same
-//! one from then on.
+//! Over an honest store a reader returns the rows that were written, in order (`Wrote` of `specs/Writing.antt`,
+//! `Left` of `specs/Reading.antt`, and the law that joins them), and never reports such a run as damaged. Over
+//! any store it returns only rows of the right width, at most as many as the mark says, and reports the end
+//! only after all of these. It returns `StoreFault` exactly if the store failed; and after an error a writer or
+//! a reader returns the same error from then on.
 //!
-//! The engine holds a store, and its groupings write to it the rows of groups past their budget.
+//! The engine owns a store, to which groupings spill the rows of groups past their budget.
 #![tactic(auto)]
 
 mod content;

@@ -7,10 +7,8 @@ use crate::store_error::StoreError;
 use std::alloc::{AllocError, Global};
 use std::marker::Model;
 
-/// Runs that are kept in memory, numbered from 0 in the order in which they are made. Contracts see
-/// the list of them: a content, or none once the run was discarded.
-///
-/// It refuses for want of memory alone, and reads back what was written.
+/// Runs in memory, numbered from 0 in the order in which they are made. Contracts see a list: the content of
+/// each run, or none once it was discarded. It is honest, and fails only if memory is refused.
 #[derive(Drop)]
 pub struct MemStore {
     alloc: Global,
@@ -26,7 +24,7 @@ impl Model for MemStore {
 }
 
 impl MemStore {
-    /// A store without runs. It takes no memory.
+    /// An empty store. It takes no memory.
     pub fn new(alloc: Global) -> MemStore
         ensures { result ≡ [] }
     {

@@ -1,8 +1,8 @@
-//! What names a written run.
+//! What a reader of a run needs.
 use crate::store::RunId;
 
-/// A run that was written: its number, and how many bytes and rows were written to it. It is all
-/// that a reader of the run needs, beside the number of columns.
+/// A run that was written: its number, and how many bytes and rows were written to it. With the number of
+/// columns it is all that a reader needs.
 #[derive(Clone, Copy, Debug, PartialEq, Eq)]
 pub struct RunMark {
     pub id: RunId,

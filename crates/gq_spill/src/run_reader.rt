@@ -16,10 +16,8 @@ use gq_row::Row;
 use std::alloc::Global;
 use std::marker::Model;
 
-/// Reads the rows of a run, one after the other. Of the store it asks for pieces of 64 KiB.
-///
-/// Contracts see what is left of the run, how many rows the mark tells and how many came, and the
-/// refusal that it answers from now on, if there was one.
+/// Reads the rows of a run in order, in pieces of 64 KiB. Contracts see the rest of the run, how many rows it
+/// has by the mark and how many were read, and the error that is returned from now on, if there was one.
 #[derive(Drop)]
 pub struct RunReader {
     tail: RunTail,
@@ -41,7 +39,7 @@ impl Model for RunReader {
 }
 
 impl RunReader {
-    /// A reader of the rows of a run, each of so many columns. It takes no memory yet.
+    /// A reader of a run whose rows have `columns` columns. It takes no memory yet.
     pub fn open(alloc: Global, mark: RunMark, columns: usize) -> RunReader
         ensures { result ≡ opened mark columns }
     {
@@ -59,7 +57,7 @@ impl RunReader {
         }
     }
 
-    /// How many rows are still to come, by the mark.
+    /// How many rows are left, by the mark.
     #[inline]
     pub fn left(&self) -> u64
         ensures { result ≡ self.now.records - self.now.given }
@@ -67,7 +65,7 @@ impl RunReader {
         self.records - self.given
     }
 
-    // Takes the row that comes next, and writes it over another.
+    // Reads the next row, and overwrites `row` with it.
     fn take_row<S: RunStore>(
         &mut self,
         alloc: Global,
@@ -101,9 +99,8 @@ impl RunReader {
         }
     }
 
-    /// Writes the next row over another, whose values are dropped, and tells whether there was one: where the memory
-    /// of that is enough no more is taken. After a refusal it answers the same one from then on, and leaves the store
-    /// alone.
+    /// Overwrites `row` with the next row, and returns whether there was one. It reuses the memory of `row`.
+    /// After an error it returns the same error from then on, and doesn't call the store.
     pub fn next<S: RunStore>(
         &mut self,
         alloc: Global,
@@ -111,14 +108,14 @@ impl RunReader {
         row: &mut Row,
     ) -> Result<bool, SpillRefusal>
         requires live { IsTrue ((S.runs store.old).live self.old.tail.id.number) }
-        // Over an honest store the rows come in the order in which they were written,
+        // Over an honest store the rows are those that were written, in order,
         ensures rows { IsTrue (S.runs store.old).honest →
             IfOk result (λ more. (rows : List (List Cell)) → Left self.old (S.runs store.old) rows →
             Gave (came more row.new) rows (Left self.new (S.runs store.new))) }
-        // and their run is never found damaged.
+        // and their run is never reported as damaged.
         ensures sound { IsTrue (S.runs store.old).honest → IsErrOf result SpillRefusal.Damaged →
             (rows : List (List Cell)) → Left self.old (S.runs store.old) rows → ⊥ }
-        // Over any store there are no more only behind as many rows as the mark tells.
+        // Over any store the end is reported only after as many rows as the mark says.
         ensures end { IfOk result (λ more. more ≡ false → self.new.given ≡ self.old.records) }
         ensures count { IfOk result (λ more.
             self.new.given ≡ self.old.given + taken (came more row.new)) }

@@ -1,4 +1,4 @@
-//! What is left of a run.
+//! The rest of a run.
 ghost use Rattle.std.specs.Prelude.{◌≡◌, ◌++◌, ◌+◌, ◌<◌, ◌≤◌, ◌^◌, List, ℕ, length, OnOk, IsErrOf, IsTrue};
 ghost use Rattle.gq_row.specs.declared.value.Value.{Value as Cell};
 ghost use Rattle.gq_record.specs.Records.{IsStorable, record_of};
@@ -13,13 +13,13 @@ use gq_record::{decode_row_over, take_length};
 use gq_row::Row;
 use std::alloc::Global;
 
-// How many bytes are held at once, where the run has them and no record is longer.
+// How many bytes are read ahead, unless the run has fewer or a record is longer.
 const PIECE: u64 = 65_536;
 
-// How many bytes a length takes.
+// The size of a length, in bytes.
 const LENGTH: usize = 4;
 
-/// What is left of a run: its bytes from `at` to `end`, the first of which were read ahead.
+/// The rest of a run: its bytes from `at` to `end`, the first of which are read ahead.
 #[derive(Drop)]
 pub struct RunTail {
     pub id: RunId,
@@ -29,7 +29,7 @@ pub struct RunTail {
 }
 
 impl RunTail {
-    // Reads ahead until there are as many bytes as needed.
+    // Reads ahead until `need` bytes are there.
     fn fetch<S: RunStore>(&mut self, store: &mut S, need: usize) -> Result<(), SpillRefusal>
         requires live { IsTrue ((S.runs store.old).live self.old.id.number) }
         requires within { self.old.at + length self.old.ahead ≤ self.old.end }
@@ -61,7 +61,7 @@ impl RunTail {
         self.ahead.grow(store, self.id, place, more)
     }
 
-    // Takes the row at the front of the bytes that were read ahead, and writes it over another.
+    // Decodes the first row of the bytes that were read ahead, over `row`.
     fn use_row(&mut self, alloc: Global, columns: usize, row: &mut Row) -> Result<(), SpillRefusal>
         requires { self.old.at + length self.old.ahead ≤ self.old.end }
         ensures row { OnOk result ((self.old.ahead ≡ record_of row.new ++ self.new.ahead) ×
@@ -83,7 +83,7 @@ impl RunTail {
         }
     }
 
-    /// Takes the row whose record comes next, of so many columns mostly, and writes it over another.
+    /// Reads the next row, over `row`. The number of columns is a hint.
     pub fn take<S: RunStore>(
         &mut self,
         alloc: Global,

@@ -1,4 +1,4 @@
-//! Rows to a run.
+//! Writing rows to a run.
 ghost use Rattle.std.specs.Prelude.{◌≡◌, ◌+◌, ◌++◌, ◌∷◌, [], List, None, IfOk, IfErr, IfSome, OnOk, OnErr, Err, IsErrOf, IsTrue, is_ok};
 ghost use Rattle.gq_row.specs.declared.value.Value.{Value as Cell};
 ghost use Rattle.gq_record.specs.Records.{IsStorable};
@@ -14,14 +14,13 @@ use gq_row::Row;
 use std::alloc::Global;
 use std::marker::Model;
 
-/// Writes rows to a run of its own, one record after the other.
-///
-/// Contracts see its run's mark so far, and the refusal that it answers from now on, if there was one.
+/// Writes rows to a run of its own, as records. Contracts see the run's mark so far, and the error that is
+/// returned from now on, if there was one.
 #[derive(Drop)]
 pub struct RunWriter {
     mark: RunMark,
     refused: Option<SpillRefusal>,
-    // The record of a row, on its way to the store.
+    // The record of the row that is being written.
     buffer: Vec<u8>,
 }
 
@@ -34,12 +33,12 @@ impl Model for RunWriter {
 }
 
 impl RunWriter {
-    /// Makes a run to write to.
+    /// Makes a run, and a writer of it.
     pub fn begin<S: RunStore>(alloc: Global, store: &mut S) -> Result<RunWriter, SpillRefusal>
         ensures begun { IfOk result (λ w. w ≡ begun w.mark.id.number) }
         ensures made { IfOk result (λ w. Makes w.mark.id.number (S.runs store.old) (S.runs
             store.new)) }
-        // Over an honest store the run holds no row yet.
+        // Over an honest store the run has no rows yet.
         ensures wrote { IsTrue (S.runs store.old).honest →
             IfOk result (λ w. Wrote w (S.runs store.new) []) }
         ensures err { OnErr result (Kept (S.runs store.old) (S.runs store.new)) }
@@ -61,7 +60,7 @@ impl RunWriter {
         }
     }
 
-    // Puts the record of a row at the run's end.
+    // Appends the record of a row to the run.
     fn put<S: RunStore>(&mut self, store: &mut S, row: &Row) -> Result<(), SpillRefusal>
         requires live { IsTrue ((S.runs store.old).live self.old.mark.id.number) }
         requires storable { IsStorable row.now }
@@ -78,7 +77,7 @@ impl RunWriter {
         if encode_row(row, &mut self.buffer).is_err() {
             return Err(SpillRefusal::Memory);
         }
-        // No mark could tell counts past 64 bits.
+        // A mark has counts of 64 bits.
         let Some(bytes) = self.mark.bytes.checked_add(self.buffer.len() as u64) else {
             return Err(SpillRefusal::Memory);
         };
@@ -95,12 +94,12 @@ impl RunWriter {
         }
     }
 
-    /// Writes a row. After a refusal it answers the same one from then on, and leaves the store alone.
+    /// Writes a row. After an error it returns the same error from then on, and doesn't call the store.
     pub fn write<S: RunStore>(&mut self, store: &mut S, row: &Row) -> Result<(), SpillRefusal>
         requires live { IsTrue ((S.runs store.old).live self.old.mark.id.number) }
         requires storable { IsStorable row.now }
         ensures ok { OnOk result (self.new ≡ with_row self.old row.now) }
-        // Over an honest store the run holds the rows so far and this one.
+        // Over an honest store the run has the rows so far and this one.
         ensures wrote { IsTrue (S.runs store.old).honest → OnOk result ((rows : List (List Cell)) →
             Wrote self.old (S.runs store.old) rows →
             Wrote self.new (S.runs store.new) (rows ++ row.now ∷ [])) }
@@ -125,7 +124,7 @@ impl RunWriter {
         }
     }
 
-    /// The run that it writes to.
+    /// The run that is written.
     #[inline]
     pub fn run(&self) -> RunId
         ensures { result ≡ self.now.mark.id }
@@ -133,8 +132,7 @@ impl RunWriter {
         self.mark.id
     }
 
-    /// The mark of the run, for a reader; after a refusal it serves to discard the run, and for
-    /// nothing else.
+    /// The mark of the run, for a reader. After an error it is of use only to discard the run.
     pub fn finish(self) -> RunMark
         ensures { result ≡ self.mark }
     {

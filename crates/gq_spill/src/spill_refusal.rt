@@ -5,22 +5,22 @@ ghost use Rattle.gq_spill.specs.Refusals.{told_as};
 use crate::store_error::StoreError;
 use thiserror::Error;
 
-/// Why a writer or a reader of runs refuses.
+/// The error of a writer or a reader of runs.
 #[derive(Clone, Copy, Debug, PartialEq, Eq, Error)]
 pub enum SpillRefusal {
-    /// Memory was wanting.
+    /// An allocation failed.
     #[error("out of memory")]
     Memory,
     /// The store failed.
     #[error("the store failed")]
     StoreFault,
-    /// The run can't be read as its mark tells.
+    /// The bytes of the run aren't the records that its mark promises.
     #[error("a run is damaged")]
     Damaged,
 }
 
 impl SpillRefusal {
-    // What a store's error is told as.
+    // The error that a store's error becomes.
     pub(crate) fn of(error: StoreError) -> SpillRefusal
         ensures { result ≡ told_as error }
     {

@@ -1,4 +1,4 @@
-//! What a run store is.
+//! The interface of run stores.
 ghost use Rattle.std.specs.Prelude.{IfOk, OnErr, OnOk, IsTrue};
 ghost use Rattle.gq_spill.specs.Runs.{Runs, Makes, Appends, Loses, Reads, Kept, Discards};
 ghost use Rattle.gq_spill.specs.Runs.{Counts, CountsMade};
@@ -11,26 +11,26 @@ pub struct RunId {
     pub number: u64,
 }
 
-/// A store of runs: lists of bytes that are written at their ends, read, and discarded.
+/// A store of runs: lists of bytes that are appended to, read, and discarded.
 pub trait RunStore {
-    /// What is known of the store.
+    /// The plain data that contracts see of the store.
     ghost runs: { Self → Runs };
 
-    /// Adds an empty run, of a number that no live run has.
+    /// Makes an empty run, whose number no live run has.
     fn make(&mut self) -> Result<RunId, StoreError>
         ensures ok { IfOk result (λ id. Makes id.number (runs self.old) (runs self.new)) }
         ensures err { OnErr result (Kept (runs self.old) (runs self.new)) }
         ensures counts { CountsMade result (runs self.old) (runs self.new) };
 
-    /// Puts bytes at the end of a live run. After a refusal the run may only be discarded.
+    /// Appends bytes to a live run. After an error the run may only be discarded.
     fn append(&mut self, id: RunId, bytes: &[u8]) -> Result<(), StoreError>
         requires { IsTrue ((runs self.old).live id.number) }
         ensures ok { OnOk result (Appends id.number bytes.now (runs self.old) (runs self.new)) }
         ensures err { OnErr result (Loses id.number (runs self.old) (runs self.new)) }
         ensures counts { Counts result (runs self.old) (runs self.new) };
 
-    /// Reads the bytes of a live run from a place on into the front of the buffer, as many as fit,
-    /// and returns how many. What stands behind them in the buffer may change.
+    /// Reads as many bytes of a live run as fit into the buffer, from position `at` on, and returns how many.
+    /// The rest of the buffer is unspecified.
     fn read(&mut self, id: RunId, at: u64, buffer: &mut [u8]) -> Result<usize, StoreError>
         requires { IsTrue ((runs self.old).live id.number) }
         ensures ok { IfOk result (λ count.
@@ -38,7 +38,7 @@ pub trait RunStore {
         ensures kept { Kept (runs self.old) (runs self.new) }
         ensures counts { Counts result (runs self.old) (runs self.new) };
 
-    /// Takes a live run away. It never refuses.
+    /// Discards a live run. It never fails.
     fn discard(&mut self, id: RunId)
         requires { IsTrue ((runs self.old).live id.number) }
         ensures { Discards id.number (runs self.old) (runs self.new) };

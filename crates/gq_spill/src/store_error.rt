@@ -1,13 +1,13 @@
-//! Why a store refuses.
+//! Errors of stores.
 use thiserror::Error;
 
-/// Why a store refused a call.
+/// The error of a store's call.
 #[derive(Clone, Copy, Debug, PartialEq, Eq, Error)]
 pub enum StoreError {
-    /// Memory was wanting.
+    /// An allocation failed.
     #[error("out of memory")]
     Memory,
-    /// The store failed, as a disk does that is full.
+    /// The store failed, as a full disk does.
     #[error("the store failed")]
     Fault,
 }

@@ -9,7 +9,7 @@ use crate::store::{RunId, RunStore};
 use std::alloc::{AllocError, Global};
 use std::marker::Model;
 
-// Fills a buffer with a run's bytes from a place on.
+// Fills a buffer with a run's bytes from position `at` on.
 fn read_piece<S: RunStore>(
     store: &mut S,
     id: RunId,
@@ -34,7 +34,7 @@ fn read_piece<S: RunStore>(
     }
 }
 
-// Moves a part of the bytes to the front.
+// Moves a range of the bytes to the start.
 fn move_front(bytes: &mut Vec<u8>, start: usize, end: usize)
     requires ordered { start ≤ end }
     requires within { end ≤ length bytes.old.items }
@@ -47,7 +47,7 @@ fn move_front(bytes: &mut Vec<u8>, start: usize, end: usize)
     }
 }
 
-// Makes the bytes so many, where they are fewer.
+// Extends the bytes to `len`, unless there are as many.
 fn lengthen(bytes: &mut Vec<u8>, len: usize) -> Result<(), AllocError>
     ensures front { take (length bytes.old.items) bytes.new.items ≡ bytes.old.items }
     ensures len { OnOk result (len ≤ length bytes.new.items) }
@@ -58,7 +58,7 @@ fn lengthen(bytes: &mut Vec<u8>, len: usize) -> Result<(), AllocError>
     Ok(())
 }
 
-// Reads a run's bytes from a place on behind the first bytes, `more` of them.
+// Reads `more` bytes of a run from position `at` on, and stores them after the first `held`.
 fn read_behind<S: RunStore>(
     store: &mut S,
     id: RunId,
@@ -81,8 +81,8 @@ fn read_behind<S: RunStore>(
     read_piece(store, id, at, &mut bytes[held..held + more])
 }
 
-/// Bytes of a run that were read and are not used yet, seen as their list. Used bytes stay in the
-/// buffer until more are read.
+/// Bytes of a run that were read and not yet used, seen as their list. Used bytes stay in the buffer until the
+/// next read.
 #[derive(Drop)]
 pub struct Window {
     bytes: Vec<u8>,
@@ -101,7 +101,7 @@ impl Model for Window {
 }
 
 impl Window {
-    /// No byte. It takes no memory.
+    /// An empty window. It takes no memory.
     pub fn new(alloc: Global) -> Window
         ensures { result ≡ [] }
     {
@@ -124,7 +124,7 @@ impl Window {
         self.end - self.start
     }
 
-    /// Uses up bytes from the front.
+    /// Drops the first `count` bytes.
     pub fn skip(&mut self, count: usize)
         requires { count ≤ length self.old }
         ensures { self.new ≡ drop count self.old }
@@ -132,8 +132,7 @@ impl Window {
         self.start += count;
     }
 
-    /// Reads the run's bytes from a place on behind those that it has, `more` of them. Where that is
-    /// refused it has what it had.
+    /// Appends `more` bytes of a run, from position `at` on. On error the window doesn't change.
     pub fn grow<S: RunStore>(
         &mut self,
         store: &mut S,
