@@ -5,12 +5,12 @@ use Rattle.std.specs.Cmp.Lexicographic.{slice_cmp}
 use Rattle.std.specs.FinMap.{FinMap, empty, insert}
 use Rattle.sw_table.specs.View.{View}
 
--- from a class of keys to the stored key and its value
+-- the finite maps from classes of keys to the stored key and its value
 abbrev pub Entries : (K V : Type 0) → Type 0
 Entries K V = FinMap (slice_cmp nat_cmp) (K × V)
 
 module _ {K V : Type 0} where
-  -- the entries that the places hold
+  -- the entries in some slots
   abbrev pub entries_in : (K → List ℕ) → List (Option (K × V)) → Entries K V
   entries_in class [] = empty
   entries_in class (None ∷ ps) = entries_in class ps

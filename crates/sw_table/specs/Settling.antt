@@ -1,4 +1,4 @@
--- A rehash in place under way.
+-- A rehash in place, in progress.
 use Rattle.std.specs.Prelude.{◌≡◌, ◌≢◌, ℕ, ◌<◌, ◌≤◌, false, List, length, slice_index, count_by, Option, Some, None, IsSome}
 use Rattle.sw_ctrl.specs.declared.control.TheConstants.{EMPTY}
 use Rattle.sw_ctrl.specs.Bytes.{IsControl, is_deleted, is_free}
@@ -9,7 +9,7 @@ use Rattle.sw_table.specs.LaidOut.{used_count}
 use Rattle.sw_table.specs.Free.{First}
 
 module _ {K V : Type 0} where
-  -- a deleted byte stands for an entry that is still to be placed
+  -- the layout during a rehash, in which a deleted byte marks an entry that is still to be placed
   pub record IsSettling (class : K → List ℕ) (hash : List ℕ → ℕ) (ps : List (Option (K × V))) (bs : List ℕ) : Type 0 where
     pub size : (length ps ≡ length bs) × IsCapacity (length bs)
     pub control : (i : ℕ) → i < length bs → IsControl (slice_index bs i)
@@ -19,6 +19,6 @@ module _ {K V : Type 0} where
     pub apart : (i j : ℕ) (p q : K × V) → place ps i ≡ Some p → place ps j ≡ Some q → class p.0 ≡ class q.0 → i ≡ j
     pub load : used_count bs ≤ load_of (length bs)
 
--- how many entries are still to be placed
+-- the number of entries that are still to be placed
 abbrev pub deleted_count : List ℕ → ℕ
 deleted_count bs = count_by is_deleted bs

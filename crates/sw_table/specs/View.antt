@@ -1,4 +1,4 @@
--- What a contract sees of a table.
+-- What contracts see of a table.
 use Rattle.std.specs.Prelude.{◌≢◌, ℕ, ◌<◌, List, length, replicate, slice_index, slice_set, Option, None, IsSome, refl}
 use Rattle.std.specs.Option.{option_map}
 use Rattle.std.specs.Coded.{Coded, code_by, coded×, coded_list, coded_ℕ, coded_option}
@@ -20,15 +20,15 @@ module _ {K V H : Type 0} where
       code_by (List (Option (K × V)) × (List ℕ × H)) (coded× (coded_list (coded_option (coded× k v))) (coded× (coded_list coded_ℕ) h))
       (λ t. (t.places, (t.bytes, t.hasher))) (λ p. table_view p.0 p.1.0 p.1.1) (λ _. refl)
 
-  -- how many slots there are
+  -- the number of slots
   abbrev pub slot_count : View K V H → ℕ
   slot_count t = length t.bytes
 
-  -- the entry in the slot i
+  -- the entry in slot `i`
   abbrev pub entry_at : View K V H → ℕ → Option (K × V)
   entry_at t i = place t.places i
 
-  -- the slot i holds an entry
+  -- slot `i` has an entry
   abbrev pub IsFull : View K V H → ℕ → Type 0
   IsFull t i = IsSome (entry_at t i)
 
@@ -36,14 +36,14 @@ module _ {K V H : Type 0} where
   abbrev pub NoneDeleted : View K V H → Type 0
   NoneDeleted t = (i : ℕ) → i < slot_count t → slice_index t.bytes i ≢ DELETED
 
-  -- n slots, all of them empty
+  -- a table of `n` empty slots
   abbrev pub fresh : ℕ → H → View K V H
   fresh n h = table_view (replicate n None) (replicate n EMPTY) h
 
-  -- the table with the value w in the slot i, and all else as it is
+  -- the table with another value in slot `i`
   abbrev pub with_value : View K V H → ℕ → V → View K V H
   with_value t i w = record t { places = slice_set t.places i (option_map (λ p. (p.0, w)) (entry_at t i)) }
 
-  -- the table with the key k in the slot i, and all else as it is
+  -- the table with another key in slot `i`
   abbrev pub with_key : View K V H → ℕ → K → View K V H
   with_key t i k = record t { places = slice_set t.places i (option_map (λ p. (k, p.1)) (entry_at t i)) }

@@ -1,4 +1,4 @@
-//! Entries that leave one by one.
+//! Draining a table.
 ghost use Rattle.std.specs.Prelude.{◌≡◌, [], ◌∷◌, IfSome, IfNone};
 ghost use Rattle.std.specs.FinMap.{remove};
 ghost use Rattle.sw_table.specs.View.{View, slot_count, fresh};
@@ -11,10 +11,8 @@ use crate::walk::Walk;
 use sw_probe::{KeyHash, Keyed};
 
 impl<K: Keyed, V, H: KeyHash<K>> Table<K, V, H> {
-    /// Takes the next entry of a walk out, where no entry stands before the walk. So from
-    /// [`Walk::new`] on the calls give each entry once, in the order of the slots, and take no
-    /// memory. At the end the table has its slots, all of them empty. Until then the entries that
-    /// did not come are in the table still.
+    /// Removes and returns the next entry of a walk that has removed all entries before it. From [`Walk::new`]
+    /// on it returns each entry once, in slot order, and never allocates; at the end all slots are empty.
     #[inline]
     pub fn drain_next(&mut self, walk: &mut Walk) -> Option<(K, V)>
         requires { IsDraining self.old walk.old }

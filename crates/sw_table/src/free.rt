@@ -7,7 +7,7 @@ ghost use Rattle.sw_table.specs.Free.{IsFree, IsFirstFree};
 use sw_ctrl::{Ctrl, WIDTH};
 use sw_probe::Probe;
 
-/// The first free slot of the probe for the hash.
+/// The first free slot on the probe sequence of the hash.
 #[inline]
 pub(crate) fn first_free(ctrl: &Ctrl, hash: u64) -> usize
     requires size { IsCapacity (length ctrl.now) × (0 < length ctrl.now) }

@@ -1,4 +1,4 @@
-//! More slots.
+//! Growth.
 ghost use Rattle.std.specs.Prelude.{◌≡◌, ◌↔◌, ℕ, IfOk, IfErr, OnOk, OnErr, IsOk, ◌<◌, ◌≤◌, ◌^◌};
 ghost use Rattle.std.specs.FinMap.{len};
 ghost use Rattle.sw_table.specs.View.{View, slot_count};
@@ -18,11 +18,8 @@ use sw_ctrl::WIDTH;
 use sw_probe::{KeyHash, Keyed};
 
 impl<K: Keyed, V, H: KeyHash<K>> Table<K, V, H> {
-    /// Makes room for `n` entries in total, those that are there included, by the least capacity that
-    /// has it. If the room is there already it does nothing, and succeeds.
-    ///
-    /// It refuses with `Limit` where the capacity would pass 2^28, before it asks for memory, and
-    /// else with `Memory`. The table is then as it was.
+    /// Makes room for `n` entries in total, in the smallest capacity that has it; does nothing if the room is
+    /// there. On error the table doesn't change: `Limit` if the capacity would pass 2^28, else `Memory`.
     pub fn reserve(&mut self, n: usize) -> Result<(), Why>
         ensures entries { entries K.class self.new ≡ entries K.class self.old }
         ensures room { OnOk result (n ≤ room_of (slot_count self.new)) }
@@ -30,7 +27,7 @@ impl<K: Keyed, V, H: KeyHash<K>> Table<K, V, H> {
         ensures hasher { self.new.hasher ≡ self.old.hasher }
         ensures refused { RefusesRoom n result self.old self.new }
     {
-        // The proof takes the invariant from here.
+        // So that the proof has the invariant.
         let _ = &self.ctrl;
         if n <= self.room() {
             return Ok(());
@@ -44,7 +41,7 @@ impl<K: Keyed, V, H: KeyHash<K>> Table<K, V, H> {
         }
     }
 
-    // Makes space for one more entry: in place where the room suffices, else by growth.
+    // Makes space for one more entry: by a rehash if there are fewer entries than the room, else by growth.
     #[cold]
     #[inline(never)]
     pub(crate) fn make_space(&mut self) -> Result<(), Why>
@@ -56,7 +53,7 @@ impl<K: Keyed, V, H: KeyHash<K>> Table<K, V, H> {
         ensures load { OnOk result (used_count self.new.bytes < load_of (slot_count self.new)) }
         ensures refused { IfErr result (RefusesGrowth self.old self.new) }
     {
-        // The proof takes the invariant from here.
+        // So that the proof has the invariant.
         let _ = &self.ctrl;
         if self.len() < self.room() {
             self.rehash();
@@ -83,7 +80,7 @@ impl<K: Keyed, V, H: KeyHash<K>> Table<K, V, H> {
         }
     }
 
-    // Moves every entry to new blocks. Both are made before any entry moves.
+    // Moves all entries to new blocks. Both are allocated before any entry moves.
     fn resize(&mut self, capacity: usize) -> Result<(), AllocError>
         requires { IsCapacity capacity × (slot_count self.old < capacity) }
         ensures entries { OnOk result (entries K.class self.new ≡ entries K.class self.old) }

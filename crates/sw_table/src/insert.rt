@@ -1,4 +1,4 @@
-//! New entries.
+//! Insertions.
 ghost use Rattle.std.specs.Prelude.{◌≡◌, Some, None, IfSome, IfNone, IfOk, IfErr, OnOk, ◌<◌};
 ghost use Rattle.std.specs.FinMap.{insert, get, len};
 ghost use Rattle.sw_table.specs.View.{View, slot_count, entry_at, IsFull};
@@ -16,13 +16,11 @@ use sw_ctrl::{EMPTY, WIDTH};
 use sw_probe::{KeyHash, Keyed, h2};
 
 impl<K: Keyed, V, H: KeyHash<K>> Table<K, V, H> {
-    /// Adds the entry of a key that is not there, and returns its slot.
+    /// Inserts an absent key into the first free slot of its probe sequence, and returns the slot. The capacity
+    /// doubles only if the load and the room are used up.
     ///
-    /// It goes to the first free slot on the key's way. The capacity stays where that slot is a
-    /// deleted one, or the load has space for one more, or there are fewer entries than the room,
-    /// and then it succeeds. Else the capacity doubles, or the call refuses: with `Limit` where the
-    /// capacity is 2^28, which cannot grow, else with `Memory`. The pair is then handed back, and
-    /// the table is as it was.
+    /// On error the pair is returned and the table doesn't change: `Limit` if the capacity is 2^28, else
+    /// `Memory`.
     #[inline(always)]
     pub fn place(&mut self, key: K, value: V) -> Result<SlotNo, Refused<K, V>>
         requires absent { get (entries K.class self.old) (K.class key) ≡ None }
@@ -42,7 +40,7 @@ impl<K: Keyed, V, H: KeyHash<K>> Table<K, V, H> {
         self.place_hashed(key, value, hash)
     }
 
-    /// Adds the entry of a key that is not there, and whose hash is known already, as `place` does.
+    /// As [`Table::place`], with the hash of the key.
     #[inline(always)]
     pub fn place_hashed(&mut self, key: K, value: V, hash: u64) -> Result<SlotNo, Refused<K, V>>
         requires absent { get (entries K.class self.old) (K.class key) ≡ None }
@@ -70,8 +68,8 @@ impl<K: Keyed, V, H: KeyHash<K>> Table<K, V, H> {
         Ok(SlotNo { index })
     }
 
-    // The first free slot on the way of the hash, where the load has space for one more. It stands
-    // apart from `place_hashed`, which is inlined into its callers.
+    // The first free slot for the hash, if the load isn't reached. A function of its own, since `place_hashed`
+    // is inlined into its callers.
     #[cold]
     #[inline(never)]
     fn slot_within_load(&self, hash: u64) -> usize
@@ -85,14 +83,14 @@ impl<K: Keyed, V, H: KeyHash<K>> Table<K, V, H> {
         }
     }
 
-    // The first free slot on the way of the hash, where filling it keeps within the load.
+    // The first free slot for the hash, unless filling it would pass the load.
     #[inline]
     fn free_slot(&self, hash: u64) -> Option<usize>
         ensures free { IfSome result
             (λ i. IsFree self.now.bytes hash i × KeepsLoad self.now.bytes i) }
         ensures none { IfNone result (IsAtLoad self.now.bytes hash) }
     {
-        // The test and the number are those of a look-up, so that the compiler shares them.
+        // As in a look-up, so that the compiler shares the test and the number.
         let groups = self.ctrl.len() / WIDTH;
         if groups == 0 {
             return None;
@@ -104,7 +102,7 @@ impl<K: Keyed, V, H: KeyHash<K>> Table<K, V, H> {
         Some(index)
     }
 
-    // Puts a new key into its free slot.
+    // Stores a new entry in its free slot.
     #[inline]
     fn fill(&mut self, index: usize, hash: u64, key: K, value: V)
         requires absent { get (entries K.class self.old) (K.class key) ≡ None }

@@ -1,4 +1,4 @@
-//! The entries of a table, one by one.
+//! Iteration over the entries of a table.
 ghost use Rattle.std.specs.Prelude.{◌≡◌, Some, length, IfSome};
 ghost use Rattle.std.specs.Iterator.{YieldsFirstBy, item_count, at_most, UpTo};
 ghost use Rattle.std.specs.Iterator.SizeHint.{IsWithinCount};
@@ -10,12 +10,12 @@ use std::iter::{ExactSizeIterator, FusedIterator};
 use std::marker::Model;
 use sw_probe::{KeyHash, Keyed};
 
-/// The entries of a table that are still to come, in the order of their slots, seen as their list.
+/// The remaining entries of a table in slot order, seen as their list.
 #[derive(Drop)]
 pub struct Iter<'a, K: Keyed, V, H: KeyHash<K>> {
     table: &'a Table<K, V, H>,
     walk: Walk,
-    // How many entries are still to come.
+    // The number of remaining entries.
     left: usize,
 }
 
@@ -32,7 +32,7 @@ impl<'a, K: Keyed, V, H: KeyHash<K>> Model for Iter<'a, K, V, H> {
 }
 
 impl<K: Keyed, V, H: KeyHash<K>> Table<K, V, H> {
-    /// The entries, each once, in the order of their slots.
+    /// The entries, each once, in slot order.
     #[inline]
     pub fn iter(&self) -> Iter<'_, K, V, H>
         ensures { result ≡ filled self.now.places }

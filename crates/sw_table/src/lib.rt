@@ -1,9 +1,9 @@
-//! A Swiss table: a map from keys to values in one row of slots, with one control byte for each.
+//! A Swiss table: a map from keys to values in an array of slots, with one control byte for each.
 //!
 //! # Layout
 //!
-//! The slots stand in groups of sixteen, and so do their bytes, in a row of their own. A look-up
-//! reads the sixteen bytes of a group at once, and a slot only where its byte gives hope:
+//! The slots are in groups of sixteen, and so are their control bytes, in an array of their own. A look-up
+//! reads the sixteen bytes of a group at once, and a slot only if its byte matches:
 //!
 //! ```text
 //!          group 0                                group 1
@@ -17,54 +17,51 @@
 //!
 //! A table has no slots, or 16, 32, 64 and so on to 2^28. There are three kinds of byte:
 //!
-//! | Byte | The slot | What a look-up does there |
+//! | Byte | The slot | A look-up |
 //! |---|---|---|
-//! | empty, `1000_0000` | holds nothing | it stops at the group that has one: the key is not there |
-//! | deleted, `1111_1110` | holds nothing, and an entry was taken out of it | it goes on, as if the slot were full |
-//! | full, `0hhh_hhhh` | holds an entry, and `hhh_hhhh` are the seven low bits of its key's hash | it compares the key, where the seven bits are those of the key that is sought |
+//! | empty, `1000_0000` | is vacant | stops after the group: the key is absent |
+//! | deleted, `1111_1110` | is vacant; its entry was removed | goes on, as if the slot were full |
+//! | full, `0hhh_hhhh` | has an entry; `hhh_hhhh` are the seven low bits of its key's hash | compares the keys, if the sought key's hash has the same seven bits |
 //!
 //! # The probe
 //!
-//! The rest of the hash, shifted right by seven, is the first group that is tried. From there a
-//! look-up goes 1, then 2, then 3 groups further, and so on, round the end of the row; as the
-//! number of groups is a power of two, it would come to each group once. A new entry goes to the
-//! first free slot on this way, an empty or a deleted one. So no group before that of an entry, on
-//! the way of its key, has an empty byte, and a look-up that stops at one has missed nothing.
+//! The rest of the hash, shifted right by seven, is the first group that is probed. From there a look-up goes
+//! 1, then 2, then 3 groups further, and so on, and wraps around; as the number of groups is a power of two, it
+//! would visit each group once. A new entry goes to the first free slot of this sequence, an empty or a deleted
+//! one. So no group before an entry's own, on the probe sequence of its key, has an empty byte, and a look-up
+//! that stops at one has missed nothing.
 //!
-//! That has to stay so when an entry is taken out. Where its group has an empty byte anyhow, each
-//! way ends there, and the slot becomes empty. Else some way may go through the group, and the slot
-//! becomes deleted.
+//! Removals keep it so. If the group of a removed entry has an empty byte already, each probe ends there, and
+//! the slot becomes empty. Else some probe may pass through the group, and the slot becomes deleted.
 //!
 //! # Load, growth and rehash
 //!
-//! At most fourteen in sixteen bytes are full or deleted, so that each look-up ends. Where a new
-//! entry would go to an empty slot past that load, one of two things comes first:
+//! At most fourteen bytes in sixteen are full or deleted, so that each look-up ends. If a new entry would go to
+//! an empty slot past that load, one of two things comes first:
 //!
-//! - The table has fewer entries than its room, 25 in 32 slots. Then deleted bytes make up the rest
-//!   of the load, and the entries are placed anew in the slots that are there. Each full byte is
-//!   marked as "to be placed", by the byte for deleted, and each deleted one becomes empty. Then
-//!   each marked entry in turn stays where it is, where its group is the first on its way with a
-//!   free or marked slot, or moves to an empty slot, or changes places with another marked entry.
-//!   It takes no memory.
-//! - Or it has as many, and the number of slots is doubled: two new blocks, to which the entries
-//!   move. Only then can memory be wanted.
+//! - If there are fewer entries than the room, 25 for 32 slots, deleted bytes make up the rest of the load, and
+//!   the table is rehashed in place. Each full byte is marked as "to be placed", by the byte for deleted, and
+//!   each deleted one becomes empty. Then each marked entry in turn remains if its group is the first of its
+//!   probe sequence with an empty or marked slot, or moves to an empty slot, or is swapped with another marked
+//!   entry. This doesn't allocate.
+//! - If not, the number of slots is doubled: two new blocks are allocated, and the entries move there. Only
+//!   this can run out of memory.
 //!
-//! So while there are fewer entries than the room, no insertion is refused, however many entries
-//! were added and taken out before.
+//! So while there are fewer entries than the room, no insertion fails, however many entries were added and
+//! removed before.
 //!
 //! # Use
 //!
-//! [`Table::find`] gives the number of a slot, and [`Table::at`] and [`Table::at_mut`] what stands
-//! there. [`Table::place`] takes a key that is not there: ask `find` first. To hash a key once for
-//! both, take [`Table::hash`], [`Table::find_hashed`] and [`Table::place_hashed`].
-//! [`Table::rekey`] gives the entry of a slot another key of the same hash, where it stands.
-//! [`Table::next_full`] goes from entry to entry, in the order of the slots, and so does a [`Walk`],
-//! by [`Table::advance`] or [`Table::iter`], which reads the bytes of a group once. Entries may be
-//! taken out behind a walk, and [`Table::drain_next`] takes all of them out.
+//! [`Table::find`] returns the number of a slot; [`Table::at`] and [`Table::at_mut`] return references to its
+//! entry. [`Table::place`] inserts a key that is absent, as `find` has reported. To hash a key once for both,
+//! use [`Table::hash`], [`Table::find_hashed`] and [`Table::place_hashed`]. [`Table::rekey`] replaces the key
+//! of an entry by one with the same hash. [`Table::next_full`] finds the next entry in slot order, and so does
+//! a [`Walk`], by [`Table::advance`] or [`Table::iter`], which reads the bytes of a group once. Entries that a
+//! walk has passed may be removed, and [`Table::drain_next`] removes them all.
 //!
-//! The contract above the crate: a finite map from the classes of keys to their entries, one
-//! equation for each call; the layout, as [`Table::capacity`] states it; and the promise of the
-//! room. They hold for every hasher that fits its keys, one that hashes all keys alike too.
+//! The contract above the crate: a finite map from the classes of keys to their entries, with one equation for
+//! each call; the layout, as [`Table::capacity`] states it; and the promise that insertions within the room
+//! succeed. They hold for every hasher that agrees with its keys, even one that hashes all keys alike.
 #![tactic(auto)]
 
 mod blocks;

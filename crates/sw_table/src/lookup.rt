@@ -1,4 +1,4 @@
-//! Look-ups, and what stands in a slot.
+//! Look-ups.
 ghost use Rattle.std.specs.Prelude.{◌≡◌, ◌≢◌, ℕ, ◌+◌, ◌<◌, ◌≤◌, ◌^◌, Option, Some, None, true, false, length, slice_index_or, IfSome, IfNone, IsSome};
 ghost use Rattle.std.specs.Option.{option_map};
 ghost use Rattle.std.specs.FinMap.{get, insert};
@@ -15,7 +15,7 @@ impl<K: Keyed, V, H: KeyHash<K>> Table<K, V, H> {
     ghost use Rattle.std.specs.Borrow.{sem};
     ghost use Rattle.sw_table.specs.TableLends.{lends_value};
 
-    /// The hash of the key that `q` names, for the calls that take one.
+    /// The hash of the key that `q` names, for the calls that take a hash.
     #[inline]
     pub fn hash<Q: Names<K>>(&self, q: &Q) -> u64
         ensures { result ≡ H.hash_of self.now.hasher (Q.named q.now) }
@@ -34,7 +34,7 @@ impl<K: Keyed, V, H: KeyHash<K>> Table<K, V, H> {
         self.find_hashed(q, self.hash(q))
     }
 
-    /// The slot of the key that `q` names, whose hash is known already.
+    /// As [`Table::find`], with the hash of the key.
     #[inline]
     pub fn find_hashed<Q: Names<K>>(&self, q: &Q, hash: u64) -> Option<SlotNo>
         requires { hash ≡ H.hash_of self.now.hasher (Q.named q.now) }
@@ -71,8 +71,7 @@ impl<K: Keyed, V, H: KeyHash<K>> Table<K, V, H> {
         (&pair.0, &pair.1)
     }
 
-    /// The value in a full slot, to write to. Its entry then has what was written last, under the
-    /// stored key.
+    /// A mutable reference to the value in a full slot. The stored key stays.
     #[inline]
     pub fn at_mut(&mut self, slot: SlotNo) -> &mut V
         requires { IsFull self.old slot.index }
@@ -87,8 +86,7 @@ impl<K: Keyed, V, H: KeyHash<K>> Table<K, V, H> {
         &mut pair.1
     }
 
-    /// The first full slot from slot `from` on. Asked again from the one behind each answer, it
-    /// comes to each entry once.
+    /// The first full slot from slot `from` on. Calling it again from the next slot on visits each entry once.
     #[inline]
     pub fn next_full(&self, from: usize) -> Option<SlotNo>
         ensures full { IfSome result (λ s. (from ≤ s.index) × (s.index < slot_count self.now) ×
@@ -113,7 +111,7 @@ impl<K: Keyed, V, H: KeyHash<K>> Table<K, V, H> {
     }
 }
 
-// The slot of the key among those that the mask has, counted from slot `base` on.
+// The slot of the key among those in the mask, which are counted from slot `base` on.
 #[inline]
 fn find_in<K: Keyed, V, Q: Names<K>>(
     slots: &Slots<(K, V)>,

@@ -1,4 +1,4 @@
-//! Entries that move to new slots.
+//! Moving entries to new slots.
 ghost use Rattle.std.specs.Prelude.{◌≡◌, ◌<◌, None, length, replicate};
 ghost use Rattle.sw_ctrl.specs.declared.control.TheConstants.{EMPTY};
 ghost use Rattle.sw_table.specs.Entries.{entries_in};
@@ -10,7 +10,7 @@ use sw_ctrl::{Ctrl, is_full};
 use sw_probe::{KeyHash, Keyed, h2};
 use sw_slots::Slots;
 
-/// Moves every entry to empty slots, of which there are more.
+/// Moves all entries to a larger number of empty slots.
 pub(crate) fn move_all<K: Keyed, V, H: KeyHash<K>>(
     from: &mut Slots<(K, V)>,
     bytes: &Ctrl,

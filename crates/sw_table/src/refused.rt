@@ -1,10 +1,10 @@
-//! What a refused call tells.
+//! Errors of insertions and of `reserve`.
 use thiserror::Error;
 
-/// Why an insertion or a `reserve` is refused.
+/// The reason of an error.
 #[derive(Clone, Copy, PartialEq, Eq, Debug, Error)]
 pub enum Why {
-    /// The allocator refused.
+    /// An allocation failed.
     #[error("out of memory")]
     Memory,
     /// The capacity would pass 2^28.
@@ -12,7 +12,7 @@ pub enum Why {
     Limit,
 }
 
-/// The error of an insertion: the pair that was not placed, and why.
+/// The error of an insertion: the pair that was not inserted, and the reason.
 #[derive(Debug, Drop, Error)]
 #[error("the entry was not placed: {why}")]
 pub struct Refused<K, V> {

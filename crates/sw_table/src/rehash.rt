@@ -14,8 +14,7 @@ use sw_probe::{KeyHash, Keyed, Probe, h2};
 use sw_slots::Slots;
 
 impl<K: Keyed, V, H: KeyHash<K>> Table<K, V, H> {
-    /// Places every entry anew, in the slots that are there. No byte is deleted then. It takes no
-    /// memory.
+    /// Rehashes all entries in place, so that no byte is deleted. It doesn't allocate.
     pub fn rehash(&mut self)
         ensures entries { entries K.class self.new ≡ entries K.class self.old }
         ensures slots { slot_count self.new ≡ slot_count self.old }
@@ -28,7 +27,7 @@ impl<K: Keyed, V, H: KeyHash<K>> Table<K, V, H> {
     }
 }
 
-// Gives every entry its place anew.
+// Moves every entry to its place.
 fn settle_all<K: Keyed, V, H: KeyHash<K>>(slots: &mut Slots<(K, V)>, ctrl: &mut Ctrl, hasher: &H)
     requires laid { IsLaidOut K.class (H.hash_of hasher.now) slots.old ctrl.old }
     ensures laid { IsLaidOut K.class (H.hash_of hasher.now) slots.new ctrl.new }
@@ -45,8 +44,8 @@ fn settle_all<K: Keyed, V, H: KeyHash<K>>(slots: &mut Slots<(K, V)>, ctrl: &mut 
     }
 }
 
-// Gives the entry of slot `i` its place. What stood there, if anything, is now in slot `i`. An
-// entry in the first group of its probe stays: no free slot can come before its own group.
+// Moves the entry of slot `i` to its place; an entry that it displaces is then in slot `i`. It remains if its
+// group is the first of its probe sequence, or the first with a free slot.
 fn settle_one<K: Keyed, V, H: KeyHash<K>>(
     slots: &mut Slots<(K, V)>,
     ctrl: &mut Ctrl,

@@ -1,4 +1,4 @@
-//! Entries that go.
+//! Removals.
 ghost use Rattle.std.specs.Prelude.{◌≡◌, ◌/◌, Some, None, slice_set};
 ghost use Rattle.std.specs.FinMap.{empty, remove};
 ghost use Rattle.sw_ctrl.specs.declared.control.TheConstants.{EMPTY, DELETED};
@@ -12,7 +12,7 @@ use sw_ctrl::{DELETED, EMPTY, WIDTH};
 use sw_probe::{KeyHash, Keyed};
 
 impl<K: Keyed, V, H: KeyHash<K>> Table<K, V, H> {
-    /// Takes the entry of a full slot out. No other entry moves.
+    /// Removes and returns the entry of a full slot. No other entry moves.
     #[inline]
     pub fn remove(&mut self, slot: SlotNo) -> (K, V)
         requires { IsFull self.old slot.index }
@@ -21,7 +21,7 @@ impl<K: Keyed, V, H: KeyHash<K>> Table<K, V, H> {
             remove (entries K.class self.old) (K.class result.0) }
         ensures places { self.new.places ≡ slice_set self.old.places slot.index None }
 
-        // A byte becomes deleted only where look-ups may go through its group.
+        // A byte becomes deleted only if look-ups may pass through its group.
         ensures emptied { ¬ NoEmpty self.old.bytes (slot.index / 16) →
             self.new.bytes ≡ slice_set self.old.bytes slot.index EMPTY }
         ensures deleted { NoEmpty self.old.bytes (slot.index / 16) →
@@ -38,8 +38,7 @@ impl<K: Keyed, V, H: KeyHash<K>> Table<K, V, H> {
         pair
     }
 
-    /// Drops every entry, and keeps the capacity. All slots are empty then. Where they are already,
-    /// it does nothing.
+    /// Drops all entries, and keeps the capacity. It does nothing if all slots are empty.
     pub fn clear(&mut self)
     where
         K: Drop,

@@ -1,4 +1,4 @@
-//! How large a table has to be.
+//! Capacities and loads.
 ghost use Rattle.std.specs.Prelude.{◌≡◌, ℕ, ◌<◌, ◌≤◌, ◌^◌, IfSome, IfNone};
 ghost use Rattle.sw_table.specs.Sizes.{IsCapacity, room_of};
 
@@ -6,7 +6,7 @@ use sw_ctrl::WIDTH;
 
 pub(crate) const MAX_CAPACITY: usize = 1 << 28;
 
-/// For each group of slots, how many slots of the table may be full or deleted.
+/// How many slots of each group may be full or deleted.
 pub(crate) const GROUP_LOAD: usize = 14;
 
 /// How many entries the slots take without growth, however many were removed before.
@@ -18,7 +18,7 @@ pub(crate) fn room_of(capacity: usize) -> usize
     25 * capacity / 32
 }
 
-/// The least capacity whose room is at least `n`, if there is one.
+/// The smallest capacity whose room is at least `n`, if there is one.
 pub(crate) fn capacity_for(n: usize) -> Option<usize>
     ensures capacity { IfSome result (λ c. IsCapacity c × (n ≤ room_of c)) }
     ensures least { IfSome result (λ c. (d : ℕ) → IsCapacity d → n ≤ room_of d → c ≤ d) }

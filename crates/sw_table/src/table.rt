@@ -17,24 +17,22 @@ use sw_ctrl::Ctrl;
 use sw_probe::{KeyHash, Keyed};
 use sw_slots::Slots;
 
-/// The number of a slot, below the capacity of its table. It is good until entries move: until the
-/// next `place`, `remove`, `reserve`, `rehash` or `clear`.
+/// The number of a slot, below the table's capacity. It is valid until entries move: until the next `place`,
+/// `remove`, `reserve`, `rehash` or `clear`.
 #[derive(Clone, Copy)]
 pub struct SlotNo {
     pub index: usize,
 }
 
-/// A map from keys to values, in one row of slots.
-///
-/// Contracts see what each slot holds, the control byte of each slot, and the hasher; `entries` of
-/// these is the finite map.
+/// A map from keys to values in an array of slots. Contracts see what each slot holds, its control byte, and
+/// the hasher; `entries` of these is the finite map.
 pub struct Table<K: Keyed, V, H: KeyHash<K>> {
     pub(crate) slots: Slots<(K, V)>,
     pub(crate) ctrl: Ctrl,
     pub(crate) hasher: H,
-    // How many slots are full.
+    // The number of full slots.
     pub(crate) len: usize,
-    // How many slots are full or deleted.
+    // The number of full or deleted slots.
     pub(crate) used: usize,
     pub(crate) alloc: Global,
 }
@@ -87,11 +85,8 @@ impl<K: Keyed, V, H: KeyHash<K>> Table<K, V, H> {
         }
     }
 
-    /// A table with room for `n` entries, of the least capacity that has it. No room takes no
-    /// memory.
-    ///
-    /// It refuses with `Limit` where the capacity would pass 2^28, before it asks for memory, and
-    /// else with `Memory`.
+    /// A table with room for `n` entries, in the smallest capacity that has it. Without entries it takes no
+    /// memory. Errors: `Limit` if the capacity would pass 2^28, else `Memory`.
     pub fn with_room(alloc: Global, hasher: H, n: usize) -> Result<Table<K, V, H>, Why>
     where
         H: Drop,
@@ -115,7 +110,7 @@ impl<K: Keyed, V, H: KeyHash<K>> Table<K, V, H> {
         })
     }
 
-    /// How many entries there are.
+    /// The number of entries.
     #[inline]
     pub fn len(&self) -> usize
         ensures { result ≡ len (entries K.class self.now) }
@@ -123,7 +118,7 @@ impl<K: Keyed, V, H: KeyHash<K>> Table<K, V, H> {
         self.len
     }
 
-    /// How many slots there are, and how they are laid out.
+    /// The number of slots. Its contract states their layout.
     #[inline]
     pub fn capacity(&self) -> usize
         ensures slots { result ≡ slot_count self.now }
@@ -133,8 +128,7 @@ impl<K: Keyed, V, H: KeyHash<K>> Table<K, V, H> {
         self.ctrl.len()
     }
 
-    /// How many entries there may be before an insertion can ask for memory, however many were
-    /// removed.
+    /// How many entries there may be before an insertion may allocate, however many were removed.
     #[inline]
     pub fn room(&self) -> usize
         ensures { result ≡ room_of (slot_count self.now) }
@@ -142,21 +136,21 @@ impl<K: Keyed, V, H: KeyHash<K>> Table<K, V, H> {
         room_of(self.ctrl.len())
     }
 
-    /// The allocator that the table was given.
+    /// The table's allocator.
     #[inline]
     pub fn allocator(&self) -> Global {
         self.alloc
     }
 
-    /// The control byte of slot `i`. It is below 128 where the slot is full, and then the seven low
-    /// bits of its key's hash.
+    /// The control byte of slot `i`: below 128 if the slot is full, and then the seven low bits of its key's
+    /// hash.
     #[inline]
     pub fn byte(&self, i: usize) -> u8
         requires { i < slot_count self.now }
         ensures value { result ≡ slice_index self.now.bytes i }
         ensures full { (result < 128) ↔ IsFull self.now i }
     {
-        // The proof takes the invariant from here.
+        // So that the proof has the invariant.
         let _ = &self.ctrl;
         self.ctrl.get(i)
     }

@@ -7,17 +7,16 @@ use crate::table::{SlotNo, Table};
 use sw_ctrl::{Ctrl, EMPTY, Group, Mask16, WIDTH};
 use sw_probe::{KeyHash, Keyed};
 
-/// How far a walk over the full slots of a table has come. It reads the bytes of a group once.
-///
-/// It borrows nothing: the slots that it came to may be emptied or written to as it goes on.
-/// Contracts see by `from` what is still to come: every full slot from there on.
+/// The position of a walk over the full slots of a table, which reads the bytes of a group once. It borrows
+/// nothing, so slots that it has passed may change meanwhile. Contracts see by `from` what remains: the full
+/// slots from there on.
 #[derive(Clone, Copy)]
 pub struct Walk {
-    // The slot behind the last one that the walk came to. No code reads it.
+    // The slot after the last one that was returned; for contracts only.
     from: usize,
     // The first slot of the group that is read next.
     next: usize,
-    // The full lanes of the group before that one which are still to come.
+    // The full lanes of the group before `next` that are not yet returned.
     rest: Mask16,
 }
 
@@ -66,8 +65,7 @@ impl Walk {
 }
 
 impl<K: Keyed, V, H: KeyHash<K>> Table<K, V, H> {
-    /// The next full slot of a walk, which then stands behind it. A walk comes to each full slot
-    /// once, in order.
+    /// The next full slot of a walk. A walk visits each full slot once, in order.
     #[inline]
     pub fn advance(&self, walk: &mut Walk) -> Option<SlotNo>
         requires { IsWalking self.now.bytes walk.old }
