@@ -1,4 +1,4 @@
-//! Maps and sets that are compared and shown.
+//! Comparing and formatting maps and sets.
 use crate::expected::expect;
 use crate::numbers::{Call, Numbers, map_of, play};
 use std::alloc::Global;
@@ -8,13 +8,13 @@ use std::test::Fail;
 use sw_flat::{FlatMap, FlatSet};
 use sw_probe::{Constant, Direct, Fnv1a, KeyHash, LowBits};
 
-// Expects that two maps are equal, or that they are not, from either side.
+// Expects that two maps are equal, or unequal, from either side.
 fn expect_equal<H: KeyHash<u64>>(rt: &impl Abort, one: &Numbers<H>, other: &Numbers<H>, due: bool) {
     assert!(rt; (*one == *other) == due);
     assert!(rt; (*other != *one) != due);
 }
 
-// Equal whatever the order, the seed and what came and went; unequal by a value, a key or a size.
+// Equal whatever the order, the seed and earlier calls; unequal by a value, a key or a size.
 #[test]
 fn maps(rt: HostRuntime) {
     let alloc = rt.alloc();
@@ -78,14 +78,14 @@ fn set_of(rt: &impl Abort, alloc: Global, seed: u64, keys: &[u64]) -> FlatSet<u6
     set
 }
 
-// Whether two sets are equal; a look from either side has to agree.
+// Whether two sets are equal; both sides must agree.
 fn are_equal(rt: &impl Abort, one: &FlatSet<u64, Fnv1a>, other: &FlatSet<u64, Fnv1a>) -> bool {
     let equal = *one == *other;
     assert!(rt; (*other != *one) != equal);
     equal
 }
 
-// Expects that the sets of these keys, the second under another seed, are equal or are not.
+// Expects that the sets of these keys, the second under another seed, are equal, or unequal.
 fn expect_equal_sets(rt: &impl Abort, alloc: Global, seed: u64, keys: [&[u64]; 2], due: bool) {
     let one = set_of(rt, alloc, seed, keys[0]);
     let other = set_of(rt, alloc, seed.wrapping_add(1), keys[1]);
@@ -119,7 +119,7 @@ fn expect_lines<T: Debug>(
     Ok(())
 }
 
-// Under `Direct` small keys stand in their order.
+// Under `Direct` small keys are in slot order.
 #[test]
 fn as_text(rt: HostRuntime) -> Result<(), Fail> {
     let alloc = rt.alloc();

@@ -1,4 +1,4 @@
-//! Keys and values that count their drops, and a key that counts how often it is compared.
+//! Keys and values that count their drops, and a key that counts its comparisons.
 ghost use Rattle.std.specs.Prelude.{◌≡◌, ◌∷◌, [], fold};
 ghost use Rattle.std.specs.Int.{bytes_high_first};
 ghost use Rattle.sw_probe.specs.Hashes.{number_of};
@@ -10,7 +10,7 @@ use std::ops::Range;
 use std::process::Abort;
 use sw_probe::{Keyed, Names, Step, WordStep};
 
-/// A value that counts in its own cell when it is dropped.
+/// A value that counts its drop in its own cell.
 pub(crate) struct Counted<'a> {
     drops: &'a Cell<u64>,
 }
@@ -22,7 +22,7 @@ impl Drop for Counted<'_> {
     }
 }
 
-/// A number as a key that counts in its own cell when it is dropped.
+/// A number as a key that counts its drop in its own cell.
 #[derive(Drop)]
 pub(crate) struct CountedKey<'a> {
     pub(crate) number: u64,
@@ -73,7 +73,7 @@ impl Names<CountedKey<'_>> for Number {
     }
 }
 
-/// A number as a key to ask for, which counts in its cell how often it is compared.
+/// A number as a key for look-ups, which counts its comparisons in its cell.
 #[derive(Drop)]
 pub(crate) struct Asked<'a> {
     pub(crate) number: u64,
@@ -97,7 +97,7 @@ impl Names<u64> for Asked<'_> {
     }
 }
 
-/// The cells of so many keys and of their values.
+/// The cells of some keys and of their values.
 #[derive(Drop)]
 pub(crate) struct Counters {
     keys: Vec<Cell<u64>>,
@@ -114,7 +114,7 @@ impl Counters {
         Ok(Counters { keys, values })
     }
 
-    /// The key of a number, counted in the cell of `id`.
+    /// The key of a number, which counts in the cell of `id`.
     pub(crate) fn key(&self, rt: &impl Abort, number: u64, id: usize) -> CountedKey<'_> {
         assert!(rt; id < self.keys.len());
         CountedKey {
@@ -138,20 +138,20 @@ impl Counters {
         expect_at(rt, id as u64, found, (Some(due.0), Some(due.1)));
     }
 
-    /// Expects the same of each of these.
+    /// Expects these numbers of drops of each `id` in a range.
     pub(crate) fn expect_each(&self, rt: &impl Abort, ids: Range<usize>, due: (u64, u64)) {
         for id in ids {
             self.expect(rt, id, due);
         }
     }
 
-    /// Expects that each key was dropped so often, and each value.
+    /// Expects that each key and each value was dropped `times` times.
     pub(crate) fn expect_all(&self, rt: &impl Abort, times: u64) {
         self.expect_each(rt, 0..self.keys.len(), (times, times));
     }
 }
 
-// How often a cell counted, if there is such a cell.
+// The count of a cell, if there is such a cell.
 fn times(cells: &[Cell<u64>], id: usize) -> Option<u64> {
     Some(cells.get(id)?.get())
 }

@@ -33,7 +33,7 @@ fn loaded(rt: &impl Abort, alloc: Global) -> Result<Numbers<Direct>, Fail> {
     Ok(map)
 }
 
-// Expects what the map should hold once 768 left and 3200 came.
+// Expects the map's contents after 768 was removed and 3200 added.
 fn expect_all(rt: &impl Abort, map: &Numbers<Direct>) {
     expect_held(rt, map, &FIRST[4..]);
     expect_held(rt, map, &SECOND);

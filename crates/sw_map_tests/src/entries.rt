@@ -1,4 +1,4 @@
-//! Entries by keys that are only asked for.
+//! Entries by borrowed keys.
 use crate::expected::expect;
 use crate::numbers::Numbers;
 use std::alloc::Global;
@@ -9,7 +9,7 @@ use sw_probe::{ByteKey, Constant, Fnv1a};
 
 type Words = FlatMap<Vec<u8>, u64, Fnv1a>;
 
-// One more of a text, which is copied only where it is new.
+// Counts a text, which is copied only if it is new.
 fn count(alloc: Global, words: &mut Words, text: &[u8]) -> Result<(), Fail> {
     match words.entry(&ByteKey(text)) {
         Entry::Occupied(slot) => {
@@ -55,7 +55,7 @@ fn words_are_counted(rt: HostRuntime) -> Result<(), Fail> {
     Ok(())
 }
 
-// Whether the key was not there, and is now.
+// Whether the key was absent, and is now there.
 fn fills(map: &mut Numbers<Constant>, key: u64) -> bool {
     match map.entry(&key) {
         Entry::Occupied(_) => false,

@@ -1,4 +1,4 @@
-//! The index: its keys in the order in which they came, past each growth of its list and its table.
+//! The index: its keys in insertion order, past each growth of its list and its table.
 use crate::expected::expect;
 use std::alloc::{AllocError, Global};
 use std::process::Abort;
@@ -6,12 +6,12 @@ use std::test::Fail;
 use sw_index::{Found, Index};
 use sw_probe::{ByteKey, Constant, Direct, Fnv1a, KeyHash, LowBits};
 
-// The key that comes at a place: each another, and none in the order of its number.
+// The key that is added at a position: all are distinct, and not ascending.
 fn key_at(place: u64) -> u64 {
     place.wrapping_mul(2_654_435_761)
 }
 
-// Adds a key where it is new, and tells its number.
+// Adds a key if it is new, and returns its number.
 fn number_of<H: KeyHash<u64>>(index: &mut Index<u64, H>, key: u64) -> Result<usize, AllocError> {
     match index.find(&key) {
         Found::At(number) => Ok(number),
@@ -22,7 +22,7 @@ fn number_of<H: KeyHash<u64>>(index: &mut Index<u64, H>, key: u64) -> Result<usi
     }
 }
 
-// Adds so many keys, each twice, and looks all of them up.
+// Adds `count` keys, each twice, and looks all of them up.
 fn keeps_all<H: KeyHash<u64> + Drop>(
     rt: &impl Abort,
     alloc: Global,
@@ -77,7 +77,7 @@ fn keys_of_one_hash(rt: HostRuntime) -> Result<(), Fail> {
     keeps_all(&rt, rt.alloc(), LowBits(2), 1_000)
 }
 
-// An absence tells the hash of the class, by which a caller may go on.
+// An absence has the hash of the class, which a caller may use.
 #[test]
 fn an_absence_tells_the_hash(rt: HostRuntime) -> Result<(), Fail> {
     let index: Index<u64, Constant> = Index::new(rt.alloc(), Constant(77));
@@ -88,7 +88,7 @@ fn an_absence_tells_the_hash(rt: HostRuntime) -> Result<(), Fail> {
     Ok(())
 }
 
-// A key is found by a borrowed form of it, and what a room was made for stays as it was.
+// A key is found by its borrowed form, and room that was made suffices.
 #[test]
 fn names_in_a_room(rt: HostRuntime) -> Result<(), Fail> {
     let alloc = rt.alloc();

@@ -1,4 +1,4 @@
-//! Keys that go from an index, beside a plain list that takes the same calls.
+//! Removing keys from an index, compared with a plain list that takes the same calls.
 use crate::expected::{expect, expect_at};
 use std::alloc::{AllocError, Global};
 use std::process::Abort;
@@ -21,7 +21,7 @@ impl<H: KeyHash<u64>> Pair<H> {
         }
     }
 
-    // Adds the keys below `end` that are not there.
+    // Adds the keys below `end` that are absent.
     fn add(&mut self, end: u64) -> Result<(), AllocError> {
         for key in 0..end {
             if let Found::Absent(absence) = self.index.find(&key) {
@@ -32,7 +32,7 @@ impl<H: KeyHash<u64>> Pair<H> {
         Ok(())
     }
 
-    // Takes the key of a number out, or the last where no key has the number. It is absent then.
+    // Removes the key with a number, or the last key if there is none; that key is then absent.
     fn remove(&mut self, rt: &impl Abort, number: usize) {
         let gone = if number < self.index.len() {
             Some(self.index.swap_remove(number))
@@ -50,7 +50,7 @@ impl<H: KeyHash<u64>> Pair<H> {
         }
     }
 
-    // Leaves the first keys, so many.
+    // Keeps the first `keys` keys.
     fn truncate(&mut self, keys: usize) {
         self.index.truncate(keys);
         self.list.truncate(keys);
@@ -63,7 +63,7 @@ impl<H: KeyHash<u64>> Pair<H> {
         }
     }
 
-    // There are as many keys as in the list, and each has its number.
+    // Expects as many keys as in the list, each with its number.
     fn compare(&self, rt: &impl Abort) {
         expect(rt, self.index.len(), self.list.len());
         for (number, key) in self.list.iter().enumerate() {
@@ -72,7 +72,7 @@ impl<H: KeyHash<u64>> Pair<H> {
     }
 }
 
-// Takes so many keys out in a mixed order, and adds them again.
+// Removes `count` keys in a mixed order, and adds them again.
 fn goes_and_comes<H: KeyHash<u64> + Drop>(
     rt: &impl Abort,
     alloc: Global,
@@ -116,7 +116,7 @@ fn a_key_here_and_there(rt: HostRuntime) -> Result<(), Fail> {
     Ok(())
 }
 
-// The first keys stay, and each of the others is absent.
+// The first keys stay, and all others are absent.
 #[test]
 fn the_first_keys_stay(rt: HostRuntime) -> Result<(), Fail> {
     let mut pair = Pair::new(rt.alloc(), LowBits(3));

@@ -1,8 +1,8 @@
 //! Tests of the table, the map and the set.
 //!
-//! They try what no contract says: that calls succeed while there is memory, worked examples whose
-//! answers were computed by hand, how often keys are compared, and that each value is dropped
-//! exactly once. Long runs of random calls stand beside a plain list that takes the same calls.
+//! They test what no contract says: that calls succeed while there is memory, worked examples with results
+//! computed by hand, how often keys are compared, and that each value is dropped exactly once. Long runs of
+//! random calls are compared with a plain list that takes the same calls.
 #![tactic(auto)]
 
 #[cfg(test)]

@@ -12,7 +12,7 @@ use sw_probe::{ByteKey, Constant, Direct, Fnv1a, KeyHash, LowBits};
 
 type Words = FlatMap<Vec<u8>, u64, Fnv1a>;
 
-// The key 2 is in both maps, and 3 in the other alone.
+// The key 2 is in both maps, and 3 only in the other.
 fn merge(
     rt: &impl Abort,
     alloc: Global,
@@ -43,7 +43,7 @@ fn each_call_of_a_small_map(rt: HostRuntime) -> Result<(), Fail> {
     expect_list(&rt, one, &[(2, 22), (3, 30)])
 }
 
-/// The example at the head of the map's crate.
+/// The example in the head of the map's crate.
 #[test]
 fn the_example_of_the_stock(rt: HostRuntime) -> Result<(), Fail> {
     let mut stock = FlatMap::with_room(rt.alloc(), Fnv1a { seed: 0 }, 12)?;
@@ -90,7 +90,7 @@ fn an_empty_map_as_a_list(rt: HostRuntime) -> Result<(), Fail> {
     expect_list(&rt, map, &[])
 }
 
-// Asks for a number, and expects how often it is compared.
+// Looks a number up, and expects how often it is compared.
 fn ask(rt: &impl Abort, map: &Numbers<Direct>, number: u64, there: bool, times: u64) {
     let compared = Cell::new(0);
     let asked = Asked {
@@ -114,7 +114,7 @@ fn keys_are_compared_where_their_bytes_are_equal(rt: HostRuntime) {
     }
 }
 
-// Whether the key was there, and has the value now.
+// Writes a value, and returns whether the key was there.
 fn writes(map: &mut Numbers<LowBits>, key: u64, value: u64) -> bool {
     match map.get_mut(&key) {
         Some(held) => {
@@ -134,7 +134,7 @@ fn a_value_written_in_place(rt: HostRuntime) -> Result<(), Fail> {
     expect_entries(&rt, alloc, &map, &[(1, 10), (2, 25), (3, 30)])
 }
 
-// Of forty keys the even ones leave.
+// Erases the even ones of forty keys.
 fn erase_even<H: KeyHash<u64>>(rt: &impl Abort, map: &mut Numbers<H>) {
     for half in 0..20u64 {
         expect_at(rt, half, map.erase(&(2 * half)), true);
@@ -145,7 +145,7 @@ fn erase_even<H: KeyHash<u64>>(rt: &impl Abort, map: &mut Numbers<H>) {
     }
 }
 
-// What is then there: the odd keys, and twenty others.
+// The keys that remain: the odd ones, and twenty others.
 fn odd_and_others(alloc: Global) -> Result<Vec<(u64, u64)>, Fail> {
     let mut due = Vec::new(alloc);
     for key in 0..120u64 {
@@ -156,7 +156,7 @@ fn odd_and_others(alloc: Global) -> Result<Vec<(u64, u64)>, Fail> {
     Ok(due)
 }
 
-// Forty keys, of which the even ones leave, and twenty others.
+// Adds forty keys, erases the even ones, and adds twenty others.
 fn forty<H: KeyHash<u64> + Drop>(rt: &impl Abort, alloc: Global, hasher: H) -> Result<(), Fail> {
     let mut map = FlatMap::new(alloc, hasher);
     insert_each(rt, &mut map, 0, 40);
@@ -187,7 +187,7 @@ fn forty_keys_under_hashes_that_clash(rt: HostRuntime) -> Result<(), Fail> {
     forty(&rt, rt.alloc(), Direct)
 }
 
-// Adds a word, or hands the arguments out where it is there.
+// Adds a word, or returns the arguments if it is there.
 fn emplace(map: &mut Words, key: Vec<u8>, value: u64) -> Result<Option<(Vec<u8>, u64)>, Fail> {
     match map.try_emplace(key, value) {
         Ok(Emplaced::Present(key, value)) => Ok(Some((key, value))),
@@ -205,7 +205,7 @@ fn emplace_new(rt: &impl Abort, map: &mut Words, word: Vec<u8>) -> Result<(), Fa
     Ok(())
 }
 
-// The word "ab" is there: the arguments come back, and the value stays.
+// The word "ab" is there: the arguments are returned, and the value stays.
 fn emplace_again(rt: &impl Abort, map: &mut Words, word: Vec<u8>) -> Result<(), Fail> {
     expect(rt, map.contains(&word), true);
     let back = emplace(map, word, 2)?;

@@ -1,4 +1,4 @@
-//! What a map holds is dropped exactly once.
+//! A map drops what it holds exactly once.
 use crate::counted::{Counted, CountedKey, Counters, Number};
 use crate::expected::expect;
 use std::ops::Range;
@@ -12,7 +12,7 @@ pub(crate) type CountedMap<'a> = FlatMap<CountedKey<'a>, Counted<'a>, LowBits>;
 // From all keys in one chain to all keys apart.
 pub(crate) const BITS: [u32; 3] = [0, 8, 64];
 
-// Adds the entry of a number, counted in the cells of `id`.
+// Adds the entry of a number, which counts in the cells of `id`.
 fn add<'a>(
     rt: &impl Abort,
     map: &mut CountedMap<'a>,
@@ -24,7 +24,7 @@ fn add<'a>(
     assert!(rt; matches!(added, Ok(Emplaced::Inserted)), "{id}");
 }
 
-/// Adds entries that are counted in these cells, with the numbers from `first` on.
+/// Adds entries that count in these cells, with the numbers from `first` on.
 pub(crate) fn add_each<'a>(
     rt: &impl Abort,
     map: &mut CountedMap<'a>,
@@ -44,7 +44,7 @@ fn erase(rt: &impl Abort, map: &mut CountedMap, counters: &Counters, id: usize) 
     counters.expect(rt, id, (1, 1));
 }
 
-// What is taken out is dropped only then.
+// What is extracted is dropped only when the caller drops it.
 fn extract(rt: &impl Abort, map: &mut CountedMap, counters: &Counters, id: usize) {
     let taken = map.extract(&Number(id as u64));
     assert!(rt; taken.is_some(), "{id}");
@@ -53,7 +53,7 @@ fn extract(rt: &impl Abort, map: &mut CountedMap, counters: &Counters, id: usize
     counters.expect(rt, id, (1, 1));
 }
 
-// Of sixty entries twenty are erased, twenty taken out and twenty cleared.
+// Of sixty entries, twenty are erased, twenty extracted and twenty cleared.
 fn erase_and_extract<'a>(
     rt: &impl Abort,
     map: &mut CountedMap<'a>,
@@ -86,7 +86,7 @@ fn erased_and_extracted_once(rt: HostRuntime) -> Result<(), Fail> {
     Ok(())
 }
 
-// A new value for the number of `id`, counted thirty cells on: the old one is handed out.
+// Assigns a new value to the number of `id`, which counts thirty cells on, and returns the old one.
 fn replace<'a>(rt: &impl Abort, map: &mut CountedMap<'a>, counters: &'a Counters, id: usize) {
     let new = id.wrapping_add(30);
     let replaced = map.insert_or_assign(counters.key(rt, id as u64, new), counters.value(rt, new));
@@ -133,7 +133,7 @@ fn arguments_come_back(rt: HostRuntime) -> Result<(), Fail> {
     Ok(())
 }
 
-// Of the numbers 20 to 29 each map has an entry of its own.
+// Both maps have entries of their own for the numbers 20 to 29.
 fn merge<'a>(
     rt: &impl Abort,
     one: &mut CountedMap<'a>,

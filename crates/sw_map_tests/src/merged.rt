@@ -1,4 +1,4 @@
-//! A merge of maps of more than 100,000 entries.
+//! Merging maps of more than 100,000 entries.
 use crate::expected::{expect, expect_at};
 use crate::numbers::{Numbers, insert, insert_each};
 use std::process::Abort;
@@ -6,12 +6,12 @@ use std::test::Fail;
 use sw_flat::FlatMap;
 use sw_probe::Fnv1a;
 
-// What the other map has for a key.
+// The value of a key in the other map.
 fn other_value(key: u64) -> u64 {
     !key
 }
 
-// What a key then has in both: its value in the first map stays where it is there.
+// The values of a key in both maps afterwards: the first map keeps its own.
 fn due(key: u64) -> (Option<u64>, Option<u64>) {
     match key {
         0..60_000 => (Some(key), None),
@@ -28,7 +28,7 @@ fn expect_merged(rt: &impl Abort, one: &Numbers<Fnv1a>, other: &Numbers<Fnv1a>) 
     }
 }
 
-// Of 120,000 entries in each, 60,000 have keys that both maps have.
+// Each map has 120,000 entries, and 60,000 keys are in both.
 #[test]
 fn of_many_entries(rt: HostRuntime) -> Result<(), Fail> {
     let mut one = FlatMap::new(rt.alloc(), Fnv1a { seed: 0 });

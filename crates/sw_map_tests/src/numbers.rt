@@ -1,4 +1,4 @@
-//! Maps of numbers, and calls of them that stand in a list with what is due to come of each.
+//! Maps of numbers, and lists of calls with their expected results.
 use crate::expected::expect;
 use std::alloc::Global;
 use std::process::Abort;
@@ -8,14 +8,14 @@ use sw_probe::KeyHash;
 
 pub(crate) type Numbers<H> = FlatMap<u64, u64, H>;
 
-/// A call of a map, and what is due to come of it.
+/// A call of a map, and its expected result.
 #[derive(Clone, Copy)]
 pub(crate) enum Call {
-    /// An entry is added, whose key is new.
+    /// Adds an entry whose key is new.
     Insert(u64, u64),
-    /// An entry comes back, since its key is there.
+    /// Adds an entry whose key is there, and gets it back.
     Present(u64, u64),
-    /// A value is assigned to a key, and the old one is handed out.
+    /// Assigns a value to a key, and gets the old one.
     Assign(u64, u64, Option<u64>),
     Get(u64, Option<u64>),
     Erase(u64, bool),
@@ -23,18 +23,18 @@ pub(crate) enum Call {
     Reserve(usize, Result<(), Why>),
     Rehash,
     Clear,
-    /// The map has so many entries, so many slots and room for so many entries.
+    /// The map has these numbers of entries and of slots, and room for this number.
     Sizes(usize, usize, usize),
 }
 
-/// Makes each call of a list, and expects what is due of it.
+/// Makes each call of a list, and expects its result.
 pub(crate) fn play<H: KeyHash<u64>>(rt: &impl Abort, map: &mut Numbers<H>, calls: &[Call]) {
     for (i, call) in calls.iter().enumerate() {
         assert!(rt; answers(map, *call), "call {i}");
     }
 }
 
-// Makes a call, and says whether what came of it is what was due.
+// Makes a call, and returns whether its result is the expected one.
 fn answers<H: KeyHash<u64>>(map: &mut Numbers<H>, call: Call) -> bool {
     match call {
         Call::Insert(key, value) => inserts(map, key, value),
@@ -60,7 +60,7 @@ fn inserts<H: KeyHash<u64>>(map: &mut Numbers<H>, key: u64, value: u64) -> bool 
     matches!(map.try_emplace(key, value), Ok(Emplaced::Inserted))
 }
 
-/// Whether the arguments of an entry come back, since its key is there.
+/// Whether the arguments of an entry are returned, since its key is there.
 pub(crate) fn gives_back<H: KeyHash<u64>>(map: &mut Numbers<H>, key: u64, value: u64) -> bool {
     match map.try_emplace(key, value) {
         Ok(Emplaced::Present(back, unused)) => back == key && unused == value,
@@ -68,7 +68,7 @@ pub(crate) fn gives_back<H: KeyHash<u64>>(map: &mut Numbers<H>, key: u64, value:
     }
 }
 
-/// Assigns a value, and says whether the old one is the one that was due.
+/// Assigns a value, and returns whether the old one is the expected one.
 pub(crate) fn assigns<H: KeyHash<u64>>(
     map: &mut Numbers<H>,
     key: u64,
@@ -94,7 +94,7 @@ pub(crate) fn insert<H: KeyHash<u64>>(rt: &impl Abort, map: &mut Numbers<H>, key
     assert!(rt; inserts(map, key, value), "key {key}");
 }
 
-/// Adds each of these keys, as its own value.
+/// Adds each of these keys, with itself as its value.
 pub(crate) fn insert_each<H: KeyHash<u64>>(
     rt: &impl Abort,
     map: &mut Numbers<H>,
@@ -120,7 +120,7 @@ pub(crate) fn map_of<H: KeyHash<u64> + Drop>(
     map
 }
 
-// The entries of a map, by ascending keys.
+// The entries of a map, in ascending order of keys.
 fn sorted<H: KeyHash<u64>>(alloc: Global, map: &Numbers<H>) -> Result<Vec<(u64, u64)>, Fail> {
     let mut entries = Vec::new(alloc);
     for (key, value) in map.iter() {
@@ -130,7 +130,7 @@ fn sorted<H: KeyHash<u64>>(alloc: Global, map: &Numbers<H>) -> Result<Vec<(u64, 
     Ok(entries)
 }
 
-/// Expects these entries of a map, by ascending keys.
+/// Expects these entries of a map, in ascending order of keys.
 pub(crate) fn expect_entries<H: KeyHash<u64>>(
     rt: &impl Abort,
     alloc: Global,
@@ -141,7 +141,7 @@ pub(crate) fn expect_entries<H: KeyHash<u64>>(
     Ok(())
 }
 
-/// Expects these entries of the list that a map is made into, by ascending keys.
+/// Expects these entries of the list that a map becomes, in ascending order of keys.
 pub(crate) fn expect_list<H: KeyHash<u64> + Drop>(
     rt: &impl Abort,
     map: Numbers<H>,

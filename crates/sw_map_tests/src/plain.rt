@@ -1,13 +1,12 @@
-//! What the random runs are compared with: a plain list of entries, and the draws of the calls.
+//! What random runs are compared with: a plain list of entries; and pseudo-random numbers for the calls.
 ghost use Rattle.std.specs.Prelude.{◌<◌};
 
 use std::alloc::{AllocError, Global};
 
-/// How many calls a random run has.
+/// The number of calls of a random run.
 pub(crate) const CALLS: u64 = 100_000;
 
-/// From how many keys a call of a run draws: by turns from few and from many, so that what is
-/// tested is crowded and grows.
+/// The number of keys that a call draws from: by turns few and many, so that the map is crowded and grows.
 pub(crate) fn keys_at(call: u64) -> u64 {
     match call / 5_000 % 3 {
         0 => 24,
@@ -16,7 +15,7 @@ pub(crate) fn keys_at(call: u64) -> u64 {
     }
 }
 
-/// A list of entries, each key once, that is searched from its front.
+/// A list of entries with distinct keys, searched from its start.
 #[derive(Drop)]
 pub(crate) struct PlainList {
     entries: Vec<(u64, u64)>,
@@ -38,7 +37,7 @@ impl PlainList {
         Some(*value)
     }
 
-    /// Adds the entry, or gives the key that is there the value; the old value is handed out.
+    /// Adds the entry, or assigns the value to a key that is there and returns the old one.
     pub(crate) fn put(&mut self, key: u64, value: u64) -> Result<Option<u64>, AllocError> {
         for entry in &mut self.entries {
             if entry.0 == key {
@@ -61,8 +60,8 @@ impl PlainList {
     }
 }
 
-/// Numbers that look random, the same ones for the same start: a linear congruence modulo 2^64, by
-/// the multiplier and the increment of Knuth's MMIX, of which the upper bits are drawn.
+/// Pseudo-random numbers, the same for the same start: a linear congruential generator modulo 2^64 with the
+/// multiplier and the increment of Knuth's MMIX, whose upper bits are used.
 #[derive(Drop)]
 pub(crate) struct Draws {
     state: u64,

@@ -8,7 +8,7 @@ use std::test::Fail;
 use sw_flat::FlatMap;
 use sw_probe::{Constant, Direct, Fnv1a, KeyHash, LowBits, WordHash};
 
-// A map under a hasher, beside a list that holds the same.
+// A map under a hasher, and a list that has the same entries.
 #[derive(Drop)]
 struct Pair<H: KeyHash<u64>> {
     map: Numbers<H>,
@@ -33,7 +33,7 @@ impl<H: KeyHash<u64> + Copy + Drop> Pair<H> {
         Ok(())
     }
 
-    // Gives a key that is there another value, and hands the old one out.
+    // Assigns a value to a key that is there, and returns the old one.
     fn write(&mut self, key: u64, value: u64) -> Option<u64> {
         let held = self.map.get_mut(&key)?;
         let old = *held;
@@ -55,7 +55,7 @@ impl<H: KeyHash<u64> + Copy + Drop> Pair<H> {
         expect_at(rt, key, self.map.get(&key).copied(), due);
     }
 
-    // Each entry of the map is one of the list, and there are as many.
+    // Expects that each entry of the map is in the list, and that there are as many.
     fn compare_all(&self, rt: &impl Abort) {
         let mut count = 0usize;
         for (key, value) in self.map.iter() {
@@ -65,7 +65,7 @@ impl<H: KeyHash<u64> + Copy + Drop> Pair<H> {
         expect(rt, [self.map.len(), count], [self.list.len(); 2]);
     }
 
-    // The list that the map is made into has the same entries.
+    // Expects that the list that the map becomes has the same entries.
     fn compare_list(self, rt: &impl Abort) -> Result<(), Fail> {
         let Pair { map, mut list, .. } = self;
         let Ok(entries) = map.into_list() else {
@@ -79,7 +79,7 @@ impl<H: KeyHash<u64> + Copy + Drop> Pair<H> {
         Ok(())
     }
 
-    // Draws a key for a map that is to be merged in, with the value that the list has for none.
+    // Draws a key for a map to be merged, with the value that the list has for absent keys.
     fn draw_other(
         &mut self,
         rt: &impl Abort,
@@ -96,7 +96,7 @@ impl<H: KeyHash<u64> + Copy + Drop> Pair<H> {
         Ok(())
     }
 
-    // Merges a map of some keys in: those that were there already stay in the other map.
+    // Merges a map of some keys: those that both have stay in the other map.
     fn merge(&mut self, rt: &impl Abort, other: &mut Numbers<H>, keys: u64) -> Result<(), Fail> {
         for _ in 0..10u32 {
             self.draw_other(rt, other, keys)?;
@@ -109,7 +109,7 @@ impl<H: KeyHash<u64> + Copy + Drop> Pair<H> {
         Ok(())
     }
 
-    // Each entry that stayed in a map that was merged in is its own, and has a key of this map.
+    // Expects that what stays in a merged map has its own value, and a key of this map.
     fn expect_shared(&self, rt: &impl Abort, other: &Numbers<H>) {
         for (key, value) in other.iter() {
             expect_at(rt, *key, (*value, self.map.contains(key)), (*key, true));
@@ -124,7 +124,7 @@ impl<H: KeyHash<u64> + Copy + Drop> Pair<H> {
         expect_at(rt, key, self.map.erase(&key), self.list.take(key).is_some());
     }
 
-    // Most calls add and remove, some look up, few go over all entries.
+    // Most calls add and remove, some look up, few visit all entries.
     fn call(&mut self, rt: &impl Abort, keys: u64) -> Result<(), Fail> {
         let key = self.draws.below(keys.max(1));
         let value = self.draws.below(1 << 30);
@@ -147,7 +147,7 @@ impl<H: KeyHash<u64> + Copy + Drop> Pair<H> {
     }
 }
 
-// Many calls, and now and then a merge.
+// Many calls, and sometimes a merge.
 fn run<H>(rt: &impl Abort, alloc: Global, hasher: H) -> Result<(), Fail>
 where
     H: KeyHash<u64> + Copy + Drop,

@@ -8,13 +8,13 @@ use std::test::Fail;
 use sw_probe::{Constant, Direct, Fnv1a, KeyHash, LowBits, WordHash};
 use sw_table::Table;
 
-// Adds a key that is not there; only a full table grows.
+// Adds a key that is absent; only a full table grows.
 fn places<H: KeyHash<u64>>(table: &mut Numbers<H>, key: u64, value: u64) -> bool {
     let (full, slots) = (table.len() >= table.room(), table.capacity());
     adds(table, key, value) && (full || table.capacity() == slots)
 }
 
-// A table under a hasher, beside a list that holds the same.
+// A table under a hasher, and a list that has the same entries.
 #[derive(Drop)]
 struct Pair<H: KeyHash<u64>> {
     table: Numbers<H>,
@@ -46,7 +46,7 @@ impl<H: KeyHash<u64>> Pair<H> {
         expect_at(rt, key, value_of(&self.table, key), self.list.get(key));
     }
 
-    // Each entry of the table is one of the list, and there are as many.
+    // Expects that each entry of the table is in the list, and that there are as many.
     fn compare_all(&self, rt: &impl Abort) {
         let (mut from, mut count) = (0usize, 0usize);
         for _ in 0..self.table.capacity() {
@@ -61,7 +61,7 @@ impl<H: KeyHash<u64>> Pair<H> {
         expect(rt, [self.table.len(), count], [self.list.len(); 2]);
     }
 
-    // Most calls add and remove, some look up, few go over all entries.
+    // Most calls add and remove, some look up, few visit all entries.
     fn call(&mut self, rt: &impl Abort, keys: u64) -> Result<(), Fail> {
         let key = self.draws.below(keys.max(1));
         let value = self.draws.below(1 << 30);

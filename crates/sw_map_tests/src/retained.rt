@@ -15,7 +15,7 @@ fn expect_odd<H: KeyHash<u64>>(rt: &impl Abort, map: &Numbers<H>, bound: u64) {
     }
 }
 
-// Of a hundred entries those with odd values stay, and then those below key 10.
+// Of a hundred entries those with odd values stay, then those below key 10.
 fn keeps_some<H: KeyHash<u64> + Drop>(rt: &impl Abort, mut map: Numbers<H>) {
     insert_each(rt, &mut map, 0, 100);
     map.retain(|_, value| *value % 2 == 1);
@@ -26,7 +26,7 @@ fn keeps_some<H: KeyHash<u64> + Drop>(rt: &impl Abort, mut map: Numbers<H>) {
     keeps_all_or_none(rt, &mut map);
 }
 
-// Of five entries all stay, and then none.
+// Of five entries all stay, then none.
 fn keeps_all_or_none<H: KeyHash<u64>>(rt: &impl Abort, map: &mut Numbers<H>) {
     map.retain(|_, _| true);
     play(rt, map, &[Call::Sizes(5, 128, 100)]);
@@ -53,7 +53,7 @@ fn those_of_which_the_closure_says_so(rt: HostRuntime) {
     keeps_some(&rt, FlatMap::new(alloc, Direct));
 }
 
-// The closure counts its calls, and keeps every second entry that it is asked of.
+// The closure counts its calls, and keeps every second entry.
 #[test]
 fn asked_once_of_each(rt: HostRuntime) {
     let mut map: Numbers<Direct> = FlatMap::new(rt.alloc(), Direct);

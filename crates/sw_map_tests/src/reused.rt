@@ -1,4 +1,4 @@
-//! New keys that go to deleted slots of a table at full load.
+//! New keys that reuse deleted slots of a table at full load.
 use crate::loaded::{Keys, expect_kinds, expect_sizes, load};
 use std::process::Abort;
 use std::test::Fail;
@@ -79,8 +79,8 @@ impl Keys for Assigning {
     }
 }
 
-// Three slots of the first group are deleted here, and with them 28 of the 28 slots that may be in
-// use are. A further key of the first group goes to one of the three.
+// Three slots of the first group are deleted, and all 28 slots that the load allows are in use. Another key of
+// the first group reuses one of the three.
 fn reuses<T: Keys + Drop>(rt: &impl Abort, mut keys: T) {
     load(rt, &mut keys);
     assert!(rt; keys.add(256 * 16, 16));

@@ -15,7 +15,7 @@ fn insert<H: KeyHash<u64>>(rt: &impl Abort, set: &mut FlatSet<u64, H>, key: u64,
     );
 }
 
-// Expects so many keys, so many slots and room for so many keys.
+// Expects these numbers of keys, of slots, and of keys that there is room for.
 fn expect_sizes<H: KeyHash<u64>>(rt: &impl Abort, set: &FlatSet<u64, H>, due: [usize; 3]) {
     let len = set.len();
     expect(rt, [len, set.capacity(), set.room()], due);
@@ -38,7 +38,7 @@ fn expect_keys<H: KeyHash<u64>>(
     Ok(())
 }
 
-// Expects these keys of the list that a set is made into, ascending.
+// Expects these keys of the list that a set becomes, ascending.
 fn expect_list<H: KeyHash<u64> + Drop>(
     rt: &impl Abort,
     set: FlatSet<u64, H>,
@@ -62,7 +62,7 @@ fn grow<H: KeyHash<u64>>(rt: &impl Abort, set: &mut FlatSet<u64, H>) -> Result<(
     Ok(())
 }
 
-// The key 4 is in both sets, and 5 in the other alone.
+// The key 4 is in both sets, and 5 only in the other.
 fn merge<H: KeyHash<u64>>(
     rt: &impl Abort,
     alloc: Global,
@@ -103,7 +103,7 @@ fn each_call_of_a_small_set(rt: HostRuntime) -> Result<(), Fail> {
     each_call(&rt, alloc, Direct, FlatSet::new(alloc, Direct))
 }
 
-// Of a hundred keys the even ones are erased.
+// Erases the even ones of a hundred keys.
 fn erase_even(rt: &impl Abort, set: &mut FlatSet<u64, Constant>) {
     for key in 0..100u64 {
         insert(rt, set, key, true);

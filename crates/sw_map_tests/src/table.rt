@@ -11,7 +11,7 @@ use sw_table::{Table, Why};
 
 pub(crate) type Numbers<H> = Table<u64, u64, H>;
 
-/// Adds an entry whose key is not there, and reads it back from the slot that it got.
+/// Adds an entry whose key is absent, and reads it from its slot.
 pub(crate) fn adds<H: KeyHash<u64>>(table: &mut Numbers<H>, key: u64, value: u64) -> bool {
     if table.find(&key).is_some() {
         return false;
@@ -70,7 +70,7 @@ fn room_for_thirteen(rt: HostRuntime) -> Result<(), Fail> {
     Ok(())
 }
 
-// Numbers of entries, and the slots and the room of a table that is made for them.
+// Numbers of entries, and the sizes of a table with room for them.
 const LEAST: [(usize, [usize; 3]); 8] = [
     (0, [0, 0, 0]),
     (1, [0, 16, 12]),
@@ -108,7 +108,7 @@ fn past_the_greatest_capacity(rt: HostRuntime) {
     expect(&rt, table.capacity(), 0);
 }
 
-// The entries of a table, in the order of their slots.
+// The entries of a table in slot order.
 fn by_slots(alloc: Global, table: &Numbers<Direct>) -> Result<Vec<(u64, u64)>, Fail> {
     let (mut from, mut entries) = (0usize, Vec::new(alloc));
     for _ in 0..table.capacity() {
@@ -132,8 +132,8 @@ fn expect_by_slots(
     Ok(())
 }
 
-// Under `Direct` the probe of a key n begins at group n / 128, modulo the number of groups: of four
-// groups, the keys 7, 128 * 3 + 5 and 128 * 2 + 6 have the groups 0, 3 and 2.
+// Under `Direct` the probe of a key n begins at group n / 128, modulo the number of groups: of four groups, the
+// keys 7, 128 * 3 + 5 and 128 * 2 + 6 have the groups 0, 3 and 2.
 #[test]
 fn from_slot_to_slot(rt: HostRuntime) -> Result<(), Fail> {
     let mut table = Table::new(rt.alloc(), Direct);
@@ -149,7 +149,7 @@ fn from_slot_to_slot(rt: HostRuntime) -> Result<(), Fail> {
     expect_by_slots(&rt, rt.alloc(), &table, &[(7, 14), (262, 524), (389, 778)])
 }
 
-/// Gives a key that is there another value, and hands the old one out.
+/// Assigns a value to a key that is there, and returns the old one.
 pub(crate) fn write<H: KeyHash<u64>>(table: &mut Numbers<H>, key: u64, value: u64) -> Option<u64> {
     let slot = table.find(&key)?;
     let held = table.at_mut(slot);
@@ -171,7 +171,7 @@ fn a_value_written_in_place(rt: HostRuntime) -> Result<(), Fail> {
     Ok(())
 }
 
-// Whether a key is not there, and is placed by the same hash that it was sought by.
+// Whether a key is absent, and is placed by the same hash.
 fn places_by_hash(table: &mut Numbers<Fnv1a>, key: u64) -> bool {
     let hash = table.hash(&key);
     table.find_hashed(&key, hash).is_none() && table.place_hashed(key, key, hash).is_ok()
@@ -189,7 +189,7 @@ fn one_hash_for_two_calls(rt: HostRuntime) {
     }
 }
 
-// Takes one of twelve entries out.
+// Removes one of twelve entries.
 fn take_one(rt: &impl Abort, table: &mut Numbers<Direct>) {
     for key in 0..12u64 {
         add(rt, table, key, key);
@@ -210,7 +210,7 @@ fn a_slot_in_a_group_with_an_empty_byte_becomes_empty(rt: HostRuntime) -> Result
     Ok(())
 }
 
-// Expects each key n of these, with the value n / 256.
+// Expects each of these keys n, with the value n / 256.
 fn expect_held(rt: &impl Abort, table: &Numbers<Direct>, keys: &[u64]) {
     for key in keys {
         expect_value(rt, table, *key, Some(*key / 256));
@@ -223,7 +223,7 @@ fn expect_gone(rt: &impl Abort, table: &Numbers<Direct>, keys: &[u64]) {
     }
 }
 
-// A fourth key leaves a table at full load, and another comes.
+// A fourth key is removed from a table at full load, and another added.
 fn sweep(rt: &impl Abort, table: &mut Numbers<Direct>) {
     assert!(rt; take(table, 768).is_some());
     expect_kinds(rt, table, [24, 4, 4]);

@@ -1,4 +1,4 @@
-//! What a table holds is dropped exactly once.
+//! A table drops what it holds exactly once.
 use crate::counted::{Counted, CountedKey, Counters, Number};
 use crate::expected::expect;
 use crate::map_drops::BITS;
@@ -10,7 +10,7 @@ use sw_table::Table;
 
 type CountedTable<'a> = Table<CountedKey<'a>, Counted<'a>, LowBits>;
 
-// Adds the entry of a number, counted in the cells of that number.
+// Adds the entry of a number, which counts in the cells of that number.
 fn add<'a>(rt: &impl Abort, table: &mut CountedTable<'a>, counters: &'a Counters, id: usize) {
     let key = counters.key(rt, id as u64, id);
     assert!(rt; table.find(&key).is_none(), "{id}");
@@ -31,7 +31,7 @@ fn sixty<'a>(
     table
 }
 
-// A table that moves its entries, and is then let go.
+// Moves the entries of a table, and drops the table.
 fn move_entries(rt: &impl Abort, mut table: CountedTable, counters: &Counters) -> Result<(), Fail> {
     expect(rt, table.capacity(), 128);
     table.rehash();
@@ -65,13 +65,13 @@ fn cleared_each_once(rt: HostRuntime) -> Result<(), Fail> {
     Ok(())
 }
 
-// The entry of a number.
+// Removes the entry of a number.
 fn take<'a>(table: &mut CountedTable<'a>, id: usize) -> Option<(CountedKey<'a>, Counted<'a>)> {
     let slot = table.find(&Number(id as u64))?;
     Some(table.remove(slot))
 }
 
-// What is removed is dropped only then.
+// What is removed is dropped only when the caller drops it.
 fn remove(rt: &impl Abort, table: &mut CountedTable, counters: &Counters, id: usize) {
     let taken = take(table, id);
     assert!(rt;

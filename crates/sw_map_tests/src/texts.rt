@@ -1,4 +1,4 @@
-//! The texts of refusals.
+//! The texts of errors.
 use crate::expected::expect;
 use std::alloc::Global;
 use std::fmt::Display;
@@ -7,7 +7,7 @@ use std::test::Fail;
 use sw_flat::RefusedKey;
 use sw_table::{Refused, Why};
 
-// Expects the text of a refusal: what came of it, and why.
+// Expects the text of an error.
 fn expect_text<T: Display>(
     rt: &impl Abort,
     alloc: Global,

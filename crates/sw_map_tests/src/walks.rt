@@ -1,4 +1,4 @@
-//! Iteration, and entries that are taken out one by one.
+//! Iterating, and draining entries one by one.
 ghost use Rattle.sw_table.specs.Walks.{IsDraining};
 
 use crate::expected::expect;
@@ -9,7 +9,7 @@ use std::test::Fail;
 use sw_flat::{FlatMap, FlatSet, Walk};
 use sw_probe::{Direct, Fnv1a, KeyHash};
 
-// A map with twice each key.
+// A map of keys to their doubles.
 fn doubled<H: KeyHash<u64> + Drop>(
     rt: &impl Abort,
     alloc: Global,
@@ -30,7 +30,7 @@ fn is_in(shape: u64, key: u64) -> bool {
     (shape >> (key % 64)) % 2 == 1
 }
 
-// Adds or takes out the keys 0 to 13 whose bits say so; hands those out that are then there.
+// Adds or removes the keys 0 to 13 by the bits of `shape`, and returns the entries that are then there.
 fn reshape(
     rt: &impl Abort,
     alloc: Global,
@@ -74,7 +74,7 @@ fn expect_walked(
     Ok(())
 }
 
-// Under `Direct` the keys 0 to 13 are in the first slots of a table of sixteen, in their order.
+// Under `Direct` the keys 0 to 13 are in the first slots of a table of sixteen, in order.
 #[test]
 fn each_shape_of_a_group_is_gone_over(rt: HostRuntime) -> Result<(), Fail> {
     let mut map = doubled(&rt, rt.alloc(), Direct, 14);
@@ -86,7 +86,7 @@ fn each_shape_of_a_group_is_gone_over(rt: HostRuntime) -> Result<(), Fail> {
     Ok(())
 }
 
-// Expects so many keys, each with its double beside it.
+// Expects `due` keys, each with its double.
 fn expect_doubled(rt: &impl Abort, map: &Numbers<Fnv1a>, due: u64) {
     let mut count = 0u64;
     for (key, value) in map.keys().zip(map.values()) {
@@ -115,7 +115,7 @@ fn keys_and_values_come_side_by_side(rt: HostRuntime) {
     expect(&rt, sum_of(&set), 499_500);
 }
 
-// At most so many entries of a map, taken out by a walk.
+// At most `most` entries of a map, drained by a walk.
 fn take<H: KeyHash<u64>>(
     alloc: Global,
     map: &mut Numbers<H>,
@@ -135,7 +135,7 @@ fn take<H: KeyHash<u64>>(
     Ok(taken)
 }
 
-// Expects of entries that were taken out that they are gone, each with its double.
+// Expects that drained entries are absent, and that each had its double.
 fn expect_gone<H: KeyHash<u64>>(rt: &impl Abort, map: &Numbers<H>, taken: &[(u64, u64)]) {
     for (key, value) in taken {
         expect(rt, *value, key.wrapping_mul(2));
@@ -162,7 +162,7 @@ fn expect_hundred(
     Ok(())
 }
 
-// What was taken out is gone, what was not is there, and at the end the slots are empty.
+// Expects that drained entries are absent and all others there, and at the end that the slots are empty.
 fn drain<H: KeyHash<u64>>(
     rt: &impl Abort,
     alloc: Global,
