@@ -1,4 +1,4 @@
-//! A store that lies: one byte of each run reads as another.
+//! A store that isn't honest: one byte of each run is read as another.
 use crate::reading::{DAMAGED, expect_answers};
 use crate::rows::numbers;
 use crate::whole::write_rows;
@@ -7,7 +7,7 @@ use std::alloc::Global;
 use std::process::Abort;
 use std::test::Fail;
 
-/// A store in memory, but that the byte at a place of each run reads as itself xor another.
+/// A store in memory whose runs have the byte at position `at` read xor `by`.
 #[derive(Drop)]
 pub(crate) struct Altered {
     pub(crate) inner: MemStore,
@@ -45,7 +45,7 @@ impl RunStore for Altered {
     }
 }
 
-// Expects what is read of two rows where the byte at a place reads as another.
+// Expects the results of reading two rows if the byte at a position is read as another.
 fn expect_altered(rt: &impl Abort, alloc: Global, at: u64, by: u8, due: &str) -> Result<(), Fail> {
     let rows = numbers(alloc, 2)?;
     let inner = MemStore::new(alloc);
@@ -61,7 +61,7 @@ fn expect_altered(rt: &impl Abort, alloc: Global, at: u64, by: u8, due: &str) ->
 #[test]
 fn what_a_lie_comes_to(rt: HostRuntime) -> Result<(), Fail> {
     let alloc = rt.alloc();
-    // The first byte of a length, the byte that tells the kind, and bytes of a number.
+    // The first byte of a length, the byte of a tag, and bytes of a number.
     expect_altered(&rt, alloc, 0, 128, DAMAGED)?;
     expect_altered(&rt, alloc, 4, 64, DAMAGED)?;
     expect_altered(&rt, alloc, 12, 2, "3;2;none;none;")?;

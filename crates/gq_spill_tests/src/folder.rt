@@ -17,7 +17,7 @@ use std::test::Fail;
 use std::time::SystemTime;
 use std::{env, fs};
 
-/// The path of a folder that there isn't yet.
+/// The path of a folder that doesn't exist yet.
 fn fresh_folder(rt: &HostRuntime) -> Result<String, Fail> {
     let now = SystemTime::now(rt)?.duration_since(SystemTime::UNIX_EPOCH);
     let nanos = match now {
@@ -42,7 +42,7 @@ fn within(rt: &HostRuntime, folder: &str, name: &str) -> Result<String, Fail> {
     Ok(format!(in rt.alloc(); "{folder}/{name}")?)
 }
 
-/// So many bytes, of which neighbours differ, and runs of another step too.
+/// `count` bytes, whose neighbours differ, as do those of runs with another step.
 fn pattern(alloc: Global, count: usize, step: u8) -> Result<Vec<u8>, StoreError> {
     let mut bytes = Vec::new(alloc);
     let mut byte = step;
@@ -55,12 +55,12 @@ fn pattern(alloc: Global, count: usize, step: u8) -> Result<Vec<u8>, StoreError>
     Ok(bytes)
 }
 
-/// The bytes from a place on, up to another; none where there are not so many.
+/// The bytes in a range, or none if there are fewer.
 fn part(bytes: &[u8], from: usize, to: usize) -> &[u8] {
     bytes.get(from..to).unwrap_or(&[])
 }
 
-/// So many zeros.
+/// `count` zeros.
 fn zeros(alloc: Global, count: usize) -> Result<Vec<u8>, StoreError> {
     let mut bytes = Vec::new(alloc);
     match bytes.resize(count, 0) {
@@ -69,7 +69,7 @@ fn zeros(alloc: Global, count: usize) -> Result<Vec<u8>, StoreError> {
     }
 }
 
-/// Whether a run gives back bytes, read as a whole and then in part, and no more.
+/// Whether a run reads as these bytes, in one read and in several, and no more.
 fn gives_back<S: RunStore>(
     alloc: Global,
     store: &mut S,
@@ -88,7 +88,7 @@ fn gives_back<S: RunStore>(
     Ok(whole && buffer.as_slice().get(..count) == bytes.get(from..to))
 }
 
-/// Appends a run's bytes from a place on, and says whether it gives back all of them.
+/// Appends the bytes from a position on to a run, and returns whether it reads as all of them.
 fn appended<S: RunStore>(
     alloc: Global,
     store: &mut S,
@@ -105,7 +105,7 @@ fn appended<S: RunStore>(
     gives_back(alloc, store, run, bytes)
 }
 
-/// A run that is written and read by turns, in small pieces and large ones: whether each read gave what was
+/// Writes and reads a run by turns, in small and large pieces, and returns whether each read returned what was
 /// written before it.
 fn by_turns<S: RunStore>(alloc: Global, store: &mut S) -> Result<bool, StoreError> {
     let bytes = pattern(alloc, 200_000, 7)?;
@@ -121,7 +121,7 @@ fn by_turns<S: RunStore>(alloc: Global, store: &mut S) -> Result<bool, StoreErro
     Ok(same)
 }
 
-/// Whether a write that fails is told by the append that makes it.
+/// Whether an append reports the write that fails in it.
 fn tells_at_once<S: RunStore>(alloc: Global, store: &mut S) -> Result<bool, StoreError> {
     let bytes = pattern(alloc, 70_000, 7)?;
     let run = store.make()?;
@@ -130,7 +130,7 @@ fn tells_at_once<S: RunStore>(alloc: Global, store: &mut S) -> Result<bool, Stor
     Ok(found == Err(StoreError::Fault))
 }
 
-/// Whether a read that failed, since a part of what waited was written, gives all bytes when it is repeated.
+/// Whether a read returns all bytes when it is repeated after it failed in writing buffered bytes.
 fn repeats<S: RunStore>(alloc: Global, store: &mut S) -> Result<bool, StoreError> {
     let run = store.make()?;
     store.append(run, b"0123456789")?;
@@ -140,7 +140,7 @@ fn repeats<S: RunStore>(alloc: Global, store: &mut S) -> Result<bool, StoreError
     Ok(failed && found)
 }
 
-/// What is done with a store.
+/// A task for a store.
 #[derive(Clone, Copy)]
 enum Task {
     ByTurns,
@@ -156,7 +156,7 @@ fn carry_out<S: RunStore>(alloc: Global, store: &mut S, task: Task) -> Result<bo
     }
 }
 
-/// What comes of a task in a folder of its own, whose files are of this manner.
+/// The result of a task in a folder of its own, whose files behave in this manner.
 fn in_manner(
     rt: &HostRuntime,
     manner: Manner,
@@ -170,7 +170,7 @@ fn in_manner(
     Ok(found)
 }
 
-/// Whether this comes of a task in each of these manners.
+/// Whether a task has this result in each of these manners.
 fn gives_in_each(
     rt: &HostRuntime,
     manners: &[Manner],
@@ -221,7 +221,7 @@ fn bytes_come_back_in_any_manner(rt: HostRuntime) -> Result<(), Fail> {
     Ok(())
 }
 
-/// What comes of a run by turns where a call of its file fails, counted from 0.
+/// The result of reading and writing by turns if a call of the file fails, counted from 0.
 fn turns_failing(rt: &HostRuntime, call: u64) -> Result<Result<bool, StoreError>, Fail> {
     let manner = Manner {
         gives: 50_000,
@@ -295,7 +295,7 @@ fn files_that_give_or_take_nothing(rt: HostRuntime) -> Result<(), Fail> {
     Ok(())
 }
 
-/// Writes two runs of a store by turns: whether each gives back its own bytes.
+/// Writes two runs of a store by turns, and returns whether each reads as its own bytes.
 fn both_by_turns<S: RunStore>(
     alloc: Global,
     store: &mut S,
@@ -339,7 +339,7 @@ fn runs_side_by_side(rt: HostRuntime) -> Result<(), Fail> {
     Ok(())
 }
 
-/// Makes a run in each of two stores, of the same number: whether each has its own bytes.
+/// Makes a run with the same number in each of two stores, and returns whether each has its own bytes.
 fn in_two_stores<S: RunStore>(
     alloc: Global,
     one: &mut S,
@@ -379,7 +379,7 @@ fn expect_same(rt: &impl Abort, alloc: Global, read: &[Row], rows: &[Row]) -> Re
     Ok(())
 }
 
-/// Writes rows to a run, which is there although the folder is empty.
+/// Writes rows to a run, which exists although the folder is empty.
 fn read_nameless<S: RunStore>(
     rt: &(impl Files + AllocGlobal + Abort),
     store: &mut S,
@@ -405,7 +405,7 @@ fn a_file_has_no_name(rt: HostRuntime) -> Result<(), Fail> {
     read_nameless(&rt, &mut store, folder.as_str(), rows.as_slice())
 }
 
-/// Appends behind two rows, and reads from their last byte on.
+/// Appends after two rows, and reads from their last byte on.
 fn append_behind<S: RunStore>(rt: &impl Abort, store: &mut S, run: RunId)
     requires { IsTrue ((S.runs store.old).live run.number) }
 {
@@ -440,7 +440,7 @@ fn what_is_appended_after_a_read_goes_to_the_end(rt: HostRuntime) -> Result<(), 
     append_after_reads(&rt, &mut store, folder.as_str(), rows.as_slice())
 }
 
-/// Runs go by two names, of which one was a file's and one a link's.
+/// Runs use two names, one that a file had and one that a link had.
 fn take_names(
     rt: &(impl Files + AllocGlobal + Abort),
     folder: &str,
@@ -477,12 +477,12 @@ fn what_had_the_name_loses_it(rt: HostRuntime) -> Result<(), Fail> {
     Ok(())
 }
 
-/// Whether a store makes no run.
+/// Whether a store fails to make a run.
 fn faults<S: RunStore>(store: &mut S) -> bool {
     matches!(store.make(), Err(StoreError::Fault))
 }
 
-/// Makes a run once its name is free.
+/// Makes a run once its name is unused.
 fn make_after<S: RunStore>(
     rt: &(impl Files + AllocGlobal + Abort),
     store: &mut S,
@@ -519,7 +519,7 @@ fn open_files(rt: &(impl Files + Alloc + Clone + Drop)) -> Result<usize, Fail> {
     Ok(fs::read_dir(rt, "/proc/self/fd")?.count())
 }
 
-/// Makes a run and discards it, with so many files open before, and makes another.
+/// Makes a run and discards it, with `before` files open before, and makes another.
 fn close_first<S: RunStore>(
     rt: &(impl Files + Alloc + Clone + Drop + Abort),
     store: &mut S,

@@ -1,11 +1,11 @@
-//! Tests of records, of runs and of their stores: worked examples whose bytes and answers were
-//! written by hand, stores that fail or lie, a real folder, and runs while memory runs out.
+//! Tests of records, of runs and of their stores: worked examples with bytes and results written by hand,
+//! stores that fail or aren't honest, a real folder, and runs while memory runs out.
 //!
-//! [`whole`] has a list of rows written to a run, and a run read back as a list, proved by the
-//! contracts of writers and readers alone.
+//! [`whole`] writes a list of rows to a run, and reads a run as a list, proved by the contracts of writers and
+//! readers alone.
 //!
-//! The tests of `starved` take up all memory that there is to be had, by blocks that they hold and
-//! never write to; each test has a process of its own, so no other notices.
+//! The tests of `starved` allocate all memory that there is, in blocks that they hold and never write to; each
+//! test has a process of its own, so no other is affected.
 #![tactic(auto)]
 
 #[cfg(test)]

@@ -1,4 +1,4 @@
-//! Readers of runs: what they answer, and in how many pieces they read.
+//! Readers of runs: their results, and in how many pieces they read.
 ghost use Rattle.std.specs.Prelude.{IsTrue};
 
 use crate::expected::{expect, expect_at};
@@ -11,7 +11,7 @@ use std::alloc::{AllocError, Global};
 use std::process::Abort;
 use std::test::Fail;
 
-/// What a reader answered: the row that it wrote, that there is none, or why not.
+/// The result of a reader as text: the row that it read, that there is none, or the error.
 pub(crate) fn told(
     alloc: Global,
     out: &mut String,
@@ -25,7 +25,7 @@ pub(crate) fn told(
     }
 }
 
-/// The first four answers of a reader.
+/// The first four results of a reader.
 pub(crate) fn answers<S: RunStore>(
     alloc: Global,
     store: &mut S,
@@ -49,7 +49,7 @@ pub(crate) fn answers<S: RunStore>(
     Ok(out)
 }
 
-/// Expects the first four answers of a reader.
+/// Expects the first four results of a reader.
 pub(crate) fn expect_answers<S: RunStore>(
     rt: &impl Abort,
     alloc: Global,
@@ -66,11 +66,11 @@ pub(crate) fn expect_answers<S: RunStore>(
     Ok(())
 }
 
-/// The four answers of a reader that finds at once that its run is damaged.
+/// The four results of a reader that finds at once that its run is damaged.
 pub(crate) const DAMAGED: &str =
     "a run is damaged;a run is damaged;a run is damaged;a run is damaged;";
 
-/// Reads two rows by marks that tell another number of rows or of bytes, and as rows of other columns.
+/// Reads two rows by marks with another number of rows or of bytes, and as rows of other columns.
 fn expect_by_marks<S: RunStore>(
     rt: &impl Abort,
     alloc: Global,
@@ -119,8 +119,8 @@ fn rows_read_are_the_rows_written(rt: HostRuntime) -> Result<(), Fail> {
     Ok(())
 }
 
-/// Writes rows of one column, and reads them from a store whose calls fail from a number on: whether
-/// they came back.
+/// Writes rows of one column, and returns whether they are read back from a store whose calls fail from a
+/// number on.
 fn comes_back(alloc: Global, rows: &[Row], fails_at: u64) -> Result<bool, AllocError> {
     let mut store = MemStore::new(alloc);
     let Ok(mark) = write_rows(alloc, &mut store, rows) else {
@@ -134,7 +134,7 @@ fn comes_back(alloc: Global, rows: &[Row], fails_at: u64) -> Result<bool, AllocE
     Ok(spelled(alloc, read.as_slice())?.as_str() == due.as_str())
 }
 
-// Of so many rows, which are read in so many pieces.
+// Expects that `last` rows are read in `reads` pieces.
 fn expect_reads(rt: &impl Abort, alloc: Global, last: i64, reads: u64) -> Result<(), Fail> {
     let rows = numbers(alloc, last)?;
     for k in 1..=reads {

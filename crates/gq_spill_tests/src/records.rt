@@ -1,4 +1,4 @@
-//! Records of rows, written down by hand.
+//! Records of rows, worked out by hand.
 use crate::rows::{no_case, number, spelled_row, text, worked};
 use gq_row::{Row, Value};
 use gq_spill::{decode_row, encode_row, is_storable};
@@ -6,7 +6,7 @@ use std::alloc::{AllocError, Global};
 use std::process::Abort;
 use std::test::Fail;
 
-/// Some bytes with a row's record behind them.
+/// Some bytes, followed by a row's record.
 pub(crate) fn with_record(alloc: Global, front: &[u8], row: &Row) -> Result<Vec<u8>, Fail> {
     let mut bytes = Vec::from_slice(alloc, front)?;
     if !is_storable(row) {
@@ -16,7 +16,7 @@ pub(crate) fn with_record(alloc: Global, front: &[u8], row: &Row) -> Result<Vec<
     Ok(bytes)
 }
 
-/// The row whose record is at the front, spelled out, and how long the record is.
+/// The row whose record the bytes begin with, spelled out, and the length of the record.
 fn decoded(alloc: Global, bytes: &[u8]) -> Result<Option<(String, usize)>, AllocError> {
     let Some((row, len)) = decode_row(alloc, bytes)? else {
         return Ok(None);
@@ -24,7 +24,7 @@ fn decoded(alloc: Global, bytes: &[u8]) -> Result<Option<(String, usize)>, Alloc
     Ok(Some((spelled_row(alloc, &row)?, len)))
 }
 
-/// Expects that some bytes begin with the record of a row, which is so long.
+/// Expects that some bytes begin with the record of a row, of this length.
 fn expect_decoded(
     rt: &impl Abort,
     alloc: Global,
@@ -44,7 +44,7 @@ fn expect_no_record(rt: &impl Abort, alloc: Global, bytes: &[u8]) -> Result<(), 
     Ok(())
 }
 
-/// Expects the record of a row, and the row of its record.
+/// Expects the record of a row, and the row when it is decoded.
 fn expect_record(rt: &impl Abort, alloc: Global, row: &Row, due: &[u8]) -> Result<(), Fail> {
     let found = with_record(alloc, b"", row)?;
     assert_eq!(rt; found.as_slice(), due);
@@ -54,7 +54,7 @@ fn expect_record(rt: &impl Abort, alloc: Global, row: &Row, due: &[u8]) -> Resul
 
 const WORKED: &[u8] = b"\0\0\0\x13\0\x01\xff\xff\xff\xff\xff\xff\xff\xff\x02\0\0\0\x04Oslo";
 
-// A record goes behind what is there.
+// A record is appended to what is there.
 fn expect_behind(rt: &impl Abort, alloc: Global, row: &Row) -> Result<(), Fail> {
     let behind = with_record(alloc, b"ab", row)?;
     assert_eq!(rt; behind.len(), 25);
@@ -68,14 +68,14 @@ fn the_record_of_a_row(rt: HostRuntime) -> Result<(), Fail> {
     expect_record(&rt, rt.alloc(), &row, WORKED)?;
     expect_behind(&rt, rt.alloc(), &row)?;
     expect_decoded(&rt, rt.alloc(), WORKED, "null,-1,'Oslo';", 23)?;
-    // No front of a record is one.
+    // No prefix of a record is one.
     for cut in 0..WORKED.len() {
         expect_no_record(&rt, rt.alloc(), &WORKED[..cut])?;
     }
     Ok(())
 }
 
-// Rows without texts, whose records stand beside them in the test.
+// Rows without texts, whose records are listed in the test.
 fn plain_rows(alloc: Global) -> Result<Vec<Row>, AllocError> {
     let none = Row::new(Vec::new(alloc));
     let null = Row::new(vec![in alloc; Value::Null]?);
@@ -145,19 +145,19 @@ const NO_RECORDS: [&[u8]; 16] = [
     b"\0\0\0",
     b"\0\0\0\x01",
     b"\xff\xff\xff\xff\0",
-    // Kinds that there are not.
+    // Unknown tags.
     b"\0\0\0\x01\x04",
     b"\0\0\0\x06\x04\0\0\0\x01a",
     b"\0\0\0\x02\0\xff",
-    // A number of seven bytes, and one that ends behind its body.
+    // A number of seven bytes, and one that ends after its body.
     b"\0\0\0\x08\x01\0\0\0\0\0\0\0",
     b"\0\0\0\x08\x01\0\0\0\0\0\0\0\0",
-    // A text that ends behind its body, one with bytes behind it, and one that is not UTF-8.
+    // A text that ends after its body, one with bytes after it, and one that isn't UTF-8.
     b"\0\0\0\x06\x02\0\0\0\x02ab",
     b"\0\0\0\x06\x02\0\0\0\0a",
     b"\0\0\0\x06\x02\0\0\0\x01\xff",
     b"\0\0\0\x03\x02\0\0",
-    // The same of a text without case.
+    // The same for a text without case.
     b"\0\0\0\x01\x03",
     b"\0\0\0\x06\x03\0\0\0\x02ab",
     b"\0\0\0\x06\x03\0\0\0\0a",

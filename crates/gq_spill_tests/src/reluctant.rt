@@ -1,16 +1,16 @@
-//! Files that are slow to do what they are asked for: a stand-in for the system's, whose names are real.
+//! Files that are slow or fail: a stand-in for the system's, whose names are real.
 
 use std::alloc::Allocator;
 use std::cell::Cell;
 use std::fs::{Files, Metadata, OpenFile, OpenOptions};
 use std::io::{self, ErrorKind, Read, Seek, SeekFrom, Write};
 
-/// How the calls of a file go.
+/// How the calls of a file behave.
 #[derive(Clone, Copy)]
 pub(crate) struct Manner {
-    /// How many bytes a read gives at most.
+    /// The most bytes that a read returns.
     pub gives: usize,
-    /// How many bytes a write takes at most.
+    /// The most bytes that a write takes.
     pub takes: usize,
     /// Whether every other read or write is interrupted.
     pub interrupted: bool,
@@ -29,12 +29,12 @@ pub(crate) const WILLING: Manner = Manner {
     taken: 0,
 };
 
-/// Other files, but for the manner of those that are opened.
+/// The files of another implementation, whose open ones behave in this manner.
 #[derive(Drop)]
 pub(crate) struct Reluctant<'a, R> {
     files: &'a R,
     manner: Manner,
-    // How many times another program was first.
+    // How many more times another program is first.
     taken: Cell<u32>,
 }
 
@@ -48,7 +48,7 @@ impl<'a, R> Reluctant<'a, R> {
     }
 }
 
-/// A file that goes about its calls in its own manner.
+/// A file whose calls behave in a manner of its own.
 #[derive(Drop)]
 pub(crate) struct ReluctantFile<F: Drop> {
     file: F,
@@ -57,7 +57,7 @@ pub(crate) struct ReluctantFile<F: Drop> {
 }
 
 impl<F: Drop> ReluctantFile<F> {
-    // Counts a call, which fails where its turn has come.
+    // Counts a call, which fails if it is its turn.
     fn call(&mut self) -> io::Result<()> {
         let call = self.calls;
         self.calls = call.saturating_add(1);

@@ -1,4 +1,4 @@
-//! Rows, and what they are spelled as.
+//! Rows, and their spelling.
 use gq_row::{Row, Text, Value};
 use std::alloc::{AllocError, Global};
 
@@ -11,7 +11,7 @@ pub(crate) fn no_case(alloc: Global, chars: &str) -> Result<Value, AllocError> {
     Ok(Value::NoCase(Text::of(alloc, chars)?))
 }
 
-/// A row without a value, which has no memory.
+/// A row without values, which has no memory.
 pub(crate) fn no_values(alloc: Global) -> Row {
     Row::new(Vec::new(alloc))
 }
@@ -59,7 +59,7 @@ fn spell_row(alloc: Global, out: &mut String, row: &Row) -> Result<(), AllocErro
     out.push_str(";")
 }
 
-/// Each row with its values between commas, a `~` before a text without case, and a semicolon behind it.
+/// The rows with commas between values, a `~` before a text without case, and a semicolon after each row.
 pub(crate) fn spelled(alloc: Global, rows: &[Row]) -> Result<String, AllocError> {
     let mut out = String::new(alloc);
     for row in rows {
@@ -68,7 +68,7 @@ pub(crate) fn spelled(alloc: Global, rows: &[Row]) -> Result<String, AllocError>
     Ok(out)
 }
 
-/// A row, spelled so.
+/// A row in this spelling.
 pub(crate) fn spelled_row(alloc: Global, row: &Row) -> Result<String, AllocError> {
     let mut out = String::new(alloc);
     spell_row(alloc, &mut out, row)?;

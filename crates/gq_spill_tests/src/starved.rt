@@ -1,5 +1,5 @@
-//! Runs and records while memory runs out: first with none, then with a little more each time, so
-//! that each request is the first to be refused in some run.
+//! Runs and records while memory runs out: first with none left, then with a little more each time, so that
+//! each allocation is the first to fail in some run.
 ghost use Rattle.std.specs.Prelude.{IsTrue};
 
 use crate::expected::expect;
@@ -17,7 +17,7 @@ use std::alloc::{AllocError, Global};
 use std::process::Abort;
 use std::test::Fail;
 
-// By how many bytes what is left grows with each step.
+// By how many bytes the free memory grows with each step.
 const STEP: usize = 16;
 
 const DUE: &str = "null,-1,'Oslo';1,null,'a city of a name that takes a block of its own';2,7,'';\
@@ -32,14 +32,14 @@ fn rows(alloc: Global) -> Result<Vec<Row>, AllocError> {
     Ok(vec![in alloc; worked(alloc)?, second, third, fourth]?)
 }
 
-/// The rows that come back of some rows.
+/// Writes rows to a run in memory, and reads them.
 fn through_memory(alloc: Global, rows: &[Row]) -> Result<Vec<Row>, SpillRefusal> {
     let mut store = MemStore::new(alloc);
     let mark = write_rows(alloc, &mut store, rows)?;
     read_rows(alloc, &mut store, mark, 3)
 }
 
-// Expects of an answer that it is all rows, or that memory was wanting; whether it is the rows.
+// Expects all rows, or `Memory`, and returns whether it is the rows.
 fn is_whole(
     rt: &impl Abort,
     alloc: Global,
@@ -58,7 +58,7 @@ fn is_whole(
     }
 }
 
-// Leaves so many bytes for a run of these rows; whether they came back.
+// Leaves `bytes` bytes for a run of these rows, and returns whether they are read back.
 fn comes_back_with(
     rt: &impl Abort,
     alloc: Global,
@@ -74,7 +74,7 @@ fn comes_back_with(
     Ok(whole)
 }
 
-// How many runs were refused a request before one was not.
+// How many runs had an allocation fail before one had none.
 fn refused_runs(rt: &impl Abort, alloc: Global, rows: &[Row]) -> Result<usize, AllocError> {
     let mut starved = Starved::new(alloc)?;
     for step in 0..POOLS {
@@ -88,10 +88,10 @@ fn refused_runs(rt: &impl Abort, alloc: Global, rows: &[Row]) -> Result<usize, A
 #[test]
 fn each_request_refused_in_turn(rt: HostRuntime) -> Result<(), Fail> {
     let rows = rows(rt.alloc())?;
-    // Once while there is memory, so that the stack has grown as far as runs need it.
+    // Once with enough memory, so that the stack has grown as far as runs need it.
     assert!(rt; through_memory(rt.alloc(), rows.as_slice()).is_ok());
     let refused = refused_runs(&rt, rt.alloc(), rows.as_slice())?;
-    // The requests grow from a few bytes to some hundred, so many steps were refused.
+    // The allocations grow from a few bytes to some hundred, so many steps fail.
     assert!(rt; 10 < refused && refused < POOLS, "{refused} refused");
     Ok(())
 }
@@ -107,14 +107,14 @@ fn records_without_memory(rt: HostRuntime) -> Result<(), Fail> {
     let record = with_record(rt.alloc(), b"", &row)?;
     let mut bytes = Vec::from_slice(rt.alloc(), b"ab")?;
     let starved = Starved::new(rt.alloc())?;
-    // What was there stays, and neither call takes its memory from elsewhere.
+    // What is there stays, and neither call finds memory elsewhere.
     expect(
         &rt,
         refuses(rt.alloc(), &row, &mut bytes, record.as_slice()),
         true,
     );
     expect(&rt, bytes.as_slice(), b"ab".as_slice());
-    // What is no record is told without memory for its row.
+    // Bytes that are no record are reported without memory for their row.
     assert!(rt; matches!(decode_row(rt.alloc(), b"\0\0\0\x01"), Ok(None)));
     drop(starved);
     Ok(())
@@ -122,7 +122,7 @@ fn records_without_memory(rt: HostRuntime) -> Result<(), Fail> {
 
 type Refusals = [Option<SpillRefusal>; 2];
 
-// What a writer answers without memory, and then with it.
+// The errors of a writer without memory, and then with it.
 fn write_twice<S: RunStore>(alloc: Global, store: &mut S, row: &Row) -> Result<Refusals, Fail> {
     let Ok(mut writer) = RunWriter::begin(alloc, store) else {
         return Err(Fail::from("no run"));
@@ -138,7 +138,7 @@ fn write_twice<S: RunStore>(alloc: Global, store: &mut S, row: &Row) -> Result<R
     Ok([first, again])
 }
 
-// What a reader answers without memory, and then with it.
+// The errors of a reader without memory, and then with it.
 fn read_twice<S: RunStore>(alloc: Global, store: &mut S, mark: RunMark) -> Result<Refusals, Fail>
     requires { IsTrue ((S.runs store.old).live mark.id.number) }
 {
@@ -177,7 +177,7 @@ fn long_rows(alloc: Global) -> Result<Vec<Row>, AllocError> {
     Ok(rows)
 }
 
-// What a reader answers without memory, first over a row that it read before, and then over none.
+// The results of a reader without memory, first over a row that it has read, and then over an empty one.
 fn told_over<S: RunStore>(alloc: Global, store: &mut S, mark: RunMark) -> Result<String, Fail>
     requires { IsTrue ((S.runs store.old).live mark.id.number) }
 {

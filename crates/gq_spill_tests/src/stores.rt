@@ -11,7 +11,7 @@ use std::alloc::{AllocError, Global};
 use std::process::Abort;
 use std::test::Fail;
 
-/// A store in which one call goes wrong from now on. A run that is live stays so.
+/// A store in which one call goes wrong from now on. A live run stays live.
 pub(crate) fn with_trouble<S: RunStore>(store: S, run: RunId, trouble: Trouble) -> FuseStore<S>
     requires { IsTrue ((S.runs store).live run.number) }
     ensures { IsTrue ((⟦<FuseStore<S> as RunStore>⟧.runs result).live run.number) }
@@ -20,7 +20,7 @@ pub(crate) fn with_trouble<S: RunStore>(store: S, run: RunId, trouble: Trouble) 
     FuseStore::new(store, trouble)
 }
 
-/// Some rows through a run of a store in which one call fails.
+/// Writes rows to a run of a store in which one call fails, and reads them.
 fn through_failing(alloc: Global, rows: &[Row], call: u64) -> Result<Vec<Row>, SpillRefusal> {
     let mut store = FuseStore::new(MemStore::new(alloc), Trouble::Fail(call));
     let mark = write_rows(alloc, &mut store, rows)?;
@@ -32,7 +32,7 @@ fn expect_fault(rt: &impl Abort, alloc: Global, rows: &[Row], call: u64) {
     expect_at(rt, call, found, Some(SpillRefusal::StoreFault));
 }
 
-// Expects that all of three rows come back.
+// Expects that three rows are read back.
 fn expect_three(rt: &impl Abort, alloc: Global, rows: &[Row], call: u64) -> Result<(), Fail> {
     let Ok(read) = through_failing(alloc, rows, call) else {
         return Err(Fail::from("no rows came back"));
@@ -55,7 +55,7 @@ fn each_call_fails_in_turn(rt: HostRuntime) -> Result<(), Fail> {
     Ok(())
 }
 
-/// What a reader answers of two rows, where a call goes wrong after they were written.
+/// The results of a reader of two rows if a call goes wrong after they were written.
 fn answers_after(alloc: Global, trouble: Trouble) -> Result<String, AllocError> {
     let rows = numbers(alloc, 2)?;
     let mut store = MemStore::new(alloc);
@@ -86,12 +86,12 @@ fn refusals_repeat(rt: HostRuntime) -> Result<(), Fail> {
     expect_after(&rt, alloc, Trouble::Short(2), "1;2;none;none;")
 }
 
-// Reads of a run of `Oslo`, of which the second that gives bytes gives one less.
+// Reads a run of `Oslo`; the second read that returns bytes returns one less.
 fn read_short<S: RunStore>(rt: &impl Abort, store: &mut S, run: RunId)
     requires { IsTrue ((S.runs store.old).live run.number) }
 {
     let mut buffer = [b'.'; 10];
-    // Reads that would give no byte aren't counted.
+    // Reads that would return no byte aren't counted.
     expect(rt, store.read(run, 4, &mut buffer).ok(), Some(0));
     expect(rt, store.read(run, 0, &mut buffer).ok(), Some(4));
     expect(rt, store.read(run, 9, &mut buffer).ok(), Some(0));

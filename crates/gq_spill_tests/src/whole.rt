@@ -1,4 +1,4 @@
-//! Whole runs: a list of rows to a run, and a run to a list of rows.
+//! Whole runs: writing a list of rows, and reading a list of rows.
 ghost use Rattle.std.specs.Prelude.{◌≡◌, All, List, ℕ, length, IfOk, IsTrue};
 ghost use Rattle.gq_row.specs.declared.value.Value.{Value as Cell};
 ghost use Rattle.gq_spill.specs.Reading.{Left, opened};
@@ -57,8 +57,7 @@ pub fn read_rows<S: RunStore>(
     Ok(rows)
 }
 
-/// Writes rows of so many columns to a run, reads it and discards it: the rows read are the rows
-/// written.
+/// Writes rows of `columns` columns to a run, reads it and discards it: the rows read are the rows written.
 pub fn through_a_run<S: RunStore>(
     alloc: Global,
     store: &mut S,
