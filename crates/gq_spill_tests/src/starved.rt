@@ -91,7 +91,7 @@ fn each_request_refused_in_turn(rt: HostRuntime) -> Result<(), Fail> {
     // Once with enough memory, so that the stack has grown as far as runs need it.
     assert!(rt; through_memory(rt.alloc(), rows.as_slice()).is_ok());
     let refused = refused_runs(&rt, rt.alloc(), rows.as_slice())?;
-    // The allocations grow from a few bytes to some hundred, so many steps fail.
+    // The allocations grow from a few bytes to some hundred, so more than ten steps fail.
     assert!(rt; 10 < refused && refused < POOLS, "{refused} refused");
     Ok(())
 }

@@ -1,15 +1,15 @@
-//! What a look-up tells.
+//! Results of look-ups.
 
-/// Where a key stands, or that it is absent. It borrows nothing, and is good until keys come or go.
+/// The number of a key, or that it is absent. It borrows nothing, and is valid until keys are added or removed.
 #[derive(Clone, Copy)]
 pub enum Found {
-    /// The number of the key, counted from 0 in the order in which keys came.
+    /// The number of the key, counted from 0 in insertion order.
     At(usize),
-    /// No key is of its class.
+    /// No key is of the class.
     Absent(Absence),
 }
 
-/// What is known of a class that no key is of: its hash.
+/// A class that no key is of, as its hash.
 #[derive(Clone, Copy)]
 pub struct Absence {
     pub(crate) hash: u64,

@@ -11,9 +11,7 @@ use std::marker::Model;
 use sw_probe::{KeyHash, Keyed, Names};
 use sw_table::Table;
 
-/// Different keys in the order in which they came, each found by its hash.
-///
-/// Contracts see the list of keys, and the hasher.
+/// Distinct keys in insertion order, each found by its hash. Contracts see the list of keys, and the hasher.
 #[derive(Drop)]
 pub struct Index<K: Keyed, H: KeyHash<K>> {
     pub(crate) keys: Vec<K>,
@@ -34,7 +32,7 @@ impl<K: Keyed, H: KeyHash<K>> Model for Index<K, H> {
 }
 
 impl<K: Keyed, H: KeyHash<K>> Index<K, H> {
-    /// No key. It takes no memory.
+    /// An empty index. It takes no memory.
     pub fn new(alloc: Global, hasher: H) -> Index<K, H>
         ensures keys { result.keys ≡ [] }
         ensures hasher { result.hasher ≡ hasher }
@@ -46,7 +44,7 @@ impl<K: Keyed, H: KeyHash<K>> Index<K, H> {
         }
     }
 
-    /// How many keys there are.
+    /// The number of keys.
     #[inline]
     pub fn len(&self) -> usize
         ensures { result ≡ length self.now.keys }
@@ -54,14 +52,13 @@ impl<K: Keyed, H: KeyHash<K>> Index<K, H> {
         self.keys.len()
     }
 
-    /// How many keys there may be before the table of numbers grows. It is for who makes room in time;
-    /// no clause speaks of it.
+    /// How many keys there may be before the table of numbers grows. No contract covers it.
     #[inline]
     pub fn room(&self) -> usize {
         self.numbers.room()
     }
 
-    /// The keys, in the order in which they came.
+    /// The keys in insertion order.
     #[inline]
     pub fn keys(&self) -> &[K]
         ensures list { result.now ≡ self.now.keys }
@@ -70,8 +67,7 @@ impl<K: Keyed, H: KeyHash<K>> Index<K, H> {
         self.keys.as_slice()
     }
 
-    /// Where the key that `q` names stands. What [`Index::add`] takes to add one of its class, where it
-    /// is absent.
+    /// The number of the key that `q` names; or its absence, with which [`Index::add`] adds a key of its class.
     #[inline]
     pub fn find<Q: Names<K>>(&self, q: &Q) -> Found
         ensures found { IsFound K.class self.now.keys (Q.named q.now) result }
@@ -90,9 +86,8 @@ impl<K: Keyed, H: KeyHash<K>> Index<K, H> {
         }
     }
 
-    /// Adds a key of a class that [`Index::find`] told to be absent, behind all others. Refused for want
-    /// of memory, or where there are as many keys as a table takes, the index is as it was, and the key
-    /// is dropped.
+    /// Appends a key of a class that [`Index::find`] reported absent. If an allocation fails, or the table of
+    /// numbers has its largest capacity and is full, the index doesn't change and the key is dropped.
     #[inline]
     pub fn add(&mut self, absence: Absence, key: K) -> Result<(), AllocError>
     where
@@ -115,7 +110,7 @@ impl<K: Keyed, H: KeyHash<K>> Index<K, H> {
         Ok(())
     }
 
-    /// Makes room for so many keys in all, where there is memory for that.
+    /// Makes room for `keys` keys in total, as far as there is memory.
     pub fn make_room(&mut self, keys: usize)
         ensures { self.new ≡ self.old }
     {
@@ -123,7 +118,7 @@ impl<K: Keyed, H: KeyHash<K>> Index<K, H> {
         let _ = self.keys.reserve(keys.saturating_sub(self.keys.len()));
     }
 
-    /// The keys, to move out.
+    /// The vector of the keys.
     pub fn into_keys(self) -> Vec<K>
     where
         H: Drop,

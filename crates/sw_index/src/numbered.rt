@@ -16,7 +16,7 @@ pub(crate) struct Numbered {
     pub(crate) number: usize,
 }
 
-/// Two are the same where both words are. The bytes to hash are those of the hash, so that it is never
+/// Two are the same if both words are. The bytes that are hashed are those of the hash, so that it is never
 /// computed again.
 impl Keyed for Numbered {
     ghost class = { λ n. n.hash ∷ n.number ∷ [] };
@@ -41,7 +41,7 @@ impl Keyed for Numbered {
     }
 }
 
-/// The hash that is known.
+/// A hasher that returns the stored hash.
 #[derive(Clone, Copy)]
 pub(crate) struct Known;
 
@@ -54,7 +54,7 @@ impl KeyHash<Numbered> for Known {
     }
 }
 
-// One byte more of a number, the highest first.
+// Appends a byte to a number, big-endian.
 struct ReadStep;
 
 impl Step for ReadStep {
@@ -66,7 +66,7 @@ impl Step for ReadStep {
     }
 }
 
-/// Takes a number out that the table has.
+/// Removes a number that is in the table.
 #[inline]
 pub(crate) fn forget(numbers: &mut Table<Numbered, (), Known>, numbered: Numbered)
     requires { get (entries class_of_number numbers.old) (class_of_number numbered) ≡
@@ -78,7 +78,7 @@ pub(crate) fn forget(numbers: &mut Table<Numbered, (), Known>, numbered: Numbere
     numbers.remove(slot);
 }
 
-/// Puts a number in the place of another that the table has, under the same hash.
+/// Replaces a number that is in the table by another with the same hash.
 #[inline]
 pub(crate) fn renumber(numbers: &mut Table<Numbered, (), Known>, from: Numbered, to: Numbered)
     requires there { get (entries class_of_number numbers.old) (class_of_number from) ≡
@@ -94,7 +94,7 @@ pub(crate) fn renumber(numbers: &mut Table<Numbered, (), Known>, from: Numbered,
     numbers.rekey(slot, to);
 }
 
-// The slot of a number that the table has.
+// The slot of a number that is in the table.
 #[inline]
 fn slot_of(numbers: &Table<Numbered, (), Known>, numbered: &Numbered) -> SlotNo
     requires { get (entries class_of_number numbers.now) (class_of_number numbered.now) ≡

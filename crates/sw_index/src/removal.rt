@@ -1,4 +1,4 @@
-//! Keys that go.
+//! Removals.
 ghost use Rattle.std.specs.Prelude.{◌≡◌, ◌<◌, ◌-◌, Some, length, take, swap_remove};
 ghost use Rattle.std.specs.List.{slice_get};
 
@@ -7,7 +7,7 @@ use crate::numbered::{Numbered, forget, renumber};
 use sw_probe::{KeyHash, Keyed};
 
 impl<K: Keyed, H: KeyHash<K>> Index<K, H> {
-    /// Takes the last key out. It takes no memory.
+    /// Removes and returns the last key. It doesn't allocate.
     pub fn pop(&mut self) -> Option<K>
         ensures key { result ≡ slice_get self.old.keys (length self.old.keys - 1) }
         ensures keys { self.new.keys ≡ take (length self.old.keys - 1) self.old.keys }
@@ -20,7 +20,7 @@ impl<K: Keyed, H: KeyHash<K>> Index<K, H> {
         Some(key)
     }
 
-    /// Takes the key of a number out, and gives the last key its number. It takes no memory.
+    /// Removes and returns the key with a number, which the last key then gets. It doesn't allocate.
     pub fn swap_remove(&mut self, number: usize) -> K
         requires { number < length self.old.keys }
         ensures key { slice_get self.old.keys number ≡ Some result }
@@ -41,7 +41,7 @@ impl<K: Keyed, H: KeyHash<K>> Index<K, H> {
         key
     }
 
-    /// Leaves the first keys, so many, and takes the others out. It takes no memory.
+    /// Keeps the first `keys` keys. It doesn't allocate.
     pub fn truncate(&mut self, keys: usize)
     where
         K: Drop,

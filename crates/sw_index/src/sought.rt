@@ -1,11 +1,11 @@
-//! A key that is sought among those of an index, as the number that it may have.
+//! A key that is looked up in an index, as the number that it may have.
 ghost use Rattle.std.specs.Prelude.{◌≡◌};
 ghost use Rattle.sw_index.specs.Index.{AreDifferent, named_number};
 
 use crate::numbered::Numbered;
 use sw_probe::{Keyed, Names, Step, WordStep};
 
-/// The keys of an index, and one that is asked for: it names the number that it has among them.
+/// The keys of an index, and one that is looked up: it names the number that it has among them.
 #[derive(Drop)]
 pub(crate) struct Sought<'a, K: Keyed, Q: Names<K>> {
     pub(crate) keys: &'a [K],

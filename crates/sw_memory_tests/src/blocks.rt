@@ -1,4 +1,4 @@
-//! The blocks of a table, while there is memory for some of them.
+//! The blocks of a table, while there is memory for only some of them.
 use crate::expected::expect;
 use crate::numbers::{Call, Numbers, expect_as_values, insert_as_values, insert_each, play};
 use crate::starved::Starved;
@@ -8,12 +8,12 @@ use std::test::Fail;
 use sw_flat::{FlatMap, Why};
 use sw_probe::Fnv1a;
 
-// The bytes of the slots and the control bytes of 32 entries of two numbers.
+// The bytes of the slots, and the control bytes, of 32 entries of two numbers.
 const SLOTS: usize = 32 * 16;
 
 const CONTROL: usize = 32;
 
-// A map of fourteen entries in sixteen slots, which is as many as these take.
+// A map of fourteen entries in sixteen slots, which take no more.
 fn fourteen(rt: &impl Abort, alloc: Global) -> Result<Numbers<Fnv1a>, Fail> {
     let mut map = FlatMap::with_room(alloc, Fnv1a { seed: 0 }, 12)?;
     insert_as_values(rt, &mut map, 0..14);
@@ -21,8 +21,7 @@ fn fourteen(rt: &impl Abort, alloc: Global) -> Result<Numbers<Fnv1a>, Fail> {
     Ok(map)
 }
 
-// With one free block of so many bytes a growth is refused, and the map is as it was. With memory it
-// succeeds.
+// With one free block of this size, growth fails and the map is unchanged. With memory it succeeds.
 fn growth_is_refused(rt: &impl Abort, alloc: Global, left: usize) -> Result<(), Fail> {
     let mut map = fourteen(rt, alloc)?;
     let starved = Starved::leaving(rt, alloc, left)?;
@@ -69,7 +68,7 @@ fn of_a_growth_only_the_slots_are_had(rt: HostRuntime) -> Result<(), Fail> {
     growth_is_refused(&rt, rt.alloc(), SLOTS)
 }
 
-// A table of 64 slots, which has grown twice, and is let go.
+// A table of 64 slots that has grown twice, and is dropped.
 fn sixty_four(rt: &impl Abort, alloc: Global, round: u64) -> Result<(), Fail> {
     let mut map = fourteen(rt, alloc)?;
     insert_each(rt, &mut map, 14..40, round);
@@ -81,8 +80,8 @@ fn sixty_four(rt: &impl Abort, alloc: Global, round: u64) -> Result<(), Fail> {
     Ok(())
 }
 
-// A table of 64 slots takes about a kilobyte, and its blocks before that half of it again. Were a
-// block not given back, a few dozen rounds would use up what is free.
+// A table of 64 slots takes about a kilobyte, and its earlier blocks half of that. If a block weren't freed, a
+// few dozen rounds would use up the free memory.
 #[test]
 fn a_table_gives_its_blocks_back(rt: HostRuntime) -> Result<(), Fail> {
     let starved = Starved::leaving(&rt, rt.alloc(), 1 << 16)?;

@@ -1,7 +1,7 @@
 //! A value that counts its drops.
 use std::cell::Cell;
 
-/// A value that counts in its cell when it is dropped.
+/// A value that counts its drop in a cell.
 pub(crate) struct Counted<'a> {
     drops: &'a Cell<u64>,
 }

@@ -1,8 +1,7 @@
-//! Tests of the table, the map and the set while every request for memory is refused.
+//! Tests of the table, the map and the set while every allocation fails.
 //!
-//! Nothing can stand between a program and its allocator, so a test first takes up all memory that
-//! there is to be had, by blocks that it holds and never writes to. Each test has a process of its
-//! own, so no other notices.
+//! A test can't replace its allocator, so it first allocates all memory that there is, in blocks that it holds
+//! and never writes to. Each test has a process of its own, so no other is affected.
 #![tactic(auto)]
 
 #[cfg(test)]

@@ -11,7 +11,7 @@ use std::test::Fail;
 use sw_flat::{Emplaced, FlatMap, FlatSet, Why};
 use sw_probe::{Constant, Direct, Fnv1a, KeyHash, LowBits};
 
-// A map of the keys 0 to 11 in a room of twelve.
+// A map of the keys 0 to 11 with room for twelve.
 fn twelve<H: KeyHash<u64> + Drop>(
     rt: &impl Abort,
     alloc: Global,
@@ -23,7 +23,7 @@ fn twelve<H: KeyHash<u64> + Drop>(
     Ok(map)
 }
 
-// One thousand times a key leaves and a new one comes.
+// One thousand times a key is removed and a new one added.
 fn take_turns<H: KeyHash<u64>>(rt: &impl Abort, map: &mut Numbers<H>) {
     for key in 0..1_000u64 {
         play(
@@ -34,7 +34,7 @@ fn take_turns<H: KeyHash<u64>>(rt: &impl Abort, map: &mut Numbers<H>) {
     }
 }
 
-// Two come, and no more.
+// Two more are added, and then no other.
 fn fill<H: KeyHash<u64>>(rt: &impl Abort, map: &mut Numbers<H>) {
     play(
         rt,
@@ -129,7 +129,7 @@ fn a_rehash_that_is_called_makes_space(rt: HostRuntime) -> Result<(), Fail> {
     )
 }
 
-// A merge of one entry is refused, and succeeds once another left.
+// A merge of one entry fails, and succeeds once another was removed.
 fn merge(rt: &impl Abort, map: &mut Numbers<Direct>, other: &mut Numbers<Direct>) {
     expect(rt, map.merge(other), Err(Why::Memory));
     expect(rt, (map.len(), other.len()), (25, 1));
@@ -158,7 +158,7 @@ fn a_merge_sweeps(rt: HostRuntime) -> Result<(), Fail> {
     merge_without_memory(&rt, rt.alloc(), &mut map)
 }
 
-// Of twelve entries six stay.
+// Keeps six of twelve entries.
 fn keep_half(rt: &impl Abort, map: &mut Numbers<LowBits>) {
     map.retain(|key, _| *key >= 6);
     expect(rt, map.len(), 6);
@@ -183,7 +183,7 @@ fn entries_that_do_not_stay_and_maps_that_are_compared(rt: HostRuntime) -> Resul
     Ok(())
 }
 
-// Hands the map back, of which no list is made without memory.
+// Returns the map, since no list is made without memory.
 fn refused_list(map: Numbers<LowBits>) -> Result<Numbers<LowBits>, Fail> {
     match map.into_list() {
         Ok(_) => Err(Fail::from("a list without memory")),
@@ -235,7 +235,7 @@ fn fill_counted<'a>(rt: &impl Abort, map: &mut CountedMap<'a>, drops: &'a Cell<u
     }
 }
 
-// An entry too many comes back, and its value is dropped only with it.
+// An entry too many is returned, and its value is dropped only with it.
 fn refuse<'a>(rt: &impl Abort, map: &mut CountedMap<'a>, drops: &'a Cell<u64>) {
     let back = map.try_emplace(14, Counted::new(drops));
     assert!(rt; back.is_err(), "an entry too many");

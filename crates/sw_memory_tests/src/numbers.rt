@@ -1,4 +1,4 @@
-//! Maps of numbers, and calls of them that stand in a list with what is due to come of each.
+//! Maps of numbers, and lists of calls with their expected results.
 use crate::expected::expect_at;
 use std::ops::Range;
 use std::process::Abort;
@@ -7,36 +7,36 @@ use sw_probe::KeyHash;
 
 pub(crate) type Numbers<H> = FlatMap<u64, u64, H>;
 
-/// A call of a map, and what is due to come of it.
+/// A call of a map, and its expected result.
 #[derive(Clone, Copy)]
 pub(crate) enum Call {
-    /// An entry is added, whose key is new.
+    /// Adds an entry whose key is new.
     Insert(u64, u64),
-    /// An entry comes back, since its key is there.
+    /// Adds an entry whose key is there, and gets it back.
     Present(u64, u64),
-    /// An entry comes back, since memory is wanting.
+    /// Adds an entry without memory, and gets it back.
     Refused(u64, u64),
-    /// A value is assigned to a key that is there, and the old one is handed out.
+    /// Assigns a value to a key that is there, and gets the old one.
     Assign(u64, u64, u64),
-    /// A key and the value that was to be assigned come back, since memory is wanting.
+    /// Assigns a value without memory, and gets the key and the value back.
     RefusedAssign(u64, u64),
     Get(u64, Option<u64>),
-    /// A key leaves that is there.
+    /// Erases a key that is there.
     Erase(u64),
     Reserve(usize, Result<(), Why>),
     Rehash,
-    /// The map has so many entries and so many slots.
+    /// The map has these numbers of entries and of slots.
     Sizes(usize, usize),
 }
 
-/// Makes each call of a list, and expects what is due of it.
+/// Makes each call of a list, and expects its result.
 pub(crate) fn play<H: KeyHash<u64>>(rt: &impl Abort, map: &mut Numbers<H>, calls: &[Call]) {
     for (i, call) in calls.iter().enumerate() {
         assert!(rt; answers(map, *call), "call {i}");
     }
 }
 
-// Makes a call, and says whether what came of it is what was due.
+// Makes a call, and returns whether its result is the expected one.
 fn answers<H: KeyHash<u64>>(map: &mut Numbers<H>, call: Call) -> bool {
     match call {
         Call::Insert(key, value) => inserts(map, key, value),
@@ -99,7 +99,7 @@ pub(crate) fn insert_each<H: KeyHash<u64>>(
     }
 }
 
-/// Adds each of these keys, which are new, as its own value.
+/// Adds each of these keys, which are new, with itself as its value.
 pub(crate) fn insert_as_values<H: KeyHash<u64>>(
     rt: &impl Abort,
     map: &mut Numbers<H>,
@@ -110,7 +110,7 @@ pub(crate) fn insert_as_values<H: KeyHash<u64>>(
     }
 }
 
-/// Expects each of these keys, as its own value.
+/// Expects each of these keys, with itself as its value.
 pub(crate) fn expect_as_values<H: KeyHash<u64>>(
     rt: &impl Abort,
     map: &Numbers<H>,

@@ -2,21 +2,21 @@
 use std::alloc::{AllocError, Global};
 use std::process::Abort;
 
-// More blocks than there are of any size that is tried.
+// More blocks than are ever held.
 const BLOCKS: usize = 500_000;
 
-// The first size that is tried, in bytes: half of what a process can address.
+// The first size of blocks, in bytes: half of what a process can address.
 const GREATEST: usize = 1 << 46;
 
-/// All memory that there was. While this is held every request is refused.
+/// All memory that there was. While this is held, every allocation fails.
 #[derive(Drop)]
 pub(crate) struct Starved {
     held: Vec<Vec<u8>>,
 }
 
 impl Starved {
-    /// Takes blocks of the greatest size until none is had, then of half of it, down to one byte.
-    /// Then a request for one byte has to be refused.
+    /// Allocates blocks of the largest size until that fails, then of half the size, down to one byte. Then an
+    /// allocation of one byte has to fail.
     pub(crate) fn new(rt: &impl Abort, alloc: Global) -> Result<Starved, AllocError> {
         let mut starved = Starved {
             held: Vec::with_capacity(alloc, BLOCKS)?,
@@ -28,7 +28,7 @@ impl Starved {
         Ok(starved)
     }
 
-    /// Takes all memory but a block of so many bytes, which is free then.
+    /// Allocates all memory but a block of `size` bytes, which is free then.
     pub(crate) fn leaving(
         rt: &impl Abort,
         alloc: Global,
@@ -40,7 +40,7 @@ impl Starved {
         Ok(starved)
     }
 
-    // Takes blocks of one size until none is had.
+    // Allocates blocks of one size until that fails.
     fn take_all(&mut self, alloc: Global, size: usize) {
         for _ in self.held.len()..self.held.capacity() {
             let Ok(block) = Vec::with_capacity(alloc, size) else {
@@ -51,7 +51,7 @@ impl Starved {
     }
 }
 
-// Whether a request for one byte is refused.
+// Whether an allocation of one byte fails.
 fn refuses(alloc: Global) -> bool {
     let block: Result<Vec<u8>, AllocError> = Vec::with_capacity(alloc, 1);
     block.is_err()

@@ -21,7 +21,7 @@ fn add<H: KeyHash<u64>>(rt: &impl Abort, table: &mut Numbers<H>, key: u64, value
     assert!(rt; adds(table, key, value), "key {key}");
 }
 
-// Whether a key is new, and comes back with its value, since memory is wanting.
+// Whether a key is new, and is returned with its value, since memory is refused.
 fn refuses<H: KeyHash<u64>>(table: &mut Numbers<H>, key: u64, value: u64) -> bool {
     if table.find(&key).is_some() {
         return false;
@@ -46,12 +46,12 @@ fn value_of<H: KeyHash<u64>>(table: &Numbers<H>, key: u64) -> Option<u64> {
     Some(*table.at(slot).1)
 }
 
-// Expects so many entries and so many slots.
+// Expects these numbers of entries and of slots.
 fn expect_sizes<H: KeyHash<u64>>(rt: &impl Abort, table: &Numbers<H>, due: [usize; 2]) {
     expect(rt, [table.len(), table.capacity()], due);
 }
 
-// A table of the keys 0 to 11 in a room of twelve.
+// A table of the keys 0 to 11 with room for twelve.
 fn twelve<H: KeyHash<u64> + Drop>(
     rt: &impl Abort,
     alloc: Global,
@@ -65,7 +65,7 @@ fn twelve<H: KeyHash<u64> + Drop>(
     Ok(table)
 }
 
-// One thousand times a key leaves and a new one comes.
+// One thousand times a key is removed and a new one added.
 fn take_turns<H: KeyHash<u64>>(rt: &impl Abort, table: &mut Numbers<H>) {
     for key in 0..1_000u64 {
         expect_at(rt, key, take(table, key), Some((key, key)));
@@ -73,7 +73,7 @@ fn take_turns<H: KeyHash<u64>>(rt: &impl Abort, table: &mut Numbers<H>) {
     }
 }
 
-// Two come, and no more.
+// Two more are added, and then no other.
 fn fill<H: KeyHash<u64>>(rt: &impl Abort, table: &mut Numbers<H>) {
     expect(rt, table.len(), 12);
     for key in [1_012, 1_013] {
@@ -124,14 +124,14 @@ fn loaded(rt: &impl Abort, alloc: Global) -> Result<Numbers<Direct>, Fail> {
     Ok(table)
 }
 
-// Expects each key n of these, with the value n / 256.
+// Expects each of these keys n, with the value n / 256.
 fn expect_held(rt: &impl Abort, table: &Numbers<Direct>, keys: &[u64]) {
     for key in keys {
         expect_at(rt, *key, value_of(table, *key), Some(*key / 256));
     }
 }
 
-// No entry comes but for one that leaves.
+// An entry is added only after another was removed.
 fn sweep(rt: &impl Abort, table: &mut Numbers<Direct>) {
     refuse(rt, table, 3200, 12);
     expect(rt, table.len(), 25);
@@ -169,7 +169,7 @@ fn a_rehash_that_is_called_makes_space(rt: HostRuntime) -> Result<(), Fail> {
     Ok(())
 }
 
-// Calls of a table of no slots.
+// Calls of a table without slots.
 fn use_none(rt: &impl Abort, table: &mut Numbers<Direct>) {
     expect(rt, value_of(table, 1), None);
     refuse(rt, table, 1, 2);
@@ -205,7 +205,7 @@ fn fill_counted<'a>(rt: &impl Abort, table: &mut CountedTable<'a>, drops: &'a Ce
     }
 }
 
-// An entry too many comes back, and its value is dropped only with it.
+// An entry too many is returned, and its value is dropped only with it.
 fn refuse_counted<'a>(rt: &impl Abort, table: &mut CountedTable<'a>, drops: &'a Cell<u64>) {
     assert!(rt; table.find(&14).is_none());
     let back = table.place(14, Counted::new(drops));

@@ -1,6 +1,6 @@
-//! Calls of a map, a set and a table while memory runs out: first with none, then with a little more
-//! each time, so that each request for more than is free is the first to be refused in some run. What is
-//! refused is skipped by a plain list too, and after each call the contents are that list's.
+//! Calls of a map, a set and a table while memory runs out: first with none left, then with a little more each
+//! time, so that each allocation of more than is free is the first to fail in some run. A plain list skips the
+//! calls that fail, and after each call the contents are the list's.
 use crate::expected::{expect, expect_at};
 use crate::loaded::{FIRST, GONE, LATER, SECOND};
 use starved_tests::{POOLS, Starved};
@@ -12,7 +12,7 @@ use sw_flat::{Emplaced, FlatMap, FlatSet, Why};
 use sw_probe::{Constant, Direct, Fnv1a, KeyHash, LowBits};
 use sw_table::Table;
 
-// By how many bytes what is left grows with each step.
+// By how many bytes the free memory grows with each step.
 const STEP: usize = 16;
 
 // More entries than any run has.
@@ -20,7 +20,7 @@ const MOST: usize = 100;
 
 type Numbers<H> = FlatMap<u64, u64, H>;
 
-// A list of entries, each key once, that has its memory from the start.
+// A list of entries with distinct keys that has its memory from the start.
 #[derive(Drop)]
 struct Plain {
     entries: Vec<(u64, u64)>,
@@ -38,7 +38,7 @@ impl Plain {
         Some(*value)
     }
 
-    // Adds the entry, or gives the key that is there the value; the old value is handed out.
+    // Adds the entry, or assigns the value to a key that is there and returns the old one.
     fn put(&mut self, key: u64, value: u64) -> Option<u64> {
         let old = self.get(key);
         let _ = self.take(key);
@@ -63,12 +63,12 @@ enum Call {
     Rehash,
 }
 
-// What came of a call.
+// The result of a call.
 #[derive(Clone, Copy, PartialEq, Eq)]
 enum Came {
-    // As of a list.
+    // As a list has it.
     Right,
-    // Memory was wanting, and the arguments came back.
+    // Memory was refused, and the arguments were returned.
     Refused,
     Wrong,
 }
@@ -140,7 +140,7 @@ fn is_as<H: KeyHash<u64>>(map: &Numbers<H>, list: &Plain) -> bool {
             .all(|entry| map.get(&entry.0).copied() == Some(entry.1))
 }
 
-// Makes each call; how many were refused.
+// Makes each call, and returns how many failed.
 fn make_each<H: KeyHash<u64>>(
     rt: &impl Abort,
     map: &mut Numbers<H>,
@@ -158,7 +158,7 @@ fn make_each<H: KeyHash<u64>>(
     refused
 }
 
-// Expects the entries of a list that a map was made into.
+// Expects the entries of a list that a map became.
 fn expect_list(rt: &impl Abort, entries: &[(u64, u64)], list: &Plain) {
     expect(rt, entries.len(), list.entries.len());
     for (key, value) in entries {
@@ -166,7 +166,7 @@ fn expect_list(rt: &impl Abort, entries: &[(u64, u64)], list: &Plain) {
     }
 }
 
-// Makes a list of a map, or hands the map back; how many calls were refused.
+// Makes a map into a list, or gets the map back, and returns how many calls failed.
 fn list_of<H: KeyHash<u64> + Drop>(rt: &impl Abort, map: Numbers<H>, list: &Plain) -> usize {
     match map.into_list() {
         Ok(entries) => {
@@ -182,11 +182,11 @@ fn list_of<H: KeyHash<u64> + Drop>(rt: &impl Abort, map: Numbers<H>, list: &Plai
 
 // What is run with no memory, then with a little more each time.
 trait Turn {
-    // Runs once, and tells how many calls were refused.
+    // Runs once, and returns how many calls failed.
     fn run(&mut self, rt: &impl Abort, alloc: Global) -> usize;
 }
 
-// Leaves so many bytes for one run; how many calls were refused.
+// Leaves `bytes` bytes for one run, and returns how many calls failed.
 fn run_with<T: Turn>(
     rt: &impl Abort,
     alloc: Global,
@@ -200,8 +200,8 @@ fn run_with<T: Turn>(
     Ok(refused)
 }
 
-// Runs until no call is refused, which takes more than ten steps. It is run once with memory to spare
-// before, so that the stack has grown.
+// Runs until no call fails, which takes more than ten steps. The first run has enough memory, so that the stack
+// has grown.
 fn starve<T: Turn>(rt: &impl Abort, alloc: Global, turn: &mut T) -> Result<(), Fail> {
     expect(rt, turn.run(rt, alloc), 0);
     let mut starved = Starved::new(alloc)?;
@@ -214,7 +214,7 @@ fn starve<T: Turn>(rt: &impl Abort, alloc: Global, turn: &mut T) -> Result<(), F
     Err(Fail::new("memory was wanting to the end"))
 }
 
-// Calls of a map with room for some entries, and a list of it in the end.
+// Calls of a map with room for some entries, which is made into a list at the end.
 #[derive(Drop)]
 struct OfMap<'a, H> {
     hasher: H,
@@ -263,7 +263,7 @@ fn add_each(calls: &mut Vec<Call>, keys: Range<u64>) -> Result<(), AllocError> {
     Ok(())
 }
 
-// Forty keys, of which the even ones leave, and twenty more; then the slots are gone over.
+// Forty keys, of which the even ones are erased, and twenty more; then a rehash.
 fn forty(calls: &mut Vec<Call>) -> Result<(), AllocError> {
     add_each(calls, 0..40)?;
     for key in 0..20u64 {
@@ -294,7 +294,7 @@ fn forty_keys_of_seven_bits(rt: HostRuntime) -> Result<(), Fail> {
     starve_forty(&rt, rt.alloc(), LowBits(7))
 }
 
-// Adds each key n of these, with the value n / 256.
+// Adds each of these keys n, with the value n / 256.
 fn add_parts(calls: &mut Vec<Call>, keys: &[u64]) -> Result<(), AllocError> {
     for key in keys {
         calls.push(Call::Add(*key, *key / 256))?;
@@ -302,8 +302,8 @@ fn add_parts(calls: &mut Vec<Call>, keys: &[u64]) -> Result<(), AllocError> {
     Ok(())
 }
 
-// Two groups of sixteen slots, loaded to the last slot that the load allows, and a key more: first where
-// no entry left before it, then where one did.
+// Two groups of sixteen slots filled up to the load, and one more key: first with no entry erased before it,
+// then after one was.
 fn loaded(calls: &mut Vec<Call>) -> Result<(), AllocError> {
     add_parts(calls, &FIRST)?;
     add_parts(calls, &SECOND)?;
@@ -342,7 +342,7 @@ fn each_call_of_a_small_map(rt: HostRuntime) -> Result<(), Fail> {
     starve_map(&rt, rt.alloc(), Fnv1a { seed: 0 }, 0, &EACH)
 }
 
-// Adds so many keys from one on, each with this value; how many were refused.
+// Adds keys from `from` on, each with this value, and returns how many calls failed.
 fn fill(
     rt: &impl Abort,
     map: &mut Numbers<Fnv1a>,
@@ -361,7 +361,7 @@ fn fill(
     refused
 }
 
-// Twelve entries, of which two have keys that are in twelve others, and what both come to.
+// Two maps of twelve entries that share two keys, and the lists of what a merge makes of them.
 #[derive(Drop)]
 struct OfMerge {
     one: Plain,
@@ -369,7 +369,7 @@ struct OfMerge {
 }
 
 impl OfMerge {
-    // What the lists come to where one is merged into the other.
+    // What the lists become if one is merged into the other.
     fn merge_lists(&mut self) {
         for key in 0..50u64 {
             if let (None, Some(value)) = (self.one.get(key), self.other.get(key)) {
@@ -379,7 +379,7 @@ impl OfMerge {
         }
     }
 
-    // A merge that is refused leaves both maps as they were.
+    // A merge that fails leaves both maps unchanged.
     fn merge(
         &mut self,
         rt: &impl Abort,
@@ -417,7 +417,7 @@ fn a_merge_of_two_maps(rt: HostRuntime) -> Result<(), Fail> {
 
 type Keys = FlatSet<u64, Fnv1a>;
 
-// Adds a key to a set that lacks it; whether it was refused, and then the key came back.
+// Adds a key to a set that lacks it, and returns whether that failed; the key was returned then.
 fn is_refused(rt: &impl Abort, set: &mut Keys, key: u64) -> bool {
     match set.insert(key) {
         Ok(is_new) => {
@@ -431,8 +431,7 @@ fn is_refused(rt: &impl Abort, set: &mut Keys, key: u64) -> bool {
     }
 }
 
-// Two sets that share a key are merged; how many calls were refused. What is refused leaves both as they
-// were.
+// Merges two sets that share a key, and returns how many calls failed. A failed one leaves both unchanged.
 fn merge_sets(rt: &impl Abort, set: &mut Keys, other: &mut Keys) -> usize {
     let (len, other_len) = (set.len(), other.len());
     let shared = set.contains(&4) && other.contains(&4);
@@ -450,7 +449,7 @@ fn merge_sets(rt: &impl Abort, set: &mut Keys, other: &mut Keys) -> usize {
     }
 }
 
-// Makes a list of a set, or hands the set back; how many calls were refused.
+// Makes a set into a list, or gets the set back, and returns how many calls failed.
 fn keys_of(rt: &impl Abort, set: Keys) -> usize {
     let len = set.len();
     match set.into_list() {
@@ -465,7 +464,7 @@ fn keys_of(rt: &impl Abort, set: Keys) -> usize {
     }
 }
 
-// Adds a key to one set and two to another, and merges both; how many calls were refused.
+// Adds a key to one set and two to another, merges both, and returns how many calls failed.
 fn call_sets(rt: &impl Abort, set: &mut Keys, other: &mut Keys) -> usize {
     let mut refused = usize::from(is_refused(rt, set, 4));
     for key in [4, 5] {
@@ -509,7 +508,7 @@ fn set_of(rt: &impl Abort, alloc: Global, keys: Range<u64>) -> Keys {
     set
 }
 
-// Hands a set back, of which no list is made without memory.
+// Returns a set, since no list is made without memory.
 fn refused_list(set: Keys) -> Result<Keys, Fail> {
     match set.into_list() {
         Ok(_) => Err(Fail::new("a list without memory")),
@@ -531,7 +530,7 @@ fn expect_back(rt: &impl Abort, set: Keys) -> Result<(), Fail> {
     Ok(())
 }
 
-// A set that is as full as its room allows, and one of another key.
+// A set that is as full as its room, and one of another key.
 #[test]
 fn a_set_that_may_not_grow(rt: HostRuntime) -> Result<(), Fail> {
     let mut set = set_of(&rt, rt.alloc(), 0..12);
@@ -543,8 +542,7 @@ fn a_set_that_may_not_grow(rt: HostRuntime) -> Result<(), Fail> {
     came
 }
 
-// A table that takes one entry and is to grow; how many calls were refused. What is refused leaves the
-// table as it was.
+// Grows a table of one entry, and returns how many calls failed. A failed one leaves the table unchanged.
 fn grow(rt: &impl Abort, table: &mut Table<u64, u64, Direct>) -> usize {
     assert!(rt; table.find(&1).is_none() && table.place(1, 10).is_ok());
     let grown = table.reserve(26);
@@ -559,7 +557,7 @@ fn value_of(table: &Table<u64, u64, Direct>, key: u64) -> Option<u64> {
     Some(*table.at(slot).1)
 }
 
-// Past the greatest capacity memory isn't asked for.
+// Past the largest capacity nothing is allocated.
 fn is_past(alloc: Global) -> bool {
     let past: Result<Table<u64, u64, Direct>, Why> = Table::with_room(alloc, Direct, 209_715_201);
     matches!(past, Err(Why::Limit))

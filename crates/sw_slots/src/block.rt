@@ -1,4 +1,4 @@
-//! The memory of the places. All raw pointers of the crate stand here.
+//! The memory of the places. All raw pointers of the crate are in this file.
 ghost use Rattle.std.specs.Prelude.{◌≡◌, ℕ, ◌<◌, List, Option, Some, None, length, replicate, slice_set, IfOk, IsSome};
 ghost use Rattle.std.specs.Borrow.{sem};
 ghost use Rattle.std.specs.Vec.Ownership.{FitsInBlock};
@@ -11,8 +11,8 @@ use std::alloc::{AllocError, Allocator};
 use std::marker::{Model, PhantomData};
 use std::mem::{align_of, size_of};
 
-/// Places side by side, the first at `start`. It owns the bytes of each place, and the value of
-/// each filled one.
+/// Adjacent places, the first at `start`. A block owns the bytes of each place, and the value of each filled
+/// one.
 pub struct Block<T> {
     start: *mut T,
     ghost places: { List (Option T) },
@@ -24,8 +24,8 @@ impl<T> Model for Block<T> {
     ghost also_shares = { λ b _ κ. block_lent T.row b.start b.places κ };
 }
 
-/// The right to give the `len` places at `start` back to `alloc`. It takes no bytes, and for no
-/// places it is no right at all.
+/// The right to deallocate the `len` places at `start` by `alloc`. It takes no bytes, and for no places it is
+/// no right.
 pub struct Grant<T, A: Allocator> {
     mark: PhantomData<*const (T, A)>,
     ghost start: { Ptr },
@@ -43,8 +43,7 @@ impl<T> Block<T> {
     ghost use Rattle.sw_slots.specs.Granted.{IsGrantOf};
     ghost use Rattle.sw_slots.specs.Lends.{lends_place_of};
 
-    /// Returns a block of `len` vacant places, and the grant that gives it back. The error is the
-    /// allocator's.
+    /// Returns a block of `len` vacant places, and the grant to deallocate it. The error is the allocator's.
     pub(crate) fn allocate<A: Allocator>(
         alloc: &A,
         len: usize,
@@ -62,8 +61,7 @@ impl<T> Block<T> {
         }
     }
 
-    /// Returns a block of no places, which takes no memory. Its start points nowhere, and is never
-    /// followed.
+    /// Returns a block of no places, which takes no memory. Its start is never dereferenced.
     pub(crate) fn empty<A: Allocator>(alloc: &A) -> (Block<T>, Grant<T, A>)
         ensures { (result.0.places ≡ replicate 0 None) × IsGrantOf result.1 result.0 alloc.now 0 }
     {
@@ -72,8 +70,7 @@ impl<T> Block<T> {
         (Block { start }, Grant { mark: PhantomData })
     }
 
-    /// Gives the memory of a block back whose `len` places are all vacant. A block of no places has
-    /// none.
+    /// Deallocates a block whose `len` places are all vacant. A block of no places has no memory.
     pub(crate) fn deallocate<A: Allocator>(self, alloc: &A, len: usize, grant: Grant<T, A>)
         requires { (self.places ≡ replicate len None) × IsGrantOf grant self alloc.now len }
     {
@@ -94,7 +91,7 @@ impl<T> Block<T> {
         unsafe { self.start.add(i).write(value) }
     }
 
-    /// Moves the value of the place `i` out, and leaves the place vacant.
+    /// Moves the value out of the place `i`, which is vacant then.
     #[inline]
     pub(crate) fn read(&mut self, i: usize) -> T
         requires { IsSome (place self.old.places i) }
@@ -105,7 +102,7 @@ impl<T> Block<T> {
         unsafe { self.start.add(i).read() }
     }
 
-    /// Lends the value of the place `i`.
+    /// Returns a reference to the value of the place `i`.
     #[inline]
     pub(crate) fn get(&self, i: usize) -> &T
         requires { IsSome (place self.now.places i) }
@@ -114,7 +111,7 @@ impl<T> Block<T> {
         unsafe { &*self.start.add(i) }
     }
 
-    /// Lends the value of the place `i` for writing.
+    /// Returns a mutable reference to the value of the place `i`.
     #[inline]
     pub(crate) fn get_mut(&mut self, i: usize) -> &mut T
         requires { IsSome (place self.old.places i) }

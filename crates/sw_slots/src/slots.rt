@@ -7,10 +7,8 @@ use std::alloc::{AllocError, Global};
 use std::marker::Model;
 use std_alloc::room::may_hold;
 
-/// A fixed number of places, each vacant or holding a value. A contract sees the list of what the
-/// places hold.
-///
-/// Only `release` ends it: it has no `Drop`, and is never let go.
+/// A fixed number of places, each vacant or with a value. Contracts see the list of these. Only `release` ends
+/// it: it has no `Drop`, and is never dropped.
 pub struct Slots<T> {
     block: Block<T>,
     len: usize,
@@ -34,10 +32,8 @@ impl<T> Slots<T> {
     ghost use Rattle.std.specs.Borrow.{sem};
     ghost use Rattle.sw_slots.specs.SlotLends.{lends_place};
 
-    /// Returns `n` vacant places. No places take no memory, and never fail.
-    ///
-    /// The error is that the allocator refused the block, or that it would take more than
-    /// `isize::MAX` bytes.
+    /// Returns `n` vacant places. Without places it takes no memory, and never fails. The error is that an
+    /// allocation failed, or that the block would take more than `isize::MAX` bytes.
     pub fn new(alloc: Global, n: usize) -> Result<Slots<T>, AllocError>
         ensures places { IfOk result (λ s. s ≡ replicate n None) }
         ensures no_memory { n ≡ 0 → IsOk result }
@@ -74,7 +70,7 @@ impl<T> Slots<T> {
         self.block.write(i, value);
     }
 
-    /// Moves the value of the place `i` out, and leaves the place vacant.
+    /// Moves the value out of the place `i`, which is vacant then.
     #[inline]
     pub fn take(&mut self, i: usize) -> T
         requires { IsSome (place self.old i) }
@@ -84,7 +80,7 @@ impl<T> Slots<T> {
         self.block.read(i)
     }
 
-    /// Returns the value of the place `i`, to read.
+    /// Returns a reference to the value of the place `i`.
     #[inline]
     pub fn get(&self, i: usize) -> &T
         requires { IsSome (place self.now i) }
@@ -93,7 +89,7 @@ impl<T> Slots<T> {
         self.block.get(i)
     }
 
-    /// Returns the value of the place `i`, to write to. The place then holds what was written last.
+    /// Returns a mutable reference to the value of the place `i`.
     #[inline]
     pub fn get_mut(&mut self, i: usize) -> &mut T
         requires { IsSome (place self.old i) }
@@ -103,7 +99,7 @@ impl<T> Slots<T> {
         self.block.get_mut(i)
     }
 
-    /// The values of the places `i` and `j` change places.
+    /// Swaps the values of the places `i` and `j`.
     #[inline]
     pub fn swap(&mut self, i: usize, j: usize)
         requires { IsSome (place self.old i) × IsSome (place self.old j) }
@@ -119,7 +115,7 @@ impl<T> Slots<T> {
         self.put(j, x);
     }
 
-    /// Gives the memory back. The places are all vacant.
+    /// Frees the memory. All places are vacant.
     pub fn release(self)
         requires { self ≡ replicate (length self) None }
     {
