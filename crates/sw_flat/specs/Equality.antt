@@ -1,4 +1,4 @@
--- When two maps are equal.
+-- Equality of maps.
 use mathlib.Core.Bool.{true≢false}
 use Rattle.std.proofs.Common.{◌≡◌, ℕ, Bool, true, false, ◌&&◌, ◌||◌, List, [], ◌∷◌, Option, Some, None, is_some, refl, sym, ap, ◌∙◌}
 use Rattle.std.specs.Option.{option_eq, option_map}
@@ -11,11 +11,11 @@ use Rattle.sw_table.specs.Entries.{Entries}
 use Rattle.sw_flat.specs.Maps.{value_at}
 
 module _ {K V : Type 0} (equal : V → V → Bool) where
-  -- both have the class, with equal values, or neither has it
+  -- two maps agree at a class: both have it, with equal values, or neither has it
   abbrev pub agree_at : Entries K V → Entries K V → List ℕ → Bool
   agree_at m n c = option_eq equal (value_at m c) (value_at n c)
 
-  -- the two maps agree at each class of either
+  -- two maps agree at each class of either
   abbrev pub same_entries : Entries K V → Entries K V → Bool
   same_entries m n = list_all (agree_at m n) (keys m) && list_all (agree_at m n) (keys n)
 
@@ -29,7 +29,7 @@ all_pass : {X : Type 0} (test : X → Bool) → ((x : X) → test x ≡ true) �
 all_pass test h [] = refl
 all_pass test h (x ∷ xs) = ap (λ b. b && list_all test xs) (h x) ∙ all_pass test h xs
 
--- a class that ties with one of the list passes where all of the list do
+-- a class that ties with one of a list passes a test that all of the list pass
 one_passes : (test : List ℕ → Bool) (c : List ℕ) (ks : List (List ℕ)) → list_any (eq_by_cmp (slice_cmp nat_cmp) c) ks ≡ true → list_all test ks ≡ true → test c ≡ true
 one_passes test c [] any all = absurd (true≢false (sym any))
 one_passes test c (k ∷ ks) any all =
@@ -74,7 +74,7 @@ module _ {K V : Type 0} (equal : V → V → Bool) where
         ] refl
       ] refl
 
-  -- where values have a partial equivalence, so have maps of them
+  -- if equality of values is a partial equivalence, so is that of maps
   pub same_entries_laws : IsPartialEquivalence equal → IsPartialEquivalence (same_entries {K = K} equal)
   same_entries_laws laws = record {
     symm = λ m n.
@@ -84,7 +84,7 @@ module _ {K V : Type 0} (equal : V → V → Bool) where
   }
 
 module _ {K : Type 0} where
-  -- each of the two sets has the classes of the other
+  -- each of two sets has the classes of the other
   abbrev pub same_keys : Entries K (Unit {0}) → Entries K (Unit {0}) → Bool
   same_keys = same_entries (λ _ _. true)
 

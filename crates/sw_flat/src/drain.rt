@@ -1,4 +1,4 @@
-//! Entries that leave a map one by one.
+//! Draining maps and sets.
 ghost use Rattle.std.specs.Prelude.{◌≡◌, [], ◌∷◌, IfSome, IfNone};
 ghost use Rattle.std.specs.FinMap.{remove};
 ghost use Rattle.sw_table.specs.View.{slot_count, fresh};
@@ -19,10 +19,8 @@ impl<K: Keyed, V, H: KeyHash<K>> FlatMap<K, V, H> {
         Walk::new()
     }
 
-    /// Takes the next entry of a walk out, where no entry stands before the walk. So from
-    /// [`FlatMap::walk`] on the calls give each entry once, in the order of the slots, and take no
-    /// memory. At the end the map has its slots, all of them empty. Until then the entries that did
-    /// not come are in the map still.
+    /// Removes and returns the next entry of a walk that has removed all before it. From [`FlatMap::walk`] on
+    /// it returns each entry once, in slot order, without allocating; then all slots are empty.
     #[inline]
     pub fn drain_next(&mut self, walk: &mut Walk) -> Option<(K, V)>
         requires { IsDraining self.old walk.old }
@@ -48,10 +46,8 @@ impl<K: Keyed, H: KeyHash<K>> FlatSet<K, H> {
         self.map.walk()
     }
 
-    /// Takes the next key of a walk out, where no key stands before the walk. So from
-    /// [`FlatSet::walk`] on the calls give each key once, in the order of the slots, and take no
-    /// memory. At the end the set has its slots, all of them empty. Until then the keys that did
-    /// not come are in the set still.
+    /// Removes and returns the next key of a walk that has removed all before it. From [`FlatSet::walk`] on it
+    /// returns each key once, in slot order, without allocating; then all slots are empty.
     #[inline]
     pub fn drain_next(&mut self, walk: &mut Walk) -> Option<K>
         requires { IsDraining self.old walk.old }

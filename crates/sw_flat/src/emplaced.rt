@@ -1,17 +1,17 @@
-//! What an insertion answers.
+//! Results of insertions.
 use sw_table::Why;
 use thiserror::Error;
 
-/// What became of a key and a value that were to go in only where the key is new.
+/// The result of an insertion that keeps a stored key.
 #[derive(Drop)]
 pub enum Emplaced<K, V> {
-    /// They are the map's now.
+    /// The key was new, and the pair was inserted.
     Inserted,
-    /// The key is there already, so both come back unused.
+    /// The key is there already, so the pair is returned.
     Present(K, V),
 }
 
-/// A key that did not go into a set, and why.
+/// The error of an insertion into a set: the key that was not inserted, and the reason.
 #[derive(Debug, Drop, Error)]
 #[error("the key was not added: {why}")]
 pub struct RefusedKey<K> {

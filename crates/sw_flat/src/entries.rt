@@ -1,4 +1,4 @@
-//! Entries that come and go.
+//! Adding and removing entries.
 ghost use Rattle.std.specs.Prelude.{◌≡◌, IsTrue, IsOk, OnOk, IfOk, IfErr, None, if◌then◌else◌};
 ghost use Rattle.std.specs.Bool.{OnFalse};
 ghost use Rattle.std.specs.FinMap.{insert, get, remove, contains_key};
@@ -15,14 +15,8 @@ use sw_probe::{KeyHash, Keyed, Names};
 use sw_table::Refused;
 
 impl<K: Keyed, V, H: KeyHash<K>> FlatMap<K, V, H> {
-    /// Adds an entry where its key is new. Where the key is there, the map stays as it is, and key
-    /// and value come back.
-    ///
-    /// The capacity stays where the table has space: fewer entries than the room, or fewer slots in
-    /// use than the load, or a deleted slot as the first free one on the key's way. Then no
-    /// insertion is refused. Else the capacity doubles, or the call refuses: with `Limit` where the
-    /// capacity is 2^28, else with `Memory`. The pair is then handed back, and the map is as it
-    /// was.
+    /// Inserts an entry if its key is new, and else returns the pair. On error (`Limit` at 2^28 slots, else
+    /// `Memory`) the pair is returned and the map doesn't change; there is none while the table has space.
     #[inline]
     pub fn try_emplace(&mut self, key: K, value: V) -> Result<Emplaced<K, V>, Refused<K, V>>
         ensures answer { IfOk result (λ e. e ≡
@@ -48,10 +42,8 @@ impl<K: Keyed, V, H: KeyHash<K>> FlatMap<K, V, H> {
         Ok(Emplaced::Inserted)
     }
 
-    /// Adds an entry, or gives the key that is there another value and hands the old one out. The
-    /// stored key then stays, and no memory is asked for.
-    ///
-    /// It refuses as `try_emplace` does.
+    /// Inserts an entry, or assigns the value to a key that is there and returns the old value. The stored key
+    /// then stays, and nothing is allocated. Errors are those of [`FlatMap::try_emplace`].
     #[inline]
     pub fn insert_or_assign(&mut self, key: K, value: V) -> Result<Option<V>, Refused<K, V>>
     where
@@ -80,7 +72,7 @@ impl<K: Keyed, V, H: KeyHash<K>> FlatMap<K, V, H> {
         Ok(None)
     }
 
-    /// Drops the entry of the key that `q` names. `false` where there is none.
+    /// Drops the entry of the key that `q` names, and returns whether there was one.
     #[inline]
     pub fn erase<Q: Names<K>>(&mut self, q: &Q) -> bool
     where
@@ -96,7 +88,7 @@ impl<K: Keyed, V, H: KeyHash<K>> FlatMap<K, V, H> {
         self.extract(q).is_some()
     }
 
-    /// Takes the entry of the key that `q` names out, with the key that is stored.
+    /// Removes and returns the entry of the key that `q` names, with the stored key.
     #[inline]
     pub fn extract<Q: Names<K>>(&mut self, q: &Q) -> Option<(K, V)>
         ensures answer { result ≡ get (entries K.class self.old) (Q.named q.now) }

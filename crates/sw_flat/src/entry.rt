@@ -1,4 +1,4 @@
-//! An entry by a key that is only asked for.
+//! Entries by borrowed keys.
 ghost use Rattle.std.specs.Prelude.{◌≡◌, Some, IfOk, IfErr, OnOk};
 ghost use Rattle.std.specs.Option.{option_map};
 ghost use Rattle.std.specs.FinMap.{insert};
@@ -11,8 +11,8 @@ use crate::map::FlatMap;
 use sw_probe::{KeyHash, Keyed, Names};
 use sw_table::{Refused, SlotNo};
 
-/// Where the entry of a key stands, or that there is none. It borrows nothing, and is good until
-/// entries come, go or move.
+/// The slot of a key's entry, or that there is none. It borrows nothing, and is valid until entries are added,
+/// removed or moved.
 #[derive(Clone, Copy)]
 pub enum Entry {
     /// The slot of the entry.
@@ -21,7 +21,7 @@ pub enum Entry {
     Vacant(Vacancy),
 }
 
-/// What is known of a key that has no entry: its hash.
+/// A key without an entry, as its hash.
 #[derive(Clone, Copy)]
 pub struct Vacancy {
     hash: u64,
@@ -42,8 +42,8 @@ impl<K: Keyed, V, H: KeyHash<K>> FlatMap<K, V, H> {
     ghost use Rattle.sw_flat.specs.MapLends.{lends_slot};
     ghost use Rattle.sw_flat.specs.Vacancies.{IsOccupied, IsVacant, IsVacancy};
 
-    /// The entry of the key that `q` names: its slot for [`FlatMap::entry_at`] and
-    /// [`FlatMap::value_mut`], or what [`FlatMap::fill`] takes to add one without hashing again.
+    /// The entry of the key that `q` names: its slot, for [`FlatMap::entry_at`] and [`FlatMap::value_mut`]; or
+    /// a vacancy, with which [`FlatMap::fill`] adds an entry without hashing again.
     #[inline]
     pub fn entry<Q: Names<K>>(&self, q: &Q) -> Entry
         ensures occupied { IsOccupied K.class self.now (Q.named q.now) result }
@@ -66,8 +66,7 @@ impl<K: Keyed, V, H: KeyHash<K>> FlatMap<K, V, H> {
         self.table.at(slot)
     }
 
-    /// The value in a full slot, to write to. Its entry then has what was written last, under the
-    /// stored key.
+    /// A mutable reference to the value in a full slot. The stored key stays.
     #[inline]
     pub fn value_mut(&mut self, slot: SlotNo) -> &mut V
         requires { IsFull self.old slot.index }
@@ -81,13 +80,8 @@ impl<K: Keyed, V, H: KeyHash<K>> FlatMap<K, V, H> {
         self.table.at_mut(slot)
     }
 
-    /// Adds the entry of a key that [`FlatMap::entry`] found absent, by the hash that it has told,
-    /// and returns its slot.
-    ///
-    /// The capacity stays where the table has space, as for [`FlatMap::try_emplace`], and then no
-    /// call is refused. Else the capacity doubles, or the call refuses: with `Limit` where the
-    /// capacity is 2^28, else with `Memory`. The pair is then handed back, and the map is as it
-    /// was.
+    /// Adds the entry of a key that [`FlatMap::entry`] reported absent, by its hash, and returns its slot.
+    /// Errors are those of [`FlatMap::try_emplace`].
     #[inline]
     pub fn fill(&mut self, vacancy: Vacancy, key: K, value: V) -> Result<SlotNo, Refused<K, V>>
         requires { IsVacancy K.class (H.hash_of self.old.hasher) self.old

@@ -1,4 +1,4 @@
-//! When maps and sets are equal.
+//! Equality of maps and sets.
 ghost use Rattle.std.specs.Cmp.{on_per};
 ghost use Rattle.sw_table.specs.Entries.{entries};
 ghost use Rattle.sw_flat.specs.Equality.{same_entries, same_entries_laws, same_keys, same_keys_laws};
@@ -7,8 +7,8 @@ use crate::map::FlatMap;
 use crate::set::FlatSet;
 use sw_probe::{KeyHash, Keyed};
 
-/// Two maps are equal where each key of one is in the other, with an equal value. Which key of a
-/// class is stored, the slots and the hashers don't matter.
+/// Two maps are equal if each key of one is in the other, with an equal value. Which key of a class is stored,
+/// the slots and the hashers don't matter.
 impl<K: Keyed, V: PartialEq, H: KeyHash<K>> PartialEq for FlatMap<K, V, H> {
     ghost eq = { λ m n. same_entries V.eq (entries K.class m) (entries K.class n) };
 
@@ -32,7 +32,7 @@ impl<K: Keyed, V: PartialEq, H: KeyHash<K>> PartialEq for FlatMap<K, V, H> {
     }
 }
 
-/// Two sets are equal where each key of one is in the other.
+/// Two sets are equal if each key of one is in the other.
 impl<K: Keyed, H: KeyHash<K>> PartialEq for FlatSet<K, H> {
     ghost eq = { λ s t. same_keys (entries K.class s) (entries K.class t) };
 

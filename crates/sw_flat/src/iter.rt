@@ -13,7 +13,7 @@ use sw_probe::{KeyHash, Keyed};
 use sw_table::Iter;
 
 impl<K: Keyed, V, H: KeyHash<K>> FlatMap<K, V, H> {
-    /// The entries, each once, in the order of their slots.
+    /// The entries, each once, in slot order.
     #[inline]
     pub fn iter(&self) -> Iter<'_, K, V, H>
         ensures all { ListsAll K.class result (entries K.class self.now) }
@@ -23,7 +23,7 @@ impl<K: Keyed, V, H: KeyHash<K>> FlatMap<K, V, H> {
         self.table.iter()
     }
 
-    /// The keys that are stored, in the order of their slots.
+    /// The stored keys in slot order.
     #[inline]
     pub fn keys(&self) -> Keys<'_, K, V, H>
         ensures all { ListsAll K.class (filled self.now.places) (entries K.class self.now) }
@@ -32,7 +32,7 @@ impl<K: Keyed, V, H: KeyHash<K>> FlatMap<K, V, H> {
         Keys::new(self.iter())
     }
 
-    /// The values, in the order of their slots.
+    /// The values in slot order.
     #[inline]
     pub fn values(&self) -> Values<'_, K, V, H>
         ensures all { ListsAll K.class (filled self.now.places) (entries K.class self.now) }
@@ -57,7 +57,7 @@ impl<'a, K: Keyed, V, H: KeyHash<K>> IntoIterator for &'a FlatMap<K, V, H> {
 }
 
 impl<K: Keyed, H: KeyHash<K>> FlatSet<K, H> {
-    /// The keys, each once, in the order of their slots.
+    /// The keys, each once, in slot order.
     #[inline]
     pub fn iter(&self) -> Keys<'_, K, (), H>
         ensures all { ListsAll K.class (map (λ k. (k, tt)) result) (entries K.class self.now) }

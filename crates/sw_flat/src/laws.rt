@@ -1,4 +1,4 @@
-//! What follows from the definitions, each as the contract of a function that does nothing else.
+//! Laws: what the definitions imply. Each is the contract of a function that does nothing.
 ghost use Rattle.std.specs.Prelude.{◌≡◌, ℕ, List, Some};
 ghost use Rattle.std.specs.FinMap.{get};
 ghost use Rattle.sw_table.specs.Entries.{entries};

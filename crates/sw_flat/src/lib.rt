@@ -1,26 +1,23 @@
-//! A flat map and a flat set: entries in one row of slots, found by the hash of their keys.
+//! A flat map and a flat set: entries in an array of slots, found by the hash of their keys.
 //!
-//! - [`FlatMap`] is a map from keys to values, [`FlatSet`] a set of keys. Each is one Swiss table,
-//!   which `table` shows, and contracts see in it a finite map from the class of a key to the key
-//!   that is stored and its value.
-//! - A look-up takes whatever names a class: a key, or a borrowed form of one, as `ByteKey` is of a
-//!   `Vec<u8>`. It copies nothing. A call hashes its key once.
-//! - The first key of a class stays. [`FlatMap::try_emplace`] hands a second one back with its
-//!   value, [`FlatMap::insert_or_assign`] drops it and hands the old value out.
-//! - Within the room no insertion is refused and no memory is asked for, however many entries were
-//!   erased: a map made by `with_room` for `n` entries takes every insertion while fewer than `n`
-//!   live. Past it an insertion doubles the capacity, or is refused and hands its pair back.
-//! - [`FlatMap::entry`] looks a key up that is only asked for, and tells where its entry stands, or
-//!   keeps the hash, so that [`FlatMap::fill`] adds one by an owned key without hashing again. The
-//!   set has both calls too.
-//! - [`FlatMap::iter`], `keys` and `values` go over the slots in order, and read the control bytes of
-//!   a group once. [`FlatMap::drain_next`] takes the entries out one by one, each once, and leaves
-//!   the slots empty.
-//! - [`FlatMap::retain`] asks a closure of each entry, and drops those that it doesn't keep.
-//! - Maps are equal where each key of one is in the other with an equal value, whatever the order of
-//!   their slots, and sets where each key of one is in the other.
-//! - [`FlatMap::merge`] makes room first, so that it moves all entries or none, and does nothing
-//!   where no key is new.
+//! - [`FlatMap`] is a map from keys to values, [`FlatSet`] a set of keys. Each is one Swiss table, which
+//!   `table` returns, and contracts see a finite map from the class of a key to the stored key and its value.
+//! - A look-up takes whatever names a class: a key, or a borrowed form of one, as `ByteKey` is of a `Vec<u8>`.
+//!   It copies nothing. A call hashes its key once.
+//! - The first key of a class stays. [`FlatMap::try_emplace`] returns a second one with its value;
+//!   [`FlatMap::insert_or_assign`] drops it, and returns the old value.
+//! - Within the room no insertion fails or allocates, however many entries were erased: a map made by
+//!   `with_room` for `n` entries takes every insertion while it has fewer than `n`. Past it an insertion
+//!   doubles the capacity, or fails and returns its pair.
+//! - [`FlatMap::entry`] looks up a borrowed key, and returns the slot of its entry, or the hash, with which
+//!   [`FlatMap::fill`] adds an owned key without hashing again. The set has both calls too.
+//! - [`FlatMap::iter`], `keys` and `values` visit the slots in order, and read the control bytes of a group
+//!   once. [`FlatMap::drain_next`] removes the entries one by one, each once, and leaves the slots empty.
+//! - [`FlatMap::retain`] calls a closure with each entry, and drops those that it doesn't keep.
+//! - Maps are equal if each key of one is in the other with an equal value, whatever the order of their slots,
+//!   and sets if each key of one is in the other.
+//! - [`FlatMap::merge`] makes room first, so that it moves all entries or none, and does nothing if no key is
+//!   new.
 //!
 //! ```text
 //! let mut stock = FlatMap::with_room(alloc, Fnv1a { seed: 0 }, 12)?;   // 16 slots
@@ -34,13 +31,13 @@
 //!     Entry::Occupied(slot) => *stock.value_mut(slot) += 1,
 //!     Entry::Vacant(vacancy) => drop(stock.fill(vacancy, 8, 1)?),
 //! }
-//! stock.into_list()?;                         // no entry is left
+//! stock.into_list()?;                         // the one entry that is left
 //! ```
 //!
 //! [`keys_are_of_their_class`] is the law on what contracts see.
 //!
-//! The contract above the crate: each call is an equation on the finite map, it says when it refuses
-//! and what a refusal leaves, and the room promise holds.
+//! The contract above the crate: each call is an equation on the finite map, it says when it fails and what an
+//! error leaves, and insertions within the room succeed.
 #![tactic(auto)]
 
 mod debug;

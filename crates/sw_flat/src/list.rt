@@ -9,8 +9,8 @@ use sw_probe::{KeyHash, Keyed};
 use sw_table::Walk;
 
 impl<K: Keyed + Drop, V: Drop, H: KeyHash<K> + Drop> FlatMap<K, V, H> {
-    /// The entries as a list, each once, in no order that is promised. Where memory for the list is
-    /// refused, the map comes back.
+    /// The entries as a list, each once, in unspecified order. If the list can't be allocated, the map is
+    /// returned.
     pub fn into_list(self) -> Result<Vec<(K, V)>, FlatMap<K, V, H>>
         ensures list { IfOk result (λ list. ListsAll K.class list.items (entries K.class self)) }
         ensures handed_back { IfErr result (λ map. map ≡ self) }
@@ -31,8 +31,8 @@ impl<K: Keyed + Drop, V: Drop, H: KeyHash<K> + Drop> FlatMap<K, V, H> {
 }
 
 impl<K: Keyed + Drop, H: KeyHash<K> + Drop> FlatSet<K, H> {
-    /// The keys as a list, each once, in no order that is promised. Where memory for the list is
-    /// refused, the set comes back.
+    /// The keys as a list, each once, in unspecified order. If the list can't be allocated, the set is
+    /// returned.
     pub fn into_list(self) -> Result<Vec<K>, FlatSet<K, H>>
         ensures list { IfOk result (λ list.
             ListsAll K.class (map (λ k. (k, tt)) list.items) (entries K.class self)) }

@@ -13,10 +13,8 @@ use std::marker::Model;
 use sw_probe::{KeyHash, Keyed, Names};
 use sw_table::{Table, Why};
 
-/// A map from keys to values, in one Swiss table.
-///
-/// Contracts see what they see of the table: what each slot holds, the control bytes and the
-/// hasher. `entries` of these is the finite map.
+/// A map from keys to values, in one Swiss table. Contracts see of it what they see of the table: what each
+/// slot holds, the control bytes and the hasher. `entries` of these is the finite map.
 #[derive(Drop)]
 pub struct FlatMap<K: Keyed, V, H: KeyHash<K>> {
     pub(crate) table: Table<K, V, H>,
@@ -46,11 +44,8 @@ impl<K: Keyed, V, H: KeyHash<K>> FlatMap<K, V, H> {
         }
     }
 
-    /// An empty map with room for `n` entries, of the least capacity that has it. No room takes no
-    /// memory.
-    ///
-    /// It refuses with `Limit` where the capacity would pass 2^28, before it asks for memory, and
-    /// else with `Memory`.
+    /// An empty map with room for `n` entries, in the smallest capacity that has it. Without entries it takes
+    /// no memory. Errors: `Limit` if the capacity would pass 2^28, else `Memory`.
     pub fn with_room(alloc: Global, hasher: H, n: usize) -> Result<FlatMap<K, V, H>, Why>
     where
         H: Drop,
@@ -63,7 +58,7 @@ impl<K: Keyed, V, H: KeyHash<K>> FlatMap<K, V, H> {
         })
     }
 
-    /// How many entries there are.
+    /// The number of entries.
     #[inline]
     pub fn len(&self) -> usize
         ensures { result ≡ len (entries K.class self.now) }
@@ -71,7 +66,7 @@ impl<K: Keyed, V, H: KeyHash<K>> FlatMap<K, V, H> {
         self.table.len()
     }
 
-    /// Whether there is no entry.
+    /// Whether there are no entries.
     #[inline]
     pub fn is_empty(&self) -> bool
         ensures { IsTrue result ↔ (entries K.class self.now ≡ empty) }
@@ -79,7 +74,7 @@ impl<K: Keyed, V, H: KeyHash<K>> FlatMap<K, V, H> {
         self.table.len() == 0
     }
 
-    /// How many slots there are.
+    /// The number of slots.
     #[inline]
     pub fn capacity(&self) -> usize
         ensures { result ≡ slot_count self.now }
@@ -87,8 +82,7 @@ impl<K: Keyed, V, H: KeyHash<K>> FlatMap<K, V, H> {
         self.table.capacity()
     }
 
-    /// How many entries there may be before an insertion can ask for memory, however many were
-    /// erased.
+    /// How many entries there may be before an insertion may allocate, however many were erased.
     #[inline]
     pub fn room(&self) -> usize
         ensures { result ≡ room_of (slot_count self.now) }
@@ -96,7 +90,7 @@ impl<K: Keyed, V, H: KeyHash<K>> FlatMap<K, V, H> {
         self.table.room()
     }
 
-    /// The table behind the map, to read.
+    /// A reference to the table.
     #[inline]
     pub fn table(&self) -> &Table<K, V, H>
         ensures { result.now ≡ self.now }
@@ -104,11 +98,8 @@ impl<K: Keyed, V, H: KeyHash<K>> FlatMap<K, V, H> {
         &self.table
     }
 
-    /// Makes room for `n` entries in total, those that are there included, by the least capacity that
-    /// has it. If the room is there already it does nothing, and succeeds.
-    ///
-    /// It refuses with `Limit` where the capacity would pass 2^28, before it asks for memory, and
-    /// else with `Memory`. The map is then as it was.
+    /// Makes room for `n` entries in total, in the smallest capacity that has it; does nothing if the room is
+    /// there. On error the map doesn't change: `Limit` if the capacity would pass 2^28, else `Memory`.
     pub fn reserve(&mut self, n: usize) -> Result<(), Why>
         ensures entries { entries K.class self.new ≡ entries K.class self.old }
         ensures room { OnOk result (n ≤ room_of (slot_count self.new)) }
@@ -119,8 +110,7 @@ impl<K: Keyed, V, H: KeyHash<K>> FlatMap<K, V, H> {
         self.table.reserve(n)
     }
 
-    /// Places every entry anew, in the slots that are there, so that no slot is marked as deleted.
-    /// It takes no memory.
+    /// Rehashes all entries in place, so that no slot is marked as deleted. It doesn't allocate.
     pub fn rehash(&mut self)
         ensures entries { entries K.class self.new ≡ entries K.class self.old }
         ensures slots { slot_count self.new ≡ slot_count self.old }
@@ -130,7 +120,7 @@ impl<K: Keyed, V, H: KeyHash<K>> FlatMap<K, V, H> {
         self.table.rehash();
     }
 
-    /// Drops every entry, and keeps the capacity.
+    /// Drops all entries, and keeps the capacity.
     pub fn clear(&mut self)
     where
         K: Drop,
@@ -141,7 +131,7 @@ impl<K: Keyed, V, H: KeyHash<K>> FlatMap<K, V, H> {
         self.table.clear();
     }
 
-    /// The value of the key that `q` names.
+    /// A reference to the value of the key that `q` names.
     #[inline]
     pub fn get<Q: Names<K>>(&self, q: &Q) -> Option<&V>
         ensures { option_copied result ≡ value_at (entries K.class self.now) (Q.named q.now) }
@@ -150,8 +140,7 @@ impl<K: Keyed, V, H: KeyHash<K>> FlatMap<K, V, H> {
         Some(self.table.at(slot).1)
     }
 
-    /// The value of the key that `q` names, to write to. The entry then has what was written last,
-    /// under the key that is stored.
+    /// A mutable reference to the value of the key that `q` names. The stored key stays.
     #[inline]
     pub fn get_mut<Q: Names<K>>(&mut self, q: &Q) -> Option<&mut V>
         ensures* writes_back { sem 𝓛

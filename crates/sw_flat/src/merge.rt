@@ -1,4 +1,4 @@
-//! One map into another.
+//! Merging maps and sets.
 ghost use Rattle.std.specs.Prelude.{◌≡◌, ◌↔◌, ◌+◌, ◌<◌, ◌≤◌, ◌^◌, IsTrue, IsOk, OnOk, OnErr, Err};
 ghost use Rattle.std.specs.FinMap.{len};
 ghost use Rattle.sw_table.specs.View.{slot_count};
@@ -15,13 +15,8 @@ use sw_probe::{KeyHash, Keyed};
 use sw_table::{Walk, Why};
 
 impl<K: Keyed, V, H: KeyHash<K>> FlatMap<K, V, H> {
-    /// Moves the entries of `other` over whose keys this map lacks, and leaves the others. What
-    /// moves is hashed by this map's hasher. Where nothing is lacking nothing changes, and no
-    /// memory is asked for.
-    ///
-    /// Else room for both maps' keys together is made first, by the least capacity that has it.
-    /// That is refused with `Limit` where the capacity would pass 2^28, and else with `Memory`, and
-    /// only where the room is less than that. Both are then as they were.
+    /// Moves all entries of `other` whose keys this map lacks, after it has made room for them; the others
+    /// stay. On error (`Limit` past 2^28 slots, else `Memory`) both maps are unchanged.
     pub fn merge(&mut self, other: &mut FlatMap<K, V, H>) -> Result<(), Why>
     where
         K: Drop,
@@ -53,7 +48,7 @@ impl<K: Keyed, V, H: KeyHash<K>> FlatMap<K, V, H> {
         Ok(())
     }
 
-    // Whether there is room for the entries of both maps, if all their keys differ.
+    // Whether there is room for the entries of both maps, if all their keys are distinct.
     fn has_room_for(&self, other: &FlatMap<K, V, H>) -> bool
         ensures fits { IsTrue result →
             union_size K.class self.now other.now ≤ room_of (slot_count self.now) }
@@ -71,7 +66,7 @@ impl<K: Keyed, V, H: KeyHash<K>> FlatMap<K, V, H> {
         true
     }
 
-    // How many entries of the other map have keys that this one lacks.
+    // The number of entries of the other map whose keys this one lacks.
     fn count_lacked(&self, other: &FlatMap<K, V, H>) -> usize
         ensures count { result ≡
             len (lacked (entries K.class self.now) (entries K.class other.now)) }
@@ -86,7 +81,7 @@ impl<K: Keyed, V, H: KeyHash<K>> FlatMap<K, V, H> {
         count
     }
 
-    // Moves the entries over whose keys this map lacks. There is room for them.
+    // Moves the entries whose keys this map lacks, for which there is room.
     fn take_lacked(&mut self, other: &mut FlatMap<K, V, H>)
     where
         K: Drop,
@@ -116,13 +111,8 @@ impl<K: Keyed, V, H: KeyHash<K>> FlatMap<K, V, H> {
 }
 
 impl<K: Keyed, H: KeyHash<K>> FlatSet<K, H> {
-    /// Moves the keys of `other` over that this set lacks, and leaves the others. What moves is
-    /// hashed by this set's hasher. Where nothing is lacking nothing changes, and no memory is
-    /// asked for.
-    ///
-    /// Else room for the keys of both together is made first, by the least capacity that has it.
-    /// That is refused with `Limit` where the capacity would pass 2^28, and else with `Memory`, and
-    /// only where the room is less than that. Both are then as they were.
+    /// Moves all keys of `other` that this set lacks, after it has made room for them; the others stay. On
+    /// error (`Limit` past 2^28 slots, else `Memory`) both sets are unchanged.
     pub fn merge(&mut self, other: &mut FlatSet<K, H>) -> Result<(), Why>
     where
         K: Drop,

@@ -11,8 +11,8 @@ use sw_probe::{KeyHash, Keyed};
 use sw_table::Walk;
 
 impl<K: Keyed, V, H: KeyHash<K>> FlatMap<K, V, H> {
-    /// Keeps the entries at which `keep` answers `true`, and drops the others. It is asked of each
-    /// entry once, in the order of the slots. No entry moves, and no memory is asked for.
+    /// Keeps the entries for which `keep` returns `true`, and drops the others. It is called once for each
+    /// entry, in slot order. No entry moves, and nothing is allocated.
     pub fn retain<F: FnMut(&K, &V) -> bool>(&mut self, mut keep: F)
     where
         K: Drop,
@@ -33,7 +33,7 @@ impl<K: Keyed, V, H: KeyHash<K>> FlatMap<K, V, H> {
     }
 }
 
-// Whether the closure keeps the entry.
+// Whether the closure keeps an entry.
 #[inline]
 fn keeps<K, V, F: FnMut(&K, &V) -> bool>(keep: &mut F, entry: (&K, &V)) -> bool
     requires { F.IsAlwaysCallable keep.old }

@@ -19,9 +19,7 @@ use std::marker::Model;
 use sw_probe::{KeyHash, Keyed, Names};
 use sw_table::{Refused, Table, Why};
 
-/// A set of keys, in one Swiss table.
-///
-/// Contracts see it as the map of these keys to nothing.
+/// A set of keys, in one Swiss table. Contracts see it as the map of these keys to nothing.
 #[derive(Drop)]
 pub struct FlatSet<K: Keyed, H: KeyHash<K>> {
     pub(crate) map: FlatMap<K, (), H>,
@@ -49,11 +47,8 @@ impl<K: Keyed, H: KeyHash<K>> FlatSet<K, H> {
         }
     }
 
-    /// An empty set with room for `n` keys, of the least capacity that has it. No room takes no
-    /// memory.
-    ///
-    /// It refuses with `Limit` where the capacity would pass 2^28, before it asks for memory, and
-    /// else with `Memory`.
+    /// An empty set with room for `n` keys, in the smallest capacity that has it. Without keys it takes no
+    /// memory. Errors: `Limit` if the capacity would pass 2^28, else `Memory`.
     pub fn with_room(alloc: Global, hasher: H, n: usize) -> Result<FlatSet<K, H>, Why>
     where
         H: Drop,
@@ -66,7 +61,7 @@ impl<K: Keyed, H: KeyHash<K>> FlatSet<K, H> {
         })
     }
 
-    /// How many keys there are.
+    /// The number of keys.
     #[inline]
     pub fn len(&self) -> usize
         ensures { result ≡ len (entries K.class self.now) }
@@ -74,7 +69,7 @@ impl<K: Keyed, H: KeyHash<K>> FlatSet<K, H> {
         self.map.len()
     }
 
-    /// Whether there is no key.
+    /// Whether there are no keys.
     #[inline]
     pub fn is_empty(&self) -> bool
         ensures { IsTrue result ↔ (entries K.class self.now ≡ empty) }
@@ -82,7 +77,7 @@ impl<K: Keyed, H: KeyHash<K>> FlatSet<K, H> {
         self.map.is_empty()
     }
 
-    /// How many slots there are.
+    /// The number of slots.
     #[inline]
     pub fn capacity(&self) -> usize
         ensures { result ≡ slot_count self.now }
@@ -90,7 +85,7 @@ impl<K: Keyed, H: KeyHash<K>> FlatSet<K, H> {
         self.map.capacity()
     }
 
-    /// How many keys there may be before an insertion can ask for memory, however many were erased.
+    /// How many keys there may be before an insertion may allocate, however many were erased.
     #[inline]
     pub fn room(&self) -> usize
         ensures { result ≡ room_of (slot_count self.now) }
@@ -98,7 +93,7 @@ impl<K: Keyed, H: KeyHash<K>> FlatSet<K, H> {
         self.map.room()
     }
 
-    /// The table behind the set, to read.
+    /// A reference to the table.
     #[inline]
     pub fn table(&self) -> &Table<K, (), H>
         ensures { result.now ≡ self.now }
@@ -106,11 +101,8 @@ impl<K: Keyed, H: KeyHash<K>> FlatSet<K, H> {
         self.map.table()
     }
 
-    /// Makes room for `n` keys in total, those that are there included, by the least capacity that
-    /// has it. If the room is there already it does nothing, and succeeds.
-    ///
-    /// It refuses with `Limit` where the capacity would pass 2^28, before it asks for memory, and
-    /// else with `Memory`. The set is then as it was.
+    /// Makes room for `n` keys in total, in the smallest capacity that has it; does nothing if the room is
+    /// there. On error the set doesn't change: `Limit` if the capacity would pass 2^28, else `Memory`.
     pub fn reserve(&mut self, n: usize) -> Result<(), Why>
         ensures entries { entries K.class self.new ≡ entries K.class self.old }
         ensures room { OnOk result (n ≤ room_of (slot_count self.new)) }
@@ -121,8 +113,7 @@ impl<K: Keyed, H: KeyHash<K>> FlatSet<K, H> {
         self.map.reserve(n)
     }
 
-    /// Places every key anew, in the slots that are there, so that no slot is marked as deleted. It
-    /// takes no memory.
+    /// Rehashes all keys in place, so that no slot is marked as deleted. It doesn't allocate.
     pub fn rehash(&mut self)
         ensures entries { entries K.class self.new ≡ entries K.class self.old }
         ensures slots { slot_count self.new ≡ slot_count self.old }
@@ -132,7 +123,7 @@ impl<K: Keyed, H: KeyHash<K>> FlatSet<K, H> {
         self.map.rehash();
     }
 
-    /// Drops every key, and keeps the capacity.
+    /// Drops all keys, and keeps the capacity.
     pub fn clear(&mut self)
     where
         K: Drop,
@@ -150,12 +141,8 @@ impl<K: Keyed, H: KeyHash<K>> FlatSet<K, H> {
         self.map.contains(q)
     }
 
-    /// Adds a key. `false` where it is there already: the stored key stays, and no memory is asked
-    /// for.
-    ///
-    /// The capacity stays where the table has space, as for `FlatMap::try_emplace`, and then no key
-    /// is refused. Else the capacity doubles, or the call refuses: with `Limit` where the capacity
-    /// is 2^28, else with `Memory`. The key is then handed back, and the set is as it was.
+    /// Adds a key, or returns `false` if it is there already: the stored key stays, and nothing is allocated.
+    /// On error (`Limit` at 2^28 slots, else `Memory`) the key is returned and the set doesn't change.
     #[inline]
     pub fn insert(&mut self, key: K) -> Result<bool, RefusedKey<K>>
     where
@@ -184,8 +171,8 @@ impl<K: Keyed, H: KeyHash<K>> FlatSet<K, H> {
         }
     }
 
-    /// Where the key that `q` names stands, or that it is not there; [`FlatSet::fill`] then adds it
-    /// without hashing again.
+    /// The slot of the key that `q` names; or a vacancy, with which [`FlatSet::fill`] adds the key without
+    /// hashing again.
     #[inline]
     pub fn entry<Q: Names<K>>(&self, q: &Q) -> Entry
         ensures occupied { IsOccupied K.class self.now (Q.named q.now) result }
@@ -195,11 +182,8 @@ impl<K: Keyed, H: KeyHash<K>> FlatSet<K, H> {
         self.map.entry(q)
     }
 
-    /// Adds a key that [`FlatSet::entry`] found absent, by the hash that it has told.
-    ///
-    /// The capacity stays where the table has space, as for [`FlatSet::insert`], and then no key is
-    /// refused. Else the capacity doubles, or the call refuses: with `Limit` where the capacity is
-    /// 2^28, else with `Memory`. The key is then handed back, and the set is as it was.
+    /// Adds a key that [`FlatSet::entry`] reported absent, by its hash. Errors are those of
+    /// [`FlatSet::insert`].
     #[inline]
     pub fn fill(&mut self, vacancy: Vacancy, key: K) -> Result<(), RefusedKey<K>>
         requires { IsVacancy K.class (H.hash_of self.old.hasher) self.old
@@ -221,7 +205,7 @@ impl<K: Keyed, H: KeyHash<K>> FlatSet<K, H> {
         Err(RefusedKey { key, why })
     }
 
-    /// Drops the key that `q` names. `false` where it is not there.
+    /// Drops the key that `q` names, and returns whether it was there.
     #[inline]
     pub fn erase<Q: Names<K>>(&mut self, q: &Q) -> bool
     where
@@ -236,7 +220,7 @@ impl<K: Keyed, H: KeyHash<K>> FlatSet<K, H> {
         self.map.erase(q)
     }
 
-    /// Takes the stored key that `q` names out.
+    /// Removes and returns the stored key that `q` names.
     #[inline]
     pub fn extract<Q: Names<K>>(&mut self, q: &Q) -> Option<K>
         ensures answer { result ≡

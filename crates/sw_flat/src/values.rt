@@ -1,4 +1,4 @@
-//! The values of a map, one by one.
+//! Iteration over the values of a map.
 ghost use Rattle.std.specs.Prelude.{◌≡◌, Some, length, map, IfSome};
 ghost use Rattle.std.specs.Iterator.{YieldsFirstRef, item_count, at_most, UpTo};
 ghost use Rattle.std.specs.Iterator.SizeHint.{IsWithinCount};
@@ -8,7 +8,7 @@ use std::marker::Model;
 use sw_probe::{KeyHash, Keyed};
 use sw_table::Iter;
 
-/// The values that are still to come, in the order of their slots, seen as their list.
+/// The remaining values in slot order, seen as their list.
 #[derive(Drop)]
 pub struct Values<'a, K: Keyed, V, H: KeyHash<K>> {
     entries: Iter<'a, K, V, H>,

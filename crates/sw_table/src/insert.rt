@@ -16,11 +16,8 @@ use sw_ctrl::{EMPTY, WIDTH};
 use sw_probe::{KeyHash, Keyed, h2};
 
 impl<K: Keyed, V, H: KeyHash<K>> Table<K, V, H> {
-    /// Inserts an absent key into the first free slot of its probe sequence, and returns the slot. The capacity
-    /// doubles only if the load and the room are used up.
-    ///
-    /// On error the pair is returned and the table doesn't change: `Limit` if the capacity is 2^28, else
-    /// `Memory`.
+    /// Inserts an absent key into the first free slot of its probe sequence, and returns the slot. On error
+    /// (`Limit` at 2^28 slots, else `Memory`) the pair is returned and the table doesn't change.
     #[inline(always)]
     pub fn place(&mut self, key: K, value: V) -> Result<SlotNo, Refused<K, V>>
         requires absent { get (entries K.class self.old) (K.class key) ≡ None }

@@ -7,9 +7,8 @@ use crate::table::{SlotNo, Table};
 use sw_ctrl::{Ctrl, EMPTY, Group, Mask16, WIDTH};
 use sw_probe::{KeyHash, Keyed};
 
-/// The position of a walk over the full slots of a table, which reads the bytes of a group once. It borrows
-/// nothing, so slots that it has passed may change meanwhile. Contracts see by `from` what remains: the full
-/// slots from there on.
+/// A position among the full slots of a table. It borrows nothing, so slots that the walk has passed may
+/// change. Contracts see by `from` what remains: the full slots from there on.
 #[derive(Clone, Copy)]
 pub struct Walk {
     // The slot after the last one that was returned; for contracts only.
