@@ -5,16 +5,16 @@ use Rattle.std.proofs.Math.Nat.{two-pow-succ}
 use Rattle.std.specs.List.{position_or_len}
 use Rattle.std.specs.Simd.Lanes.{mask_l}
 
--- the n lowest bits of b, the lowest first
+-- the `n` lowest bits of `b`, the lowest first
 unfoldable pub bits_of : ℕ → ℕ → List Bool
 bits_of zero b = []
 bits_of (suc n) b = (b % 2 == 1) ∷ bits_of n (b / 2)
 
--- the sum of 2 ^ i over the places i that are set
+-- the number with these bits: the sum of 2^i over the positions i that are set
 abbrev pub number_of : List Bool → ℕ
 number_of = mask_l
 
--- the first place that is set is cleared
+-- bits with the first set one cleared
 abbrev pub without_first : List Bool → List Bool
 without_first bs = slice_set bs (position_or_len (λ b. b) bs) false
 
@@ -23,7 +23,7 @@ digit zero h = refl
 digit (suc zero) h = refl
 digit (suc (suc d)) h = absurd (omega arith)
 
--- a number below 2 ^ n is that of its n lowest bits
+-- a number below 2^n is that of its `n` lowest bits
 pub number_of-bits_of : (n b : ℕ) → b < 2 ^ n → number_of (bits_of n b) ≡ b
 unfolding bits_of
 number_of-bits_of zero b h = omega arith

@@ -1,4 +1,4 @@
-//! One control byte for each slot.
+//! The control bytes of a table, one for each slot.
 ghost use Rattle.std.specs.Prelude.{◌≡◌, ◌+◌, ◌*◌, ◌%◌, ◌<◌, length, map, take, drop, replicate, slice_index, slice_set, IfOk, IsOk, IsTrue, ◌↔◌, []};
 ghost use Rattle.sw_ctrl.specs.Bytes.{IsControl, marked};
 ghost use Rattle.sw_ctrl.specs.declared.control.TheConstants.{EMPTY};
@@ -26,7 +26,7 @@ impl Model for Ctrl {
 }
 
 impl Ctrl {
-    /// `n` empty bytes. None take no memory, and then it succeeds.
+    /// `n` empty bytes. Without bytes it takes no memory, and succeeds.
     #[inline]
     pub fn new(alloc: Global, n: usize) -> Result<Ctrl, AllocError>
         requires { n % 16 ≡ 0 }
@@ -52,7 +52,7 @@ impl Ctrl {
         self.bytes.len()
     }
 
-    /// Whether there is no byte.
+    /// Whether there are no bytes.
     #[inline]
     pub fn is_empty(&self) -> bool
         ensures { IsTrue result ↔ (self.now ≡ []) }
@@ -70,7 +70,7 @@ impl Ctrl {
         self.bytes[i]
     }
 
-    /// Makes byte `i` another control byte; no other byte changes.
+    /// Sets byte `i`.
     #[inline]
     pub fn set(&mut self, i: usize, byte: u8)
         requires in_range { i < length self.old }
@@ -89,8 +89,8 @@ impl Ctrl {
         Group::of(&self.bytes[WIDTH * g..WIDTH * g + WIDTH])
     }
 
-    /// The first step of a rehash in place: each full byte becomes deleted, which now means "to be
-    /// placed", and each deleted or empty byte becomes empty.
+    /// The first step of a rehash in place: each full byte becomes deleted, which now means "to be placed", and
+    /// each other one empty.
     pub fn mark_for_rehash(&mut self)
         ensures { self.new ≡ map marked self.old }
     {
@@ -98,7 +98,7 @@ impl Ctrl {
     }
 }
 
-// Marks whole groups, one after the other.
+// Marks all groups in order.
 fn mark(bytes: &mut [u8])
     requires { length bytes.old % 16 ≡ 0 }
     ensures { bytes.new ≡ map marked bytes.old }

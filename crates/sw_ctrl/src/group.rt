@@ -7,7 +7,7 @@ use crate::mask16::Mask16;
 use std::marker::Model;
 use std::simd::prelude::*;
 
-/// How many control bytes a group has.
+/// The number of control bytes of a group.
 pub const WIDTH: usize = 16;
 
 /// Sixteen control bytes in a register.
@@ -40,7 +40,7 @@ impl Group {
         }
     }
 
-    /// The bytes that are `h2`, the seven low bits of a hash.
+    /// Which bytes are `h2`, the seven low bits of a hash.
     #[inline]
     pub fn match_h2(self, h2: u8) -> Mask16
         requires { h2 < 128 }
@@ -49,7 +49,7 @@ impl Group {
         self.match_byte(h2)
     }
 
-    /// The bytes of empty slots.
+    /// Which bytes are empty.
     #[inline]
     pub fn match_empty(self) -> Mask16
         ensures { result ≡ map is_empty self }
@@ -57,7 +57,7 @@ impl Group {
         self.match_byte(EMPTY)
     }
 
-    /// The bytes of slots to which an entry may go, empty or deleted.
+    /// Which bytes are free: empty or deleted.
     #[inline]
     pub fn match_free(self) -> Mask16
         ensures { result ≡ map is_free self }
@@ -67,7 +67,7 @@ impl Group {
         Mask16::from_bits((empty | deleted).to_bitmask() as u16)
     }
 
-    /// The bytes of slots that hold an entry.
+    /// Which bytes are full.
     #[inline]
     pub fn match_full(self) -> Mask16
         ensures { result ≡ map is_full self }
@@ -75,7 +75,7 @@ impl Group {
         Mask16::from_bits(self.lanes.simd_lt(u8x16::splat(EMPTY)).to_bitmask() as u16)
     }
 
-    // The bytes that are this one.
+    // Which bytes are `byte`.
     #[inline]
     fn match_byte(self, byte: u8) -> Mask16
         ensures { result ≡ map (λ b. b == byte) self }
@@ -94,7 +94,7 @@ impl Group {
         }
     }
 
-    // Writes the group over sixteen bytes.
+    // Overwrites sixteen bytes with the group.
     #[inline]
     pub(crate) fn write_to(self, bytes: &mut [u8])
         requires { length bytes.old ≡ 16 }

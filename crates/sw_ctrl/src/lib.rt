@@ -1,7 +1,7 @@
 //! Control bytes: one byte for each slot of a hash table, compared sixteen at a time.
 //!
-//! The bytes of a table stand in one row, apart from its slots, so that a look-up reads sixteen of
-//! them before it reads any key:
+//! The bytes of a table are in one array, apart from its slots, so that a look-up reads sixteen of them before
+//! it reads any key:
 //!
 //! ```text
 //! group 0             group 1             ..
@@ -14,17 +14,16 @@
 //! | `1111_1110` | is deleted: free, but look-ups go on past it ([`DELETED`]) |
 //! | `0hhh_hhhh` | is full, and `hhh_hhhh` are the seven low bits of its key's hash ([`is_full`]) |
 //!
-//! The top bit alone tells full from free, so a comparison with a byte of seven bits never takes a
-//! free slot for a match.
+//! The top bit alone says whether a slot is full, so a comparison with seven bits of a hash never matches a
+//! free slot.
 //!
-//! - [`Ctrl`] is the row: contracts see it as the list of its bytes. Its length is a multiple of
-//!   sixteen, and each of its bytes is one of the three forms above.
-//! - [`Group`] is sixteen bytes, [`WIDTH`], in a register: contracts see it as the list of these
-//!   bytes.
-//! - [`Mask16`] is the answer of a comparison: contracts see it as a list of sixteen truth values,
-//!   the one of the first byte first.
+//! - [`Ctrl`] is the array: contracts see the list of its bytes. Its length is a multiple of sixteen, and each
+//!   byte is one of the three above.
+//! - [`Group`] is sixteen bytes, [`WIDTH`], in a register: contracts see the list of these bytes.
+//! - [`Mask16`] is the result of a comparison: contracts see a list of sixteen truth values, in the order of
+//!   the bytes.
 //!
-//! The contract above the crate: a mask is set exactly where the byte is what was asked for.
+//! The contract above the crate: a mask is set exactly where a byte matches.
 #![tactic(auto)]
 
 mod control;

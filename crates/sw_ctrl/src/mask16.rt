@@ -1,10 +1,10 @@
-//! The answer of a comparison of sixteen bytes.
+//! Results of comparing sixteen bytes.
 ghost use Rattle.std.specs.Prelude.{◌≡◌, ◌≤◌, ◌<◌, ◌↔◌, ℕ, IsTrue, IfSome, IfNone, true, false, slice_index_or, count_by, position, Contains};
 ghost use Rattle.sw_ctrl.specs.Bits.{bits_of, number_of, without_first};
 
 use std::marker::Model;
 
-/// Sixteen places, each set or not: place `i` speaks of byte `i` of a group.
+/// Sixteen lanes, each set or not: lane `i` is for byte `i` of a group.
 #[derive(Clone, Copy)]
 pub struct Mask16 {
     bits: u16,
@@ -26,7 +26,7 @@ impl Model for Mask16 {
 }
 
 impl Mask16 {
-    // The mask of these bits, the lowest bit for the first place.
+    // The mask of these bits, the lowest bit for lane 0.
     #[inline]
     pub(crate) fn from_bits(bits: u16) -> Mask16
         ensures { result ≡ bits_of 16 bits }
@@ -34,7 +34,7 @@ impl Mask16 {
         Mask16 { bits }
     }
 
-    /// The mask as a number, in which bit `i` is place `i`.
+    /// The mask as a number, in which bit `i` is lane `i`.
     #[inline]
     pub fn bits(self) -> u16
         ensures number { result ≡ number_of self }
@@ -43,7 +43,7 @@ impl Mask16 {
         self.bits
     }
 
-    /// Whether some place is set.
+    /// Whether any lane is set.
     #[inline]
     pub fn any(self) -> bool
         ensures { IsTrue result ↔ Contains self true }
@@ -51,7 +51,7 @@ impl Mask16 {
         self.bits != 0
     }
 
-    /// How many places are set, from 0 to 16.
+    /// The number of set lanes, from 0 to 16.
     #[inline]
     pub fn count(self) -> u32
         ensures { result ≡ count_by (λ b. b) self }
@@ -59,7 +59,7 @@ impl Mask16 {
         self.bits.count_ones()
     }
 
-    /// The first place that is set, from 0 to 15.
+    /// The first set lane, from 0 to 15.
     #[inline]
     pub fn lowest(self) -> Option<u32>
         ensures { result ≡ position (λ b. b) self }
@@ -71,7 +71,7 @@ impl Mask16 {
         }
     }
 
-    /// The first place that is set, of those from place `from` on.
+    /// The first set lane from lane `from` on.
     #[inline]
     pub fn lowest_from(self, from: u32) -> Option<u32>
         requires { from < 16 }
@@ -88,7 +88,7 @@ impl Mask16 {
         Some(from + rest.trailing_zeros())
     }
 
-    /// The mask with its first set place cleared; one with none set stays as it is.
+    /// The mask with its first set lane cleared, if any is set.
     #[inline]
     pub fn without_lowest(self) -> Mask16
         ensures { result ≡ without_first self }

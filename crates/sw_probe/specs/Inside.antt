@@ -6,7 +6,7 @@ use Rattle.sw_probe.specs.declared.probe.Probe.TheInside.{Inside}
 abbrev pub walk_of : Inside → Walk
 walk_of p = record { start = p.start; groups = p.groups; index = p.index }
 
--- the walk stands at one of its steps, and the group is that step's
+-- the index of a probe is one of its steps, and its group is that step's
 pub record IsWalk (p : Inside) : Type 0 where
   pub power : IsGroupCount p.groups
   pub standing : p.index < p.groups

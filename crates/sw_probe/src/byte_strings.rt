@@ -1,11 +1,9 @@
-//! Byte strings that are the same.
+//! Comparing byte strings.
 ghost use Rattle.std.specs.Prelude.{◌≡◌, ◌↔◌, ◌≤◌, IsTrue, length, take};
 ghost use Rattle.std.specs.Int.{w64, to_le_bytes};
 
-/// Whether the two byte strings are the same, as `==` says it.
-///
-/// It is meant for the keys of a table, which are short: from 8 to 16 bytes it compares two words
-/// of eight bytes, the first and the last, which overlap, and calls nothing.
+/// Whether two byte strings are equal. Made for short keys: from 8 to 16 bytes it compares the first and the
+/// last eight, which overlap, and makes no call.
 #[inline]
 pub fn same_bytes(a: &[u8], b: &[u8]) -> bool
     ensures { IsTrue result ↔ (a.now ≡ b.now) }
@@ -21,7 +19,7 @@ pub fn same_bytes(a: &[u8], b: &[u8]) -> bool
     first_word(a) == first_word(b) && first_word(&a[last..]) == first_word(&b[last..])
 }
 
-// Kept out of the loop over the slots, whose registers a call in it would take.
+// Cold: a call in the loop over the slots would take registers from it.
 #[cold]
 fn same_of_other_length(a: &[u8], b: &[u8]) -> bool
     ensures { IsTrue result ↔ (a.now ≡ b.now) }
@@ -29,7 +27,7 @@ fn same_of_other_length(a: &[u8], b: &[u8]) -> bool
     a == b
 }
 
-// The first eight bytes as a number.
+// The first eight bytes as a number, little-endian.
 #[inline]
 fn first_word(bytes: &[u8]) -> u64
     requires { 8 ≤ length bytes.now }

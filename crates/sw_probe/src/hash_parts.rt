@@ -2,7 +2,7 @@
 ghost use Rattle.std.specs.Prelude.{◌≡◌};
 ghost use Rattle.sw_probe.specs.Order.{h1_of, h2_of};
 
-/// The part of a hash that chooses the first group: all but its seven lowest bits.
+/// The part of a hash that selects the first group: all but its seven lowest bits.
 #[inline]
 pub fn h1(hash: u64) -> u64
     ensures { result ≡ h1_of hash }
@@ -10,7 +10,7 @@ pub fn h1(hash: u64) -> u64
     hash >> 7
 }
 
-/// The part of a hash that stands in the control byte: its seven lowest bits.
+/// The part of a hash that is in the control byte: its seven lowest bits.
 #[inline]
 pub fn h2(hash: u64) -> u8
     ensures { result ≡ h2_of hash }

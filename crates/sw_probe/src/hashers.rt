@@ -5,15 +5,15 @@ ghost use Rattle.sw_probe.specs.Words.{multiply_step, word_hash_of};
 
 use crate::keyed::{KeyHash, Keyed, Names, Step, WordStep};
 
-/// What an FNV-1a starts with.
+/// The start of FNV-1a.
 pub const FNV_START: u64 = 0xcbf2_9ce4_8422_2325;
 
 const FNV_PRIME: u64 = 0x0000_0100_0000_01b3;
 
-// 2^64 by the golden ratio, an odd number whose multiples stand far apart.
+// 2^64 divided by the golden ratio, an odd number whose multiples are far apart.
 const APART: u64 = 0x9e37_79b9_7f4a_7c15;
 
-/// FNV-1a of 64 bits, with a seed: the start is xored with it. Seed 0 is the plain FNV-1a.
+/// FNV-1a of 64 bits, with a seed that is xored to the start. Seed 0 is the plain FNV-1a.
 #[derive(Clone, Copy)]
 pub struct Fnv1a {
     pub seed: u64,
@@ -28,9 +28,8 @@ impl<K: Keyed> KeyHash<K> for Fnv1a {
     }
 }
 
-/// The words of a key, one by one: each is xored in, and the product with an odd number is folded, its
-/// high half xored into the low. So each bit of a word reaches the highest and the lowest bits at once,
-/// and a short key takes one multiplication for eight of its bytes.
+/// A hash of the words of a key: each is xored in, and the halves of the product with an odd number are xored.
+/// So each bit of a word affects the highest and the lowest bits, and takes one multiplication for eight bytes.
 #[derive(Clone, Copy)]
 pub struct WordHash {
     pub seed: u64,
@@ -58,7 +57,7 @@ impl<K: Keyed> KeyHash<K> for Constant {
     }
 }
 
-/// FNV-1a with seed 0, of which only so many of the lowest bits are kept; 64 and more keep all.
+/// The `n` lowest bits of FNV-1a with seed 0; 64 and more keep all.
 #[derive(Clone, Copy)]
 pub struct LowBits(pub u32);
 
@@ -76,7 +75,7 @@ impl<K: Keyed> KeyHash<K> for LowBits {
     }
 }
 
-/// The key itself, for keys that are numbers.
+/// The key itself as its hash, for keys that are numbers.
 #[derive(Clone, Copy)]
 pub struct Direct;
 
@@ -89,7 +88,7 @@ impl KeyHash<u64> for Direct {
     }
 }
 
-// One word into a hash: xor, then multiply, then fold the product.
+// One step of the hash of words: xor, then multiply, then xor the halves of the product.
 struct MultiplyStep;
 
 impl WordStep for MultiplyStep {
@@ -104,7 +103,7 @@ impl WordStep for MultiplyStep {
     }
 }
 
-/// One byte into an FNV-1a: xor, then multiply.
+/// One step of FNV-1a: xor, then multiply.
 pub struct FnvStep;
 
 impl Step for FnvStep {
@@ -116,7 +115,7 @@ impl Step for FnvStep {
     }
 }
 
-// One byte more of a number, the highest first.
+// Appends a byte to a number, big-endian.
 pub(crate) struct ReadStep;
 
 impl Step for ReadStep {

@@ -1,7 +1,7 @@
-//! Keys by their classes, the values that name them, and their hashes.
+//! Classes of keys, values that name them, and their hashes.
 ghost use Rattle.std.specs.Prelude.{◌≡◌, ◌↔◌, ℕ, IsTrue, List, fold};
 
-/// A step of a fold over bytes: a function of its own value, what was folded so far and a byte.
+/// A step of a fold over bytes: a function of its own value, the result so far and a byte.
 pub trait Step {
     ghost next: { Self → ℕ → ℕ → ℕ };
 
@@ -9,8 +9,7 @@ pub trait Step {
         ensures { result ≡ next self.now acc byte };
 }
 
-/// A step of a fold over words of 64 bits: a function of its own value, what was folded so far and a
-/// word.
+/// A step of a fold over words of 64 bits: a function of its own value, the result so far and a word.
 pub trait WordStep {
     ghost next: { Self → ℕ → ℕ → ℕ };
 
@@ -18,10 +17,9 @@ pub trait WordStep {
         ensures { result ≡ next self.now acc word };
 }
 
-/// A type of keys. Two keys are the same where their classes are equal.
-///
-/// `class` writes the class of a key as a list of numbers. `bytes` are the bytes to hash of a class, and
-/// `words` the words, for hashers that take eight bytes at once.
+/// A type of keys. Two keys are the same if their classes are equal. `class` is the class of a key, as a list
+/// of numbers. `bytes` are the bytes of a class that are hashed, and `words` the words, for hashers that take
+/// eight bytes at once.
 pub trait Keyed {
     ghost class: { Self → List ℕ };
 
@@ -29,15 +27,15 @@ pub trait Keyed {
 
     ghost words: { List ℕ → List ℕ };
 
-    /// Whether the two keys are the same.
+    /// Whether two keys are the same.
     fn same_key(&self, key: &Self) -> bool
         ensures { IsTrue result ↔ (class self.now ≡ class key.now) };
 
-    /// Folds the step over the key's bytes, the first byte first.
+    /// Folds the step over the key's bytes in order.
     fn fold_key<F: Step>(&self, start: u64, f: &F) -> u64
         ensures { result ≡ fold (F.next f.now) start (bytes (class self.now)) };
 
-    /// Folds the step over the key's words, the first word first.
+    /// Folds the step over the key's words in order.
     fn fold_key_words<F: WordStep>(&self, start: u64, f: &F) -> u64
         ensures { result ≡ fold (F.next f.now) start (words (class self.now)) };
 }
@@ -46,15 +44,15 @@ pub trait Keyed {
 pub trait Names<K: Keyed> {
     ghost named: { Self → List ℕ };
 
-    /// Whether the key belongs to the class that is named.
+    /// Whether a key is of the class that this value names.
     fn same(&self, key: &K) -> bool
         ensures { IsTrue result ↔ (named self.now ≡ K.class key.now) };
 
-    /// Folds the step over the bytes of the class, the first byte first.
+    /// Folds the step over the bytes of the class in order.
     fn fold<F: Step>(&self, start: u64, f: &F) -> u64
         ensures { result ≡ fold (F.next f.now) start (K.bytes (named self.now)) };
 
-    /// Folds the step over the words of the class, the first word first.
+    /// Folds the step over the words of the class in order.
     fn fold_words<F: WordStep>(&self, start: u64, f: &F) -> u64
         ensures { result ≡ fold (F.next f.now) start (K.words (named self.now)) };
 }
@@ -78,7 +76,7 @@ impl<K: Keyed> Names<K> for K {
     }
 }
 
-/// A hash of keys: a function of the hasher's value and of the class.
+/// A hash of keys, which depends on nothing but the hasher's value and the class.
 pub trait KeyHash<K: Keyed> {
     ghost hash_of: { Self → List ℕ → ℕ };
 

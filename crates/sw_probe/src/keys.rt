@@ -9,7 +9,7 @@ use crate::hashers::ReadStep;
 use crate::keyed::{Keyed, Names, Step, WordStep};
 use crate::words::{AsItIs, fold_byte_words};
 
-/// A number is the key of its eight bytes, the highest first, and its word is the number itself.
+/// A number is the key of its eight bytes, big-endian, and its word is the number itself.
 impl Keyed for u64 {
     ghost class = { bytes_high_first 8 };
 
@@ -22,7 +22,7 @@ impl Keyed for u64 {
         *self == *key
     }
 
-    // By shifts, not through an array: a step that only reads the number folds away.
+    // By shifts, not through an array: a step that only reads the number then folds away.
     #[inline]
     fn fold_key<F: Step>(&self, start: u64, f: &F) -> u64 {
         let x = *self;
@@ -66,7 +66,7 @@ impl Keyed for Vec<u8> {
     }
 }
 
-/// A byte string as a borrowed key: it names the same class as the `Vec<u8>` of these bytes.
+/// A byte string as a borrowed key: of the same class as the `Vec<u8>` of these bytes.
 #[derive(Clone, Copy)]
 pub struct ByteKey<'a>(pub &'a [u8]);
 

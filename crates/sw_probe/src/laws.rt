@@ -1,4 +1,4 @@
-//! What follows from the definitions, each as the contract of a function that does nothing else.
+//! Laws: what the definitions imply. Each is the contract of a function that does nothing.
 ghost use Rattle.std.specs.Prelude.{◌≡◌, ◌↔◌, ℕ, ◌^◌, ◌≤◌};
 ghost use Rattle.sw_probe.specs.Order.{IsGroupCount, VisitsOnce, VisitsAll};
 
@@ -12,7 +12,7 @@ pub fn group_counts(groups: usize)
     let _ = groups;
 }
 
-/// Two different steps of a walk have different groups.
+/// Distinct steps of a probe sequence have distinct groups.
 pub fn comes_once(start: u64, groups: usize)
     requires { IsGroupCount groups }
     ensures { VisitsOnce start groups }
@@ -20,7 +20,7 @@ pub fn comes_once(start: u64, groups: usize)
     let _ = (start, groups);
 }
 
-/// Each group is that of some step of a walk.
+/// Each group is that of some step of a probe sequence.
 pub fn comes_everywhere(start: u64, groups: usize)
     requires { IsGroupCount groups }
     ensures { VisitsAll start groups }
@@ -28,8 +28,8 @@ pub fn comes_everywhere(start: u64, groups: usize)
     let _ = (start, groups);
 }
 
-/// The hashes of two values that name keys: two keys, a key and a borrowed form, or two borrowed
-/// forms. Where both name one class the hashes are equal, whatever the hasher.
+/// The hashes of two values that name keys, each a key or a borrowed form. If both name one class the hashes
+/// are equal, for every hasher.
 pub fn hash_both<K: Keyed, P: Names<K>, Q: Names<K>, H: KeyHash<K>>(
     hasher: &H,
     one: &P,

@@ -1,4 +1,4 @@
-//! The order in which the groups of a table are tried.
+//! The probe sequence.
 ghost use Rattle.std.specs.Prelude.{◌≡◌, ◌↔◌, ◌+◌, ◌/◌, ◌<◌, IsTrue};
 ghost use Rattle.std.specs.Bool.{OnTrue, OnFalse};
 ghost use Rattle.sw_probe.specs.Order.{IsGroupCount, Walk, group_of, h1_of, moved};
@@ -6,12 +6,11 @@ ghost use Rattle.sw_probe.specs.Order.{IsGroupCount, Walk, group_of, h1_of, move
 use crate::hash_parts::h1;
 use std::marker::Model;
 
-/// A walk over the groups of a table, from the one where a hash begins.
-///
-/// Contracts see it as where it started, the number of groups, and which step it stands at.
+/// A probe: the groups of a table in the order in which a look-up visits them. Contracts see the first group,
+/// the number of groups, and the current step.
 #[derive(Drop)]
 pub struct Probe {
-    // Where the walk began. No code reads it: it is what contracts count the steps from.
+    // The first group, for contracts only.
     start: u64,
     groups: usize,
     index: usize,
@@ -31,8 +30,8 @@ impl Model for Probe {
 }
 
 impl Probe {
-    /// The walk of a key with this hash, at its first group. The number of groups is a power of
-    /// two, at most 2^24.
+    /// The probe of a key with this hash, at its first group. The number of groups is a power of two, at most
+    /// 2^24.
     #[inline]
     pub fn new(hash: u64, groups: usize) -> Probe
         requires { IsGroupCount groups }
@@ -47,7 +46,7 @@ impl Probe {
         }
     }
 
-    /// The group where the walk stands.
+    /// The current group.
     #[inline]
     pub fn group(&self) -> usize
         ensures group { result ≡ group_of self.now }
@@ -56,8 +55,7 @@ impl Probe {
         self.group
     }
 
-    /// Goes on to the next group. `false` where the walk has come to all of them: it then stays
-    /// where it was, at its last group.
+    /// Moves to the next group. It returns `false`, and stays at the last group, if all were visited.
     #[inline]
     pub fn advance(&mut self) -> bool
         ensures more { IsTrue result ↔ (self.old.index + 1 < self.old.groups) }

@@ -1,4 +1,4 @@
-//! The words of a byte string, which hashers take that multiply eight bytes at once.
+//! Words of byte strings, for hashers that multiply eight bytes at once.
 ghost use Rattle.std.specs.Prelude.{◌≡◌, ◌≤◌, ℕ, length, map, take, fold};
 ghost use Rattle.std.specs.Int.{w64, from_le_bytes};
 ghost use Rattle.sw_probe.specs.Hashes.{read_step};
@@ -7,19 +7,19 @@ ghost use Rattle.sw_probe.specs.Words.{words_of};
 use crate::hashers::ReadStep;
 use crate::keyed::{Step, WordStep};
 
-/// What is hashed in the place of each byte, as the letter in lower case in that of a capital.
+/// The byte that is hashed instead of each byte, as the small letter of a capital.
 pub trait ByteMap {
     ghost image: { Self → ℕ → ℕ };
 
     fn byte(&self, byte: u8) -> u8
         ensures { result ≡ image self.now byte };
 
-    /// Eight bytes at once.
+    /// The same for eight bytes at once.
     fn eight(&self, bytes: [u8; 8]) -> [u8; 8]
         ensures { result ≡ map (image self.now) bytes };
 }
 
-/// Each byte itself.
+/// Hashes each byte itself.
 pub struct AsItIs;
 
 impl ByteMap for AsItIs {
@@ -36,10 +36,8 @@ impl ByteMap for AsItIs {
     }
 }
 
-/// Folds the step over the words of a byte string, each byte by what is hashed in its place: its length,
-/// and then, of fewer than eight bytes, the number that they spell, the highest first; else the words of
-/// eight bytes, the lowest first, that stand at 0, 8, 16 and so on while more than eight bytes are left,
-/// the first in any case, and that of the last eight bytes.
+/// Folds the step over the words of a byte string, mapped by `of`: its length, and then the number that fewer
+/// than eight bytes spell, or else its words of eight bytes and that of the last eight, as `words_of` says.
 #[inline]
 pub fn fold_byte_words<M: ByteMap, F: WordStep>(bytes: &[u8], of: &M, start: u64, f: &F) -> u64
     ensures { result ≡ fold (F.next f.now) start (words_of (map (M.image of.now) bytes.now)) }
@@ -57,7 +55,7 @@ pub fn fold_byte_words<M: ByteMap, F: WordStep>(bytes: &[u8], of: &M, start: u64
     f.step(acc, first_word(&bytes[last..], of))
 }
 
-// The first eight bytes as a number, the lowest first.
+// The first eight bytes as a number, little-endian.
 #[inline(always)]
 fn first_word<M: ByteMap>(bytes: &[u8], of: &M) -> u64
     requires { 8 ≤ length bytes.now }
@@ -68,7 +66,7 @@ fn first_word<M: ByteMap>(bytes: &[u8], of: &M) -> u64
     ]))
 }
 
-// The number that all bytes spell, the highest first.
+// The number that all bytes spell, big-endian.
 fn number_of<M: ByteMap>(bytes: &[u8], of: &M) -> u64
     ensures { result ≡ fold read_step 0 (map (M.image of.now) bytes.now) }
 {
