@@ -6,18 +6,19 @@ use Rattle.gq_agg.specs.declared.kind.AggKind.{AggKind}
 use Rattle.gq_agg.specs.declared.kind.AggKind.TheVariants.{CountAll, Count, Sum, Min, Max}
 use Rattle.gq_agg.specs.Values.{present, total, least, greatest}
 
--- whether a whole number is one of 64 bits
+-- a whole number fits in 64 bits
 abbrev pub is_i64 : ℤ → Bool
 is_i64 n = int_le (negsuc (2 ^ 63 - 1)) n && int_le n (pos (2 ^ 63 - 1))
 
--- the sum of the values that are not null: null where there are none, and no value where it is out of range
+-- the SQL sum of values: that of those that aren't null, null if there are none, and no value if it is out of
+-- range
 abbrev pub summed : List Value → Option Value
 summed values =
     if length (present values) == 0 then Some Null
     else if is_i64 (total values) then Some (Int (total values))
     else None
 
--- the aggregate of a list of values; of some sums there is none
+-- the aggregate of a list of values; a sum that is out of range has none
 abbrev pub aggregate : AggKind → List Value → Option Value
 aggregate CountAll values = Some (Int (pos (length values)))
 aggregate Count values = Some (Int (pos (length (present values))))
@@ -25,14 +26,14 @@ aggregate Sum values = summed values
 aggregate Min values = Some (least values)
 aggregate Max values = Some (greatest values)
 
--- whether a value is a text, with case or without
+-- a value is a text, with case or without
 abbrev pub is_text : Value → Bool
 is_text Null = false
 is_text (Int n) = false
 is_text (Text t) = true
 is_text (NoCase t) = true
 
--- whether a value may be added: a sum takes no text
+-- an aggregate takes a value: a sum takes no text
 abbrev pub takes : AggKind → Value → Bool
 takes CountAll v = true
 takes Count v = true

@@ -1,4 +1,4 @@
--- What the aggregates come to, in the subject's own words.
+-- What the definitions of aggregates imply, in the subject's own words.
 use Rattle.std.specs.Prelude.{◌≡◌, ◌+◌, ◌||◌, true, false, List, [], ◌∷◌, ◌++◌, length, map, if◌then◌else◌, IsPermutation}
 use Rattle.std.specs.List.{list_any}
 use Rattle.std.specs.Ordering.{is_lt}
@@ -13,7 +13,7 @@ use Rattle.gq_agg.specs.declared.kind.AggKind.TheVariants.{Count, Sum, Min, Max}
 use Rattle.gq_agg.specs.Aggregates.{aggregate}
 use Rattle.gq_agg.specs.Values.{present, different, least, greatest}
 
--- values in another order have the same aggregates
+-- the order of values makes no difference to their aggregates
 abbrev pub OrderIsUnseen : Type 0
 OrderIsUnseen = (kind : AggKind) (xs ys : List Value) → IsPermutation xs ys → aggregate kind xs ≡ aggregate kind ys
 
@@ -24,7 +24,8 @@ pub record NullsAreUnseen : Type 0 where
   pub min : (values : List Value) → aggregate Min (present values) ≡ aggregate Min values
   pub max : (values : List Value) → aggregate Max (present values) ≡ aggregate Max values
 
--- the least is one of the values that are not null, and none of them comes before it; the greatest in the same way; both are null where there is none
+-- the minimum is one of the values that aren't null, and none of them comes before it; the maximum likewise;
+-- both are null if there are no such values
 pub record EndsAreReached : Type 0 where
   pub least_none : (values : List Value) → present values ≡ [] → least values ≡ Null
   pub least_is_one : (values : List Value) → (present values ≡ [] → ⊥) → list_any (equal_value (least values)) (present values) ≡ true
@@ -33,7 +34,8 @@ pub record EndsAreReached : Type 0 where
   pub greatest_is_one : (values : List Value) → (present values ≡ [] → ⊥) → list_any (equal_value (greatest values)) (present values) ≡ true
   pub none_behind : (values : List Value) → list_any (λ v. is_lt (compare_values (greatest values) v)) (present values) ≡ false
 
--- of no values none is different; one value more counts unless it is null or the same as one before it; there are as many as different folds; the order makes no difference
+-- the number of distinct values: of no values it is 0; one more value counts unless it is null or the same as
+-- one before it; it is the number of distinct folds; the order makes no difference
 pub record DifferentAreCounted : Type 0 where
   pub none : different [] ≡ 0
   pub one_more : (values : List Value) (v : Value) → different (values ++ v ∷ []) ≡ (if is_null v || list_any (same_value v) values then different values else different values + 1)

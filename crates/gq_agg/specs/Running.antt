@@ -1,4 +1,4 @@
--- What a running aggregate knows of the values that were added to it.
+-- What a running aggregate keeps of the values that were added to it.
 use Rattle.std.specs.Prelude.{◌==◌, ◌≤◌, ◌+◌, ◌*◌, ◌^◌, ◌+ℤ◌, ◌≤ℤ◌, ◌&&◌, ℕ, ℤ, pos, Bool, false, List, length, if◌then◌else◌, Option, Some, None}
 use Rattle.gq_row.specs.declared.value.Value.{Value}
 use Rattle.gq_agg.specs.declared.kind.AggKind.{AggKind}
@@ -9,7 +9,7 @@ use Rattle.gq_row.specs.Fitting.{is_null}
 use Rattle.gq_agg.specs.Aggregates.{is_text}
 use Rattle.gq_agg.specs.Values.{number, present, total, least, greatest, is_less, is_greater, lesser, greater}
 
--- how many values were added, and what is kept of them
+-- a running aggregate: how many values were added, and what is kept of them
 pub record Running : Type 0 where
   pub adds : ℕ
   pub state : State
@@ -21,11 +21,11 @@ kind_of (Total sum) = kind.Sum
 kind_of (Least v) = kind.Min
 kind_of (Greatest v) = kind.Max
 
--- the sum, once there is a value that is not null
+-- the sum of values, once one of them isn't null
 abbrev pub total_of : List Value → Option ℤ
 total_of values = if length (present values) == 0 then None else Some (total values)
 
--- what is kept of some values
+-- what an aggregate of a kind keeps of some values
 abbrev pub kept : AggKind → List Value → State
 kept kind.CountAll values = Rows
 kept kind.Count values = Values (length (present values))
@@ -33,7 +33,7 @@ kept kind.Sum values = Total (total_of values)
 kept kind.Min values = Least (least values)
 kept kind.Max values = Greatest (greatest values)
 
--- one value more, in the count and in the sum
+-- a count and a sum with one more value
 abbrev pub counted : ℕ → Value → ℕ
 counted n v = if is_null v then n else n + 1
 
@@ -44,7 +44,7 @@ sum_or_zero (Some n) = n
 abbrev pub plus : Option ℤ → Value → Option ℤ
 plus sum v = if is_null v then sum else Some (sum_or_zero sum +ℤ number v)
 
--- what is kept, with one value more
+-- what is kept, with one more value
 abbrev pub with_value : State → Value → State
 with_value Rows v = Rows
 with_value (Values n) v = Values (counted n v)
@@ -52,11 +52,11 @@ with_value (Total sum) v = Total (plus sum v)
 with_value (Least w) v = Least (lesser w v)
 with_value (Greatest w) v = Greatest (greater w v)
 
--- what a running aggregate is once these values were added
+-- a running aggregate to which these values were added
 abbrev pub tally : AggKind → List Value → Running
 tally added values = record { adds = length values; state = kept added values }
 
--- the numbers that are kept are within what so many values can come to
+-- what is kept of `adds` values is within the bounds of what they can amount to
 abbrev pub IsBounded : ℕ → State → Type 0
 IsBounded adds Rows = Unit {0}
 IsBounded adds (Values n) = n ≤ adds
@@ -65,7 +65,7 @@ IsBounded adds (Total (Some sum)) = (pos 0 ≤ℤ (sum +ℤ pos (2 ^ 63 * adds))
 IsBounded adds (Least v) = Unit {0}
 IsBounded adds (Greatest v) = Unit {0}
 
--- whether a value is a text that takes the place of the one that is kept, for which it is copied
+-- a value is a text that replaces the one that is kept, and is copied
 abbrev pub is_copied : State → Value → Bool
 is_copied Rows v = false
 is_copied (Values n) v = false

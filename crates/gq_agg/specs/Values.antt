@@ -1,4 +1,4 @@
--- Lists of values, null among them: those that are not null, how many different ones, their sum, the least and the greatest.
+-- Lists of values: those that aren't null, the number of distinct ones, their sum, minimum and maximum.
 use Rattle.std.specs.Prelude.{ℕ, ℤ, pos, ◌+ℤ◌, ◌&&◌, ◌||◌, Bool, not, List, [], ◌∷◌, length, filter, fold, if◌then◌else◌}
 use Rattle.std.specs.Ordering.{is_lt}
 use Rattle.gq_row.specs.declared.value.Value.{Value}
@@ -11,7 +11,7 @@ use Rattle.gq_row.specs.Repeats.{without_repeats}
 abbrev pub present : List Value → List Value
 present values = filter (λ v. not (is_null v)) values
 
--- how many different values there are, null left out; two spellings of one text without case are one
+-- the number of distinct values that aren't null; two spellings of one text without case are one
 abbrev pub different : List Value → ℕ
 different values = length (without_repeats same_value (present values))
 
@@ -22,12 +22,13 @@ number (Int n) = n
 number (Text t) = pos 0
 number (NoCase t) = pos 0
 
--- the sum, a whole number of any size
+-- the sum of values, a whole number of any size
 abbrev pub total : List Value → ℤ
 total [] = pos 0
 total (v ∷ vs) = number v +ℤ total vs
 
--- whether a value comes before the least so far, or behind the greatest so far; null never does, and each other value does where that is null
+-- a value comes before the minimum so far, or after the maximum so far; null never does, and each other value
+-- does if that is null
 abbrev pub is_less : Value → Value → Bool
 is_less least v = not (is_null v) && (is_null least || is_lt (compare_values v least))
 
@@ -40,7 +41,7 @@ lesser a b = if is_less a b then b else a
 abbrev pub greater : Value → Value → Value
 greater a b = if is_greater a b then b else a
 
--- the least and the greatest of the values that are not null, or null where each is
+-- the minimum and the maximum of the values that aren't null, or null if all are
 abbrev pub least : List Value → Value
 least values = fold lesser Null values
 

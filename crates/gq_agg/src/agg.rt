@@ -11,12 +11,12 @@ use std::alloc::{AllocError, Global};
 use std::marker::Model;
 use thiserror::Error;
 
-/// The whole sum is no number of 64 bits.
+/// The error that the sum of all values doesn't fit in 64 bits.
 #[derive(Clone, Copy, Debug, PartialEq, Eq, Error)]
 #[error("the sum is out of range")]
 pub struct SumRange;
 
-/// An aggregate of the values that were added so far.
+/// A running aggregate of the values that were added so far.
 #[derive(Drop)]
 pub struct Agg {
     alloc: Global,
@@ -36,7 +36,7 @@ impl Model for Agg {
 }
 
 impl Agg {
-    /// An aggregate of no value. It takes no memory.
+    /// An aggregate of no values. It takes no memory.
     pub fn start(alloc: Global, kind: AggKind) -> Agg
         ensures { result ≡ tally kind [] }
     {
@@ -54,7 +54,7 @@ impl Agg {
         }
     }
 
-    /// How many values were added, nulls too.
+    /// How many values were added, with nulls.
     #[inline]
     pub fn adds(&self) -> u64
         ensures is { result ≡ self.now.adds }
@@ -63,7 +63,7 @@ impl Agg {
         self.adds
     }
 
-    /// What is asked of the values.
+    /// The kind of aggregate.
     #[inline]
     pub fn kind(&self) -> AggKind
         ensures { result ≡ kind_of self.now.state }
@@ -77,8 +77,8 @@ impl Agg {
         }
     }
 
-    /// Adds a value. It takes memory only where a text becomes the least or the greatest. Refused,
-    /// the aggregate is as it was.
+    /// Adds a value. It allocates only if a text becomes the minimum or maximum. On error the aggregate doesn't
+    /// change.
     #[inline(always)]
     pub fn add(&mut self, value: &Value) -> Result<(), AllocError>
         requires few { self.old.adds < 2 ^ 32 }
@@ -93,8 +93,7 @@ impl Agg {
         Ok(())
     }
 
-    /// The aggregate of the values that were added: `SumRange` where it is a sum that is no number
-    /// of 64 bits.
+    /// The aggregate of the values that were added, or `SumRange` if it is a sum that doesn't fit in 64 bits.
     pub fn finish(self) -> Result<Value, SumRange>
         ensures { (kind : _) (values : List Cell) → self ≡ tally kind values →
             MatchResult result (λ v. aggregate kind values ≡ Some v)
@@ -106,8 +105,8 @@ impl Agg {
         Ok(value)
     }
 
-    /// Likewise where it stands, out of which its value moves over another, which stays where the sum is out of
-    /// range. What is left is of the same kind, and knows how many values were added, and no more of them.
+    /// As [`Agg::finish`], in place: overwrites `over`, unless the sum is out of range. The aggregate keeps its
+    /// kind and its number of values only.
     #[inline(always)]
     pub fn take_to(&mut self, over: &mut Value) -> Result<(), SumRange>
         ensures value { (kind : _) (values : List Cell) → self.old ≡ tally kind values →

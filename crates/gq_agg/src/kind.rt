@@ -4,23 +4,23 @@ ghost use Rattle.gq_agg.specs.Aggregates.{takes};
 
 use gq_row::Value;
 
-/// What is asked of a group's values.
+/// A kind of aggregate of a group's values.
 #[derive(Clone, Copy, Debug, PartialEq, Eq)]
 pub enum AggKind {
-    /// How many rows there are: `count(*)`.
+    /// The number of rows: `count(*)`.
     CountAll,
-    /// How many values are not null.
+    /// The number of values that aren't null.
     Count,
-    /// Their sum.
+    /// The sum.
     Sum,
-    /// The least of them.
+    /// The minimum.
     Min,
-    /// The greatest of them.
+    /// The maximum.
     Max,
 }
 
 impl AggKind {
-    /// Whether a value may be added: a sum takes no text.
+    /// Whether the aggregate takes a value: a sum takes no text.
     #[inline]
     pub fn takes(self, value: &Value) -> bool
         ensures { result ≡ takes self value.now }

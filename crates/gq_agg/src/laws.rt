@@ -1,8 +1,8 @@
-//! Laws: what the definitions come to, in the subject's own words. Each is the contract of a
-//! function that does nothing.
+//! Laws: what the definitions imply, in the subject's own words. Each is the contract of a function that does
+//! nothing.
 ghost use Rattle.gq_agg.specs.Laws.{OrderIsUnseen, NullsAreUnseen, EndsAreReached, DifferentAreCounted};
 
-/// The order in which values are added makes no difference to their aggregate.
+/// The order of values makes no difference to their aggregate.
 pub fn order_is_unseen()
     ensures { OrderIsUnseen }
 {}
@@ -12,13 +12,13 @@ pub fn nulls_are_unseen()
     ensures { NullsAreUnseen }
 {}
 
-/// The least and the greatest are among the values, and none is less, or greater.
+/// The minimum and the maximum are among the values, and none comes before or after them.
 pub fn ends_are_reached()
     ensures { EndsAreReached }
 {}
 
-/// A value counts among the different ones unless it is null or the same as one before it: two
-/// spellings of one text without case count once.
+/// A value counts among the distinct ones unless it is null or the same as one before it: two spellings of one
+/// text without case count once.
 pub fn different_are_counted()
     ensures { DifferentAreCounted }
 {}

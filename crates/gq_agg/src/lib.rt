@@ -1,5 +1,5 @@
-//! Running aggregates: a value is added at a time, and at the end there is a count, a sum, the
-//! least or the greatest of them, as SQL has them.
+//! Running aggregates: values are added one by one, and the result is their count, sum, minimum or maximum, as
+//! SQL has them.
 //!
 //! ```text
 //! let mut sum = Agg::start(alloc, AggKind::Sum);
@@ -10,19 +10,18 @@
 //! sum.finish()                    // Ok(Value::Int(i64::MAX))
 //! ```
 //!
-//! - Nulls count for `CountAll` alone. Over no other values a sum, the least and the greatest are
-//!   null.
-//! - A sum runs in 128 bits and is tested at [`Agg::finish`] alone, so it is refused exactly where
-//!   the whole sum leaves 64 bits, whatever came on the way.
-//! - [`Agg::add`] takes memory only where a text becomes the least or the greatest.
+//! - Nulls count only for `CountAll`. If all values are null, the sum, the minimum and the maximum are null.
+//! - A sum has 128 bits and is checked only at [`Agg::finish`], so it fails exactly if the sum of all values
+//!   doesn't fit in 64 bits, whatever its partial sums.
+//! - [`Agg::add`] allocates only if a text becomes the minimum or maximum.
 //!
 //! # The contract above this crate
 //!
-//! After adds of a list, [`Agg::adds`] is its length, and [`Agg::finish`] is `aggregate` of the
-//! list (`specs/Aggregates.antt`), or `SumRange` exactly where that has no value. The laws in
-//! [`laws`] say that the order of the list makes no difference, that nulls make none but to
-//! `CountAll`, what the least and the greatest are, and what the number of different values is,
-//! which no running aggregate keeps (`different` of `specs/Values.antt`).
+//! After adds of a list, [`Agg::adds`] is its length, and [`Agg::finish`] is `aggregate` of the list
+//! (`specs/Aggregates.antt`), or `SumRange` exactly if that has no value. The laws in [`laws`] say that the
+//! order of the list makes no difference, that nulls make none but to `CountAll`, what the minimum and the
+//! maximum are, and what the number of distinct values is, which no running aggregate keeps (`different` of
+//! `specs/Values.antt`).
 #![tactic(auto)]
 
 mod agg;

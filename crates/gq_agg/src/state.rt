@@ -1,4 +1,4 @@
-//! What an aggregate keeps of the values so far.
+//! What an aggregate keeps of its values.
 ghost use Rattle.std.specs.Prelude.{◌≡◌, ◌+◌, ◌-◌, ◌^◌, ◌<◌, ◌+ℤ◌, ◌≤ℤ◌, ◌&&◌, pos, negsuc, false, IsTrue, OnOk, OnErr, IsOk};
 ghost use Rattle.gq_agg.specs.Aggregates.{is_text};
 ghost use Rattle.gq_agg.specs.Running.{counted, plus, sum_or_zero};
@@ -14,15 +14,15 @@ use std::mem::replace;
 /// What is kept of the values that were added, by the kind of aggregate.
 #[derive(Drop)]
 pub enum State {
-    /// Nothing: how many were added is known.
+    /// Nothing: the number of values is known.
     Rows,
-    /// How many of them are not null.
+    /// How many aren't null.
     Values(u64),
-    /// Their sum, once one of them is not null.
+    /// The sum, once one of them isn't null.
     Total(Option<Sum>),
-    /// The least of them, or null.
+    /// The minimum, or null.
     Least(Value),
-    /// The greatest of them, or null.
+    /// The maximum, or null.
     Greatest(Value),
 }
 
@@ -33,7 +33,7 @@ impl State {
     ghost use Rattle.gq_agg.specs.declared.kind.AggKind.{AggKind};
     ghost use Rattle.gq_agg.specs.Running.{IsBounded, kept, kind_of, is_copied, with_value};
 
-    // Takes one value more in, where so many were added before it.
+    // Adds a value, after `adds` others.
     #[inline(always)]
     pub(crate) fn take_in(
         &mut self,
@@ -65,8 +65,8 @@ impl State {
         }
     }
 
-    // Writes the aggregate of the values that were taken in, so many, over another value. A least or a greatest
-    // moves out, and leaves null.
+    // Overwrites `over` with the aggregate of the `adds` values. A minimum or maximum moves out, and leaves
+    // null.
     #[inline(always)]
     pub(crate) fn move_to(&mut self, adds: u64, over: &mut Value) -> Result<(), SumRange>
         requires few { adds ≤ 2 ^ 32 }
@@ -124,7 +124,7 @@ pub(crate) fn sum_value(sum: &mut Option<Sum>, value: &Value)
     }
 }
 
-// Keeps the lesser of two values.
+// Keeps the smaller of two values.
 #[inline]
 pub(crate) fn keep_less(alloc: Global, least: &mut Value, value: &Value) -> Result<(), AllocError>
     ensures ok { OnOk result (least.new ≡ lesser least.old value.now) }
@@ -137,7 +137,7 @@ pub(crate) fn keep_less(alloc: Global, least: &mut Value, value: &Value) -> Resu
     Ok(())
 }
 
-// Keeps the greater of two values.
+// Keeps the larger of two values.
 #[inline]
 pub(crate) fn keep_greater(
     alloc: Global,
@@ -155,7 +155,7 @@ pub(crate) fn keep_greater(
     Ok(())
 }
 
-// Puts a copy of a value into a place. Only a text takes memory.
+// Overwrites `place` with a copy of a value. Only a text allocates.
 fn keep(alloc: Global, place: &mut Value, value: &Value) -> Result<(), AllocError>
     ensures ok { OnOk result (place.new ≡ value.now) }
     ensures err { OnErr result (place.new ≡ place.old) }

@@ -3,11 +3,11 @@ ghost use Rattle.std.specs.Prelude.{◌≡◌, ◌^◌, ◌+ℤ◌, ◌≤ℤ◌
 
 use std::marker::Model;
 
-/// A whole number in two words, seen as that number. An `i128` would stand at a multiple of sixteen
-/// bytes, and leave gaps in each group that is kept.
+/// A whole number in two words, seen as that number. An `i128` is aligned to sixteen bytes, which would leave
+/// gaps in each group that is kept.
 #[derive(Drop)]
 pub struct Sum {
-    // The number is `high` times 2^64, and `low` more.
+    // The number is `high` times 2^64, plus `low`.
     high: i64,
     low: u64,
 }
@@ -22,7 +22,7 @@ impl Model for Sum {
 }
 
 impl Sum {
-    /// The sum of no number.
+    /// The sum of no numbers.
     #[inline]
     pub(crate) fn zero() -> Sum
         ensures { result ≡ pos 0 }
@@ -30,8 +30,7 @@ impl Sum {
         Sum { high: 0, low: 0 }
     }
 
-    /// Adds a number. Where the low word would leave its range it goes round, and the high word
-    /// carries.
+    /// Adds a number. If the low word overflows it wraps around, and carries to the high word.
     #[inline]
     pub(crate) fn add(&mut self, n: i64)
         requires low { pos 0 ≤ℤ (self.old +ℤ pos (2 ^ 96)) }

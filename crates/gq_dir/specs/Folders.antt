@@ -1,4 +1,4 @@
--- A store that keeps its runs in files. It can't say what a file has, so it is not honest.
+-- A store that keeps its runs in files. Contracts can't say what a file has, so it isn't honest.
 use Rattle.std.specs.Prelude.{ℕ, false, List, None, Option, length, is_some, slice_index_or}
 use Rattle.gq_spill.specs.Runs.{Runs}
 

@@ -8,10 +8,9 @@ use gq_spill::{RunId, RunStore, StoreError};
 use std::alloc::{AllocError, Global};
 use std::fs::Files;
 
-/// Runs that are kept in a folder, each in a file of its own, which has no name once it is open.
-///
-/// Appended bytes are gathered, and written in pieces of up to 64 KiB. A file is closed, and with that
-/// gone, when its run is discarded or the store ends, however the program ends.
+/// Runs in a folder, each in a file of its own, which is unlinked once it is open. Appended bytes are buffered,
+/// and written in pieces of up to 64 KiB. The file is closed, and so deleted, when its run is discarded or the
+/// store is dropped, however the program ends.
 #[derive(Drop)]
 pub struct DirStore<'a, R: Files> {
     alloc: Global,
@@ -22,7 +21,7 @@ pub struct DirStore<'a, R: Files> {
 }
 
 impl<'a, R: Files> DirStore<'a, R> {
-    /// A store in a folder. Nothing is asked of the folder yet.
+    /// A store in a folder, which isn't touched yet.
     pub fn new(alloc: Global, files: &'a R, folder: &str) -> Result<DirStore<'a, R>, AllocError>
         ensures { IfOk result (λ store. (store.kept.items ≡ []) × (store.failures ≡ 0)) }
     {
@@ -52,7 +51,7 @@ fn open<R: Files>(
     }
 }
 
-// Counts a failure; where no more can be counted it is told as want of memory.
+// Counts a failure. If the count would overflow, it is reported as `Memory`.
 fn counted(failures: &mut u64, error: StoreError) -> StoreError
     ensures { failures.new ≡ failures.old + one_if (is_fault {T = Unit {0}} (Err result)) }
 {

@@ -1,22 +1,21 @@
-//! A run store in a folder: run n, counted from 0, is a file that is made there as `run-n.gq`, and has no name
-//! from then on.
+//! A run store in a folder: run n, counted from 0, is a file that is made there as `run-n.gq`, and unlinked at
+//! once.
 //!
 //! ```text
 //! let mut store = DirStore::new(alloc, &rt, "/tmp/runs")?;
 //! let run = store.make()?;                  // made as /tmp/runs/run-0.gq; the folder is empty again
 //! store.append(run, b"Oslo")?;
 //! store.read(run, 0, &mut buffer)?;
-//! store.discard(run);                       // its bytes are given back to the system
+//! store.discard(run);                       // its space is freed
 //! ```
 //!
-//! So stores that share a folder, of one program or of several, do not know one another, and no rows stay
-//! behind a program that is killed. [`nameless`] has what this stands on.
+//! So stores that share a folder, of one program or of several, don't affect each other, and a program that is
+//! killed leaves no rows. [`nameless`] says what this relies on.
 //!
 //! # The contract above this crate
 //!
-//! [`DirStore`] is a `RunStore` of `gq_spill` that is not honest, since nothing can be said of what a file
-//! gives back. What is said of it is what holds of every store: which runs are live, and that each
-//! `Fault` is counted, and each run that is made.
+//! [`DirStore`] is a `RunStore` of `gq_spill` that isn't honest, since contracts can't say what a file returns.
+//! They say what is true of every store: which runs are live, and that each `Fault` and each run is counted.
 #![tactic(auto)]
 
 mod dir_store;

@@ -1,17 +1,14 @@
-//! Files that no other program has, and that are gone once they are closed.
+//! Files without names, which no other program has open, and which are deleted once they are closed.
 
 use std::fs::{self, Files, OpenOptions};
 use std::io::{self, ErrorKind};
 use std::os::unix::fs::OpenOptionsExt;
 
-// How often a file is made anew where others make one of the same name at the same time.
+// How often a file is tried to be made while other programs make one with the same name.
 const TRIES: u32 = 1_000;
 
-/// A new file, empty and open for reads and writes, which no other program has: it is made under a path,
-/// for its owner alone, and its name is taken away at once. Whatever had that name before loses it: a file is
-/// gone with its last name, and what a link points to stays as it is.
-///
-/// Fails where the name can't be taken away, as that of a folder, or a file can't be made under it.
+/// A new empty file, open for reads and writes by its owner alone: made under a path, and unlinked at once. A
+/// file or link that had the name is unlinked, too. Fails if the name can't be unlinked, or the file made.
 pub fn nameless_file<R: Files>(files: &R, path: &str) -> io::Result<R::File> {
     for _ in 0..TRIES {
         take_name_away(files, path)?;
@@ -20,7 +17,7 @@ pub fn nameless_file<R: Files>(files: &R, path: &str) -> io::Result<R::File> {
                 take_name_away(files, path)?;
                 return Ok(file);
             }
-            // Another program made one meanwhile.
+            // Another program was first.
             Err(error) if error.kind() == ErrorKind::AlreadyExists => {}
             Err(error) => return Err(error),
         }
@@ -28,7 +25,7 @@ pub fn nameless_file<R: Files>(files: &R, path: &str) -> io::Result<R::File> {
     Err(ErrorKind::AlreadyExists.into())
 }
 
-// Makes a file where nothing has that name, not even a link.
+// Makes a file unless something, even a link, has that name.
 fn create_new<R: Files>(files: &R, path: &str) -> io::Result<R::File> {
     OpenOptions::new()
         .read(true)
@@ -38,7 +35,7 @@ fn create_new<R: Files>(files: &R, path: &str) -> io::Result<R::File> {
         .open(files, path)
 }
 
-// Takes a name away from what has it, if anything has.
+// Unlinks a name, if it exists.
 fn take_name_away<R: Files>(files: &R, path: &str) -> io::Result<()> {
     match fs::remove_file(files, path) {
         Err(error) if error.kind() != ErrorKind::NotFound => Err(error),

@@ -5,22 +5,22 @@ use gq_spill::StoreError;
 use std::alloc::Global;
 use std::io::{Read, Seek, SeekFrom, Write};
 
-// How many bytes wait at most, before they are written in one piece.
+// The most bytes that are buffered, to be written in one piece.
 const WAITING: usize = 65_536;
 
-/// A file with the bytes of a run, but for the last, which wait to be written.
+/// A file with the bytes of a run, but for the last, which are buffered.
 #[derive(Drop)]
 pub struct RunFile<F: Drop> {
     file: F,
-    // How many bytes the file has.
+    // The number of bytes that were written to the file.
     written: u64,
     waiting: Vec<u8>,
-    // Whether the file's next write goes to its end.
+    // Whether the file's position is its end.
     is_at_end: bool,
 }
 
 impl<F: Read + Write + Seek + Drop> RunFile<F> {
-    /// A run without bytes, in a file without bytes.
+    /// An empty run, in an empty file.
     pub fn new(alloc: Global, file: F) -> RunFile<F> {
         RunFile {
             file,
@@ -30,7 +30,7 @@ impl<F: Read + Write + Seek + Drop> RunFile<F> {
         }
     }
 
-    /// Puts bytes at the end. Small ones wait; where that fails later, it is the later call's fault.
+    /// Appends bytes. Small pieces are buffered; if writing them fails, the later call reports it.
     pub fn append(&mut self, bytes: &[u8]) -> Result<(), StoreError> {
         if bytes.len() >= WAITING || self.waiting.len() > WAITING - bytes.len() {
             self.write_waiting()?;
@@ -49,7 +49,7 @@ impl<F: Read + Write + Seek + Drop> RunFile<F> {
         }
     }
 
-    // Writes what waits.
+    // Writes the buffered bytes.
     fn write_waiting(&mut self) -> Result<(), StoreError> {
         if self.waiting.is_empty() {
             return Ok(());
@@ -64,8 +64,8 @@ impl<F: Read + Write + Seek + Drop> RunFile<F> {
         Ok(())
     }
 
-    /// Reads from a place on, as many bytes as fit into the buffer or as there are. A file that has fewer than
-    /// were written fails.
+    /// Reads from a position on, as many bytes as there are and fit into the buffer. It fails if the file has
+    /// fewer bytes than were written.
     pub fn read(&mut self, at: u64, buffer: &mut [u8]) -> Result<usize, StoreError>
         ensures { IfOk result (λ count. count ≤ length buffer.old) }
     {
@@ -82,7 +82,7 @@ impl<F: Read + Write + Seek + Drop> RunFile<F> {
     }
 }
 
-// Writes all bytes behind those that a file has, however few of them a write takes.
+// Appends all bytes to a file, however few of them a write takes.
 fn write_at_end<F: Write + Seek>(
     file: &mut F,
     written: &mut u64,
@@ -92,7 +92,7 @@ fn write_at_end<F: Write + Seek>(
     if !*is_at_end && file.seek(SeekFrom::Start(*written)).is_err() {
         return Err(StoreError::Fault);
     }
-    // Where a write fails, a part of the bytes may stand there, which the next write goes over.
+    // A failed write may leave a part of the bytes, which the next write overwrites.
     *is_at_end = false;
     if file.write_all(bytes).is_err() {
         return Err(StoreError::Fault);

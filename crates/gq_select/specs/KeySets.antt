@@ -7,7 +7,7 @@ use Rattle.gq_row.specs.Classes.{class_of}
 use Rattle.gq_select.specs.Matches.{is_key_among}
 use Rattle.gq_select.specs.declared.join.KeySet.{KeySet}
 
--- whether a key is in a set
+-- a key is in a set
 abbrev pub has : {H : Type 0} → KeySet H → List Value → Bool
 has set key = contains_key (entries class_of set.keys) (class_of key)
 

@@ -1,4 +1,4 @@
--- What the definitions come to, in the subject's own words.
+-- What the definitions imply, in the subject's own words.
 use Rattle.std.specs.Prelude.{◌≡◌, ◌&&◌, ◌||◌, ℕ, Bool, true, false, not, IsTrue, List, [], ◌∷◌, if◌then◌else◌}
 use Rattle.std.specs.List.{list_all}
 use Rattle.std.specs.declared.cmp.Ordering.{Ordering}
@@ -27,7 +27,7 @@ both Unknown Unknown = Unknown
 both Unknown False = False
 both False b = False
 
--- `and` of several goes by that table, two at a time, in any order
+-- the `and` of several truths is that of two at a time, in any order
 pub record AndIsOfTwo : Type 0 where
   pub none : all_of [] ≡ True
   pub more : (first : Truth) (others : List Truth) → all_of (first ∷ others) ≡ both first (all_of others)
@@ -40,16 +40,17 @@ compares_values row (Compare a comparison b) = not (is_null (value_of a row)) &&
 compares_values row (IsNull a) = true
 compares_values row (IsNotNull a) = true
 
--- a condition is unknown only where it compares null
+-- a condition that compares no null is true or false
 abbrev pub TwoValuedWithoutNull : Type 0
 TwoValuedWithoutNull = (tests : List Test) (row : List Value) → IsTrue (list_all (compares_values row) tests) → is_unknown (truth tests row) ≡ false
 
--- a row is kept exactly where each test is true; and a comparison with null keeps none, whatever it is
+-- a row is kept exactly if each test is true; a comparison with null keeps none, whatever it is
 pub record KeepsWhatIsTrue : Type 0 where
   pub each : (tests : List Test) (row : List Value) → keeps tests row ≡ list_all (is_true_in row) tests
   pub none_by_null : (a b : Operand) (comparison : Comparison) (row : List Value) → compares_values row (Compare a comparison b) ≡ false → keeps (Compare a comparison b ∷ []) row ≡ false
 
--- `<>`, `>=` and `>` are the opposites of `=`, `<` and `<=`; `=` holds of equal values where both have case, and where one is a text without case of those that are the same, a text taken as such
+-- `<>`, `>=` and `>` are the opposites of `=`, `<` and `<=`; `=` is true of equal values if both have case, and
+-- if one is a text without case of those that are the same, a text taken as one too
 pub record ComparisonsAgree : Type 0 where
   pub equal : (a b : Value) → IsTrue (has_case a) → IsTrue (has_case b) → passes Equal (condition_order a b) ≡ equal_value a b
   pub same : (a b : Value) → (has_case a && has_case b) ≡ false → passes Equal (condition_order a b) ≡ same_value (without_case a) (without_case b)
@@ -57,12 +58,14 @@ pub record ComparisonsAgree : Type 0 where
   pub at_least : (order : Ordering) → passes GreaterEqual order ≡ not (passes Less order)
   pub above : (order : Ordering) → passes Greater order ≡ not (passes LessEqual order)
 
--- where both values have case, a comparison goes by their plain order; where one is a text without case, it is that of both by their folds, a text taken without its case
+-- if both values have case, a comparison uses their plain order; if one is a text without case, it compares the
+-- folds of both, a text taken as one too
 pub record MindsCase : Type 0 where
   pub with_case : (comparison : Comparison) (a b : Value) → IsTrue (has_case a) → IsTrue (has_case b) → compared comparison a b ≡ (if is_null a || is_null b then Unknown else decided (passes comparison (plain_order a b)))
   pub by_folds : (comparison : Comparison) (a b : Value) → (has_case a && has_case b) ≡ false → compared comparison a b ≡ compared comparison (folded (without_case a)) (folded (without_case b))
 
--- a row with null in its columns has no match, and a row of the others with null in theirs is none; of any other row a match is a row that has its key
+-- a row with null in its columns has no match, and a row of the others with null in theirs is none; a match of
+-- any other row is a row that has its key
 pub record NullHasNoMatch : Type 0 where
   pub here : (row : List Value) (columns : List ℕ) (others : List (List Value)) (theirs : List ℕ) → has_null columns row ≡ true → exists row columns others theirs ≡ false
   pub there : (row : List Value) (columns : List ℕ) (other : List Value) (others : List (List Value)) (theirs : List ℕ) → has_null theirs other ≡ true → exists row columns (other ∷ others) theirs ≡ exists row columns others theirs

@@ -1,4 +1,4 @@
--- Rows that have a match among others.
+-- Rows that match others.
 use Rattle.std.specs.Prelude.{◌&&◌, ℕ, Bool, not, List, if◌then◌else◌}
 use Rattle.std.specs.List.{list_any}
 use Rattle.gq_row.specs.declared.value.Value.{Value}
@@ -7,14 +7,14 @@ use Rattle.gq_row.specs.Rows.{key_of}
 use Rattle.gq_row.specs.Tables.{has_row}
 use Rattle.gq_select.specs.declared.matching.Matching.{Matching}
 
--- whether some row has a key in some columns, and no value of the key is null
+-- some row has a key in some columns, and no value of the key is null
 abbrev pub is_key_among : List ℕ → List (List Value) → List Value → Bool
 is_key_among columns rows key = not (list_any is_null key) && has_row columns rows key
 
--- whether some row of others has in its columns the same values as this row in its own, none of them null
+-- some other row has in its columns the same values as a row in its own, none of them null
 abbrev pub exists : List Value → List ℕ → List (List Value) → List ℕ → Bool
 exists row columns others theirs = is_key_among theirs others (key_of columns row)
 
--- whether a row is kept: some row of the others is its match, or with `not` none is
+-- a row is kept: some other row matches it, or with `not` none does
 abbrev pub is_matched : Matching → List (List Value) → List Value → Bool
 is_matched matching others row = if matching.negated then not (exists row matching.ours others matching.theirs) else exists row matching.ours others matching.theirs

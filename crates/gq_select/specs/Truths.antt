@@ -14,12 +14,12 @@ use Rattle.gq_select.specs.declared.condition.Test.TheVariants.{Compare, IsNull,
 use Rattle.gq_select.specs.declared.truth.Truth.{Truth}
 use Rattle.gq_select.specs.declared.truth.Truth.TheVariants.{True, False, Unknown}
 
--- true or false, where nothing is unknown
+-- the truth of what is never unknown
 abbrev pub decided : Bool → Truth
 decided true = True
 decided false = False
 
--- which of the three a truth is
+-- a truth is this one of the three
 abbrev pub is_true : Truth → Bool
 is_true True = true
 is_true False = false
@@ -40,17 +40,18 @@ abbrev pub value_of : Operand → List Value → Value
 value_of (Column column) row = cell row column
 value_of (Literal v) row = v
 
--- a comparison is unknown where a compared value is null, and else as the order of the two in a condition decides
+-- the truth of a comparison: unknown if a compared value is null, and else as their order in a condition
+-- decides
 abbrev pub compared : Comparison → Value → Value → Truth
 compared comparison a b = if is_null a || is_null b then Unknown else decided (passes comparison (condition_order a b))
 
--- the truth of a test in a row; whether a value is null is never unknown
+-- the truth of a test in a row; `is null` is never unknown
 abbrev pub truth_of : Test → List Value → Truth
 truth_of (Compare a comparison b) row = compared comparison (value_of a row) (value_of b row)
 truth_of (IsNull a) row = decided (is_null (value_of a row))
 truth_of (IsNotNull a) row = decided (not (is_null (value_of a row)))
 
--- `and` of several: false where one is false, else unknown where one is unknown, else true
+-- the `and` of several truths: false if one is false, else unknown if one is unknown, else true
 abbrev pub all_of : List Truth → Truth
 all_of truths = if list_any is_false truths then False else (if list_any is_unknown truths then Unknown else True)
 
@@ -58,14 +59,14 @@ all_of truths = if list_any is_false truths then False else (if list_any is_unkn
 abbrev pub truth : List Test → List Value → Truth
 truth tests row = all_of (map (λ test. truth_of test row) tests)
 
--- whether a test is true in a row
+-- a test is true in a row
 abbrev pub is_true_in : List Value → Test → Bool
 is_true_in row test = is_true (truth_of test row)
 
--- a condition keeps the rows in which it is true
+-- a condition keeps a row: it is true in the row
 abbrev pub keeps : List Test → List Value → Bool
 keeps tests row = is_true (truth tests row)
 
--- a value that is not null, or none
+-- a value that isn't null, or none
 abbrev pub known : Value → Option Value
 known v = if is_null v then None else Some v

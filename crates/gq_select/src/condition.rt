@@ -7,13 +7,12 @@ ghost use Rattle.gq_select.specs.Truths.{known, value_of, truth_of, truth, is_tr
 use crate::truth::Truth;
 use gq_row::{Comparison, Sequence, Value, compare_in_condition};
 
-/// What a test asks of.
+/// An operand of a test.
 #[derive(Drop)]
 pub enum Operand {
-    /// The value of the row in the column at a position, counted from 0. Null where the row has no
-    /// such column.
+    /// The value in the column at a position, counted from 0; null if the row has no such column.
     Column(usize),
-    /// A value of its own, whatever the row.
+    /// A value that is the same for all rows.
     Literal(Value),
 }
 
@@ -27,14 +26,14 @@ pub enum Test {
     IsNotNull(Operand),
 }
 
-/// Tests that are joined by `and`. Without tests it is true.
+/// Tests joined by `and`. Without tests it is true.
 #[derive(Drop)]
 pub struct Condition {
     pub tests: Sequence<Test>,
 }
 
 impl Operand {
-    // Its value in a row, or None where that is null.
+    // The operand's value in a row, or `None` if that is null.
     #[inline]
     fn known<'a>(&'a self, row: &'a [Value]) -> Option<&'a Value>
         ensures { option_copied result ≡ known (value_of self.now row.now) }
@@ -48,9 +47,8 @@ impl Operand {
 }
 
 impl Test {
-    /// Its truth in a row. A comparison is unknown where one of its values is null, and else as their
-    /// order decides: by their folds where one is a text without case, a text taken as such. Whether
-    /// a value is null is never unknown.
+    /// The truth of the test in a row. A comparison with null is unknown; if a value is a text without case, a
+    /// text is compared as one too. `is null` is never unknown.
     #[inline]
     pub fn truth(&self, row: &[Value]) -> Truth
         ensures { result ≡ truth_of self.now row.now }
@@ -67,7 +65,7 @@ impl Test {
         }
     }
 
-    // Whether it is true in a row.
+    // Whether the test is true in a row.
     #[inline]
     fn is_true(&self, row: &[Value]) -> bool
         ensures { result ≡ is_true_in row.now self.now }
@@ -76,8 +74,7 @@ impl Test {
     }
 }
 
-/// The truth of a condition in a row: false where a test is false, else unknown where one is
-/// unknown, else true.
+/// The truth of a condition in a row: false if a test is false, else unknown if one is unknown, else true.
 pub fn holds(condition: &Condition, row: &[Value]) -> Truth
     ensures { result ≡ truth condition.now.tests row.now }
 {
@@ -92,7 +89,7 @@ pub fn holds(condition: &Condition, row: &[Value]) -> Truth
     truth
 }
 
-/// Whether a condition before grouping keeps a row: whether it is true there.
+/// Whether a condition on rows, before grouping, is true in a row.
 #[inline]
 pub fn filter(condition: &Condition, row: &[Value]) -> bool
     ensures { result ≡ keeps condition.now.tests row.now }
@@ -100,8 +97,7 @@ pub fn filter(condition: &Condition, row: &[Value]) -> bool
     is_true(condition, row)
 }
 
-/// Whether a condition on groups keeps one, by its result row, which is its key and its aggregates:
-/// whether it is true there.
+/// Whether a condition on groups is true in a result row, which is a key and its aggregates.
 #[inline]
 pub fn having(condition: &Condition, group: &[Value]) -> bool
     ensures { result ≡ keeps condition.now.tests group.now }
@@ -109,7 +105,7 @@ pub fn having(condition: &Condition, group: &[Value]) -> bool
     is_true(condition, group)
 }
 
-// Whether it is true there. Most conditions have no test: that is seen where it is called.
+// Whether a condition is true in a row. Inlined, since most conditions have no test.
 #[inline(always)]
 fn is_true(condition: &Condition, row: &[Value]) -> bool
     ensures { result ≡ keeps condition.now.tests row.now }

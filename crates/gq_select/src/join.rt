@@ -1,4 +1,4 @@
-//! Rows that have a match among others.
+//! Rows that match others.
 ghost use Rattle.std.specs.Prelude.{◌≡◌, ◌<◌, ◌≤◌, ◌++◌, ◌∷◌, [], ℕ, not, All, List, length, map, IsTrue, IsOk, IfOk, OnOk, OnErr};
 ghost use Rattle.gq_row.specs.declared.value.Value.{Value as Cell};
 ghost use Rattle.gq_row.specs.Fitting.{has_null};
@@ -19,7 +19,7 @@ pub struct KeySet<H: KeyHash<Key>> {
 }
 
 impl<H: KeyHash<Key>> KeySet<H> {
-    /// The keys of no rows. It takes no memory.
+    /// An empty set. It takes no memory.
     pub fn new(alloc: Global, hasher: H) -> KeySet<H>
         ensures { (columns : List ℕ) → AreKeysOf columns [] result }
     {
@@ -29,9 +29,8 @@ impl<H: KeyHash<Key>> KeySet<H> {
         }
     }
 
-    /// Adds the key of one row more. It is looked up in the row, hashed once, and copied only where
-    /// it is new; a key with null is left out. Neither such a key nor one that is there takes memory;
-    /// for want of it the set stays as it was.
+    /// Adds the key of a row, which is copied only if it is new; a key with null is left out. On error the set
+    /// doesn't change.
     pub fn add(&mut self, row: &[Value], columns: &[usize]) -> Result<(), AllocError>
         requires { All (λ column. column < length row.now) columns.now }
         ensures keys { OnOk result ((rows : List (List Cell)) → AreKeysOf columns.now rows self.old →
@@ -75,8 +74,8 @@ impl<H: KeyHash<Key>> KeySet<H> {
     }
 }
 
-/// Whether some row of those whose keys these are has in its columns the same values as `row` in
-/// `columns`, none of them null. Nothing is copied.
+/// Whether one of the rows of `keys` has in its columns the same values as `row` in `columns`, none of them
+/// null. Nothing is copied.
 #[inline]
 pub fn semi_join<H: KeyHash<Key>>(keys: &KeySet<H>, row: &[Value], columns: &[usize]) -> bool
     requires { All (λ column. column < length row.now) columns.now }
@@ -87,8 +86,7 @@ pub fn semi_join<H: KeyHash<Key>>(keys: &KeySet<H>, row: &[Value], columns: &[us
     keys.keys.contains(&KeyRef::new(row, columns))
 }
 
-/// The opposite: whether no row of those has them. So a row with null in one of its columns is
-/// kept.
+/// The opposite of [`semi_join`]. So a row with null in one of its columns is kept.
 #[inline]
 pub fn anti_join<H: KeyHash<Key>>(keys: &KeySet<H>, row: &[Value], columns: &[usize]) -> bool
     requires { All (λ column. column < length row.now) columns.now }

@@ -1,4 +1,4 @@
-//! The different keys of rows.
+//! The distinct keys of rows.
 ghost use Rattle.std.specs.Prelude.{◌≡◌, ◌+◌, ◌<◌, ◌≤◌, ◌^◌, ◌++◌, false, List, length, IsTrue, IfOk, OnOk, IfErr};
 ghost use Rattle.std.specs.List.{list_all};
 ghost use Rattle.gq_row.specs.declared.value.Value.{Value as Cell};
@@ -14,13 +14,8 @@ use gq_spill::RunStore;
 use std::alloc::Global;
 use sw_probe::KeyHash;
 
-/// The different keys of the source's rows in some columns, of which there is one at least: each
-/// pushed to the sink once, in some order, with an empty list of values. Nulls are one key value, and
-/// so are the spellings of a text without case: a key is handed out by its fold.
-///
-/// A refusal leaves the source behind some of its rows, and the sink with some of the keys; no sum
-/// is asked for, so `SumRange` is none of them. The keys are grouped as by [`group`], and rows are
-/// written within the same bounds.
+/// Pushes each distinct key of the source's rows by its fold, in some order, with an empty list of values.
+/// Errors are those of [`group`] but for `SumRange`; the source and the sink then are part way.
 pub fn distinct<H: KeyHash<Key> + Copy, S: RunStore, R: RowSource<S>, K: GroupSink<S>>(
     alloc: Global,
     hasher: H,
@@ -65,7 +60,7 @@ pub fn distinct<H: KeyHash<Key> + Copy, S: RunStore, R: RowSource<S>, K: GroupSi
         Ok(spent) => {
             return Ok(spent);
         }
-        // Without sums none is out of range, unless the store lies.
+        // Without sums none is out of range, unless the store isn't honest.
         Err(Refusal::SumRange) => {
             return Err(Refusal::Damaged);
         }

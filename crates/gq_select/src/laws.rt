@@ -1,5 +1,5 @@
-//! Laws: what the definitions come to, in the subject's own words. Each is the contract of a
-//! function that does nothing.
+//! Laws: what the definitions imply, in the subject's own words. Each is the contract of a function that does
+//! nothing.
 ghost use Rattle.gq_select.specs.Laws.{AndIsOfTwo, TwoValuedWithoutNull, KeepsWhatIsTrue};
 ghost use Rattle.gq_select.specs.Laws.{ComparisonsAgree, MindsCase, NullHasNoMatch};
 
@@ -13,18 +13,18 @@ pub fn two_valued_without_null()
     ensures { TwoValuedWithoutNull }
 {}
 
-/// A row is kept exactly where each test is true, and a comparison with null keeps none.
+/// A row is kept exactly if each test is true, and a comparison with null keeps none.
 pub fn keeps_what_is_true()
     ensures { KeepsWhatIsTrue }
 {}
 
-/// Three comparisons are the opposites of the others, and `=` holds of values that are equal, or the
-/// same where one is a text without case.
+/// Three comparisons are the opposites of the others, and `=` is true of values that are equal, or the same if
+/// one is a text without case.
 pub fn comparisons_agree()
     ensures { ComparisonsAgree }
 {}
 
-/// Values that have case are compared as they stand, and by their folds where one has none.
+/// Values that have case are compared by their plain order, and by their folds if one has none.
 pub fn minds_case()
     ensures { MindsCase }
 {}

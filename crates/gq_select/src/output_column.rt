@@ -5,18 +5,18 @@ ghost use Rattle.gq_select.specs.Asking.{is_valid_for as valid_for, takes_kind a
 use gq_agg::AggKind;
 use gq_row::{Column, Kind};
 
-/// What is shown of each group. A column of its rows is named by its position.
+/// What is shown of each group. A column of its rows is given by its position.
 #[derive(Clone, Copy, Debug, PartialEq, Eq)]
 pub enum OutputColumn {
     /// An aggregate of the values in a column. The column of `CountAll` is ignored.
     Aggregate(AggKind, usize),
-    /// How many different values there are in a column, nulls aside.
+    /// The number of distinct values in a column that aren't null.
     CountDistinct(usize),
 }
 
 impl OutputColumn {
-    /// Whether it can be made of rows that fit these columns: its column is one of them, and no
-    /// texts are summed.
+    /// Whether it can be shown of rows that fit these columns: its column is one of them, and no texts are
+    /// summed.
     pub fn is_valid_for(&self, columns: &[Column]) -> bool
         ensures { result ≡ valid_for columns.now self.now }
     {

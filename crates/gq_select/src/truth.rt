@@ -11,7 +11,7 @@ pub enum Truth {
 }
 
 impl Truth {
-    /// Whether it is neither false nor unknown.
+    /// Whether it is true: neither false nor unknown.
     #[inline]
     pub fn is_true(self) -> bool
         ensures { result ≡ is_true self }
@@ -19,7 +19,7 @@ impl Truth {
         matches!(self, Truth::True)
     }
 
-    // Of what is not unknown.
+    // The truth of an answer that is known.
     #[inline]
     pub(crate) fn decided(answer: bool) -> Truth
         ensures { result ≡ decided answer }
