@@ -1,7 +1,7 @@
-//! What of all is measured.
+//! The choice of what is measured.
 use crate::topic::{TOPICS, Topic};
 
-/// All works, or those that a word names: by their own name, or by that of their topic.
+/// All works, or those that a word names: by their own name, or by their topic's.
 #[derive(Clone, Copy)]
 pub(crate) enum Choice<'a> {
     All,
@@ -9,7 +9,7 @@ pub(crate) enum Choice<'a> {
 }
 
 impl<'a> Choice<'a> {
-    /// The works that a word names, if it names some.
+    /// The works that a word names, if it names any.
     pub(crate) fn of(word: &'a str) -> Option<Choice<'a>> {
         let choice = Choice::Named(word);
         for topic in TOPICS {
@@ -27,7 +27,7 @@ impl<'a> Choice<'a> {
             .any(|&(_, name)| self.takes(topic, name))
     }
 
-    /// Whether the work of a name is among them.
+    /// Whether the work with a name is chosen.
     pub(crate) fn takes(self, topic: Topic, name: &str) -> bool {
         match self {
             Choice::All => true,

@@ -2,7 +2,7 @@
 use std::time::SystemTime;
 use std::{env, io};
 
-/// The path of a folder that there isn't yet, below that of temporary files.
+/// The path of a folder that doesn't exist yet, below that of temporary files.
 pub(crate) fn fresh_path(rt: &HostRuntime) -> io::Result<String> {
     let nanoseconds = match SystemTime::now(rt)?.duration_since(SystemTime::UNIX_EPOCH) {
         Ok(age) => age.as_nanos(),

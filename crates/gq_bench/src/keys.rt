@@ -1,4 +1,4 @@
-//! A flat map of the rows' keys, by itself.
+//! A flat map of the rows' keys, without an engine.
 use crate::shape::Shape;
 use crate::timing::{Timing, nanoseconds_since};
 use gq_row::{Key, KeyRef, Row};

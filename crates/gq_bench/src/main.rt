@@ -1,23 +1,22 @@
-//! The program `gq_bench`: how long an engine takes to load rows, to take them line by line, to
-//! show them and to group them.
+//! The program `gq_bench`: how long an engine takes to load rows, to take them line by line, to show them and
+//! to group them.
 //!
-//! Its rows have a key and a number. The keys are numbers or texts, and few, many or all of them
-//! differ. Beside the works stand those that they are compared with:
+//! Its rows have a key and a number. The keys are numbers or texts, and few, many or all of them are distinct.
+//! These are the baselines:
 //!
-//! - two readings of a load's bytes: by the csv crate alone, and by the csv crate with one insertion
-//!   into a flat map for each record;
+//! - for loads, the same bytes read by the csv crate alone, and by the csv crate with one insertion into a flat
+//!   map for each record;
 //! - for groups, a look-up and an insertion of each row's key in a flat map;
 //! - for conditions, the same count without one;
-//! - for groups within a budget, of which there are a fifth as many as rows, a budget that holds
-//!   them all. Their runs stand in memory, or in a folder;
+//! - for groups within a budget, of which there are a fifth as many as rows, a budget that has room for all.
+//!   Their runs are in memory, or in a folder;
 //! - for texts without case, the same texts with case;
-//! - for a rollup of two columns, its three groupings by commands of their own;
-//! - for reports, which are rows of three columns, with four aggregates: the same with one and with
-//!   two, and for those within a budget a budget that holds all groups.
+//! - for a rollup of two columns, its three groupings as separate commands;
+//! - for reports, which are rows of three columns, with four aggregates: the same with one and with two, and
+//!   for those within a budget a budget that has room for all groups.
 //!
-//! The arguments are numbers of rows, and before them may stand what is measured alone. Without any
-//! the program says so, and measures nothing. What it prints rests on the machine: no contract
-//! speaks of time.
+//! The arguments are numbers of rows, optionally after what is to be measured alone. Without any the program
+//! prints its usage, and measures nothing. Its figures depend on the machine: no contract covers them.
 #![tactic(auto)]
 
 mod choice;
@@ -37,7 +36,7 @@ use crate::choice::Choice;
 use crate::report::report;
 use std::{env, io};
 
-// The greatest number of rows, so that a payload stays within its limit.
+// The largest number of rows, so that a payload stays within its limit.
 const MOST_ROWS: usize = 8_000_000;
 
 const USAGE: &str = "usage: gq_bench [WORKS] ROWS.. (as 10000 1000000): times of an engine
@@ -60,7 +59,7 @@ fn main(rt: HostRuntime) -> io::Result<()> {
     Ok(())
 }
 
-// What is measured, and the place of the first number of rows.
+// What is measured, and the position of the first number of rows.
 fn chosen(arguments: &[String]) -> (Choice<'_>, usize) {
     match arguments.get(1) {
         Some(word) => match Choice::of(word.as_str()) {

@@ -1,4 +1,4 @@
-//! The bytes of a load, read by the csv crate.
+//! Reading the bytes of a load by the csv crate.
 use crate::script::push_payload;
 use crate::shape::Shape;
 use crate::timing::{Timing, nanoseconds_since};
@@ -20,7 +20,7 @@ pub(crate) fn time_csv(rt: &HostRuntime, shape: Shape, rows: usize) -> io::Resul
     })
 }
 
-/// The csv crate, and the first field of each record goes into a flat map with room for all.
+/// The csv crate, with one insertion of each record's first field into a flat map with room for all.
 pub(crate) fn time_csv_and_map(rt: &HostRuntime, shape: Shape, rows: usize) -> io::Result<Timing> {
     let payload = payload_of(rt.alloc(), shape, rows)?;
     let start = Instant::now(rt)?;

@@ -6,10 +6,10 @@ use crate::work::{Work, time};
 use std::alloc::{AllocError, Global};
 use std::io;
 
-// How often a work is done; the least time counts.
+// How often each work is done; the least time counts.
 const REPEATS: u32 = 3;
 
-/// Prints, for each work that is chosen and each shape of so many rows, the least time.
+/// Prints the least time of each chosen work, for each shape of rows.
 pub(crate) fn report(rt: &HostRuntime, choice: Choice<'_>, rows: usize) -> io::Result<()> {
     for topic in TOPICS {
         report_topic(rt, choice, topic, rows)?;
@@ -49,7 +49,7 @@ fn lines_of(alloc: Global, choice: Choice<'_>, topic: Topic) -> Result<Vec<Line>
     Ok(lines)
 }
 
-// Does the works by turns, so that what slows the machine for a while slows them all.
+// Does the works by turns, so that a pause of the machine affects all of them.
 fn take_turns(
     rt: &HostRuntime,
     lines: &mut Vec<Line>,

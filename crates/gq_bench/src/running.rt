@@ -11,7 +11,7 @@ use std::time::Instant;
 use std::{fs, io};
 use sw_probe::WordHash;
 
-/// A task for an engine with the greatest budget, and with its runs in memory.
+/// A task of an engine with the largest budget, and with its runs in memory.
 pub(crate) fn time_task(
     rt: &HostRuntime,
     task: Task,
@@ -22,7 +22,7 @@ pub(crate) fn time_task(
     time_scripts(rt, &scripts, GREATEST, MemStore::new(rt.alloc()))
 }
 
-/// A task for an engine with a budget of so many groups.
+/// A task of an engine with a budget of `groups` groups.
 pub(crate) fn time_within(
     rt: &HostRuntime,
     task: Task,
@@ -38,7 +38,7 @@ pub(crate) fn time_within(
     }
 }
 
-// With runs in a folder of its own, which is gone then.
+// With runs in a folder of its own, which is removed at the end.
 fn time_in_folder(rt: &HostRuntime, scripts: &Scripts, groups: u32) -> io::Result<Timing> {
     let folder = fresh_path(rt)?;
     let store = DirStore::new(rt.alloc(), rt, folder.as_str())?;
@@ -48,7 +48,7 @@ fn time_in_folder(rt: &HostRuntime, scripts: &Scripts, groups: u32) -> io::Resul
     timing
 }
 
-// The time of the script that asks, on an engine that has run the one before it.
+// The time of the second script, on an engine that has run the first.
 fn time_scripts<S: RunStore + Drop>(
     rt: &HostRuntime,
     scripts: &Scripts,
@@ -78,7 +78,7 @@ fn time_scripts<S: RunStore + Drop>(
     })
 }
 
-// Runs a script, and tells whether none of its commands was refused.
+// Runs a script, and returns whether no command was refused.
 fn answer<S: RunStore>(
     engine: &mut Engine<WordHash, S>,
     script: &[u8],

@@ -15,7 +15,7 @@ pub(crate) fn create_rows(shape: Shape, keyed: bool) -> &'static [u8] {
     }
 }
 
-/// The line that makes the table `t` of rows that have a second column, of seven numbers, to be grouped by.
+/// The line that makes the table `t` of rows with a second column, of seven numbers, to be grouped by.
 fn create_wide(shape: Shape) -> &'static [u8] {
     match shape.kind {
         Kind::Int => b"create t (k int, b int, v int)\n",
@@ -24,7 +24,7 @@ fn create_wide(shape: Shape) -> &'static [u8] {
     }
 }
 
-/// Appends what makes that table and loads the rows into it.
+/// Appends the lines that make that table and load the rows.
 pub(crate) fn push_wide(out: &mut Vec<u8>, shape: Shape, rows: usize) -> Result<(), AllocError> {
     out.extend_from_slice(create_wide(shape))?;
     out.extend_from_slice(b"load t\nk,b,v\n")?;
@@ -39,7 +39,7 @@ pub(crate) fn push_wide(out: &mut Vec<u8>, shape: Shape, rows: usize) -> Result<
     out.extend_from_slice(b"\\.\n")
 }
 
-/// The line that makes the table `s` of reports: a number of its own for each, a city, and another number.
+/// The line that makes the table `s` of reports: an identifier, a city, and another number.
 fn create_reports(shape: Shape) -> &'static [u8] {
     match shape.kind {
         Kind::Int => b"create s (id int, city int, x int)\n",
@@ -48,7 +48,7 @@ fn create_reports(shape: Shape) -> &'static [u8] {
     }
 }
 
-/// Appends what makes that table and loads the rows into it, with their keys as cities.
+/// Appends the lines that make that table and load the rows, with their keys as cities.
 pub(crate) fn push_reports(out: &mut Vec<u8>, shape: Shape, rows: usize) -> Result<(), AllocError> {
     out.extend_from_slice(create_reports(shape))?;
     out.extend_from_slice(b"load s\nid,city,x\n")?;
@@ -82,7 +82,7 @@ pub(crate) fn push_load(out: &mut Vec<u8>, shape: Shape, rows: usize) -> Result<
     out.extend_from_slice(b"\\.\n")
 }
 
-/// Appends the rows as lines `upsert`.
+/// Appends the rows as `upsert` lines.
 pub(crate) fn push_upserts(out: &mut Vec<u8>, shape: Shape, rows: usize) -> Result<(), AllocError> {
     let quote: &[u8] = if is_number(shape) { b"" } else { b"'" };
     for row in 0..rows {
@@ -97,7 +97,7 @@ pub(crate) fn push_upserts(out: &mut Vec<u8>, shape: Shape, rows: usize) -> Resu
     Ok(())
 }
 
-/// Appends what makes the table `u`, with a key, and loads each key of the rows into it, once.
+/// Appends the lines that make the table `u`, with a key, and load each distinct key of the rows.
 pub(crate) fn push_keys(out: &mut Vec<u8>, shape: Shape, rows: usize) -> Result<(), AllocError> {
     out.extend_from_slice(create_keys(shape))?;
     out.extend_from_slice(b"load u\nk\n")?;

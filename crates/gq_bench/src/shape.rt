@@ -2,19 +2,19 @@
 use gq_row::{Kind, Row, Text, Value};
 use std::alloc::{AllocError, Global};
 
-// A prime above every number of keys.
+// A prime larger than any number of keys.
 const STRIDE: u64 = 2_654_435_761;
 
-/// What the keys of rows are like.
+/// The keys of rows.
 #[derive(Clone, Copy)]
 pub(crate) struct Shape {
     pub(crate) name: &'static str,
     pub(crate) kind: Kind,
-    /// How many rows share a key, or 0 where there are a hundred keys in all.
+    /// How many rows share a key, or 0 if there are a hundred keys in all.
     pub(crate) shared_by: usize,
 }
 
-/// Few keys, many, and all different.
+/// Few keys, many, and as many as rows.
 pub(crate) const SHAPES: [Shape; 6] = [
     Shape {
         name: "few numbers",
@@ -96,13 +96,13 @@ pub(crate) const FIFTHS: [Shape; 2] = [
     },
 ];
 
-/// The number in a report, from 0 to 999: they come in no order.
+/// The number in a report, from 0 to 999, in no order.
 pub(crate) fn report_number(row: usize) -> u64 {
     ((row as u64).wrapping_mul(STRIDE) >> 16) % 1000
 }
 
 impl Shape {
-    /// How many keys there are among so many rows.
+    /// The number of distinct keys of `rows` rows.
     pub(crate) fn keys(&self, rows: usize) -> usize {
         match self.shared_by {
             0 => 100,
@@ -110,8 +110,7 @@ impl Shape {
         }
     }
 
-    /// The number of the key of a row: the keys come in no order, and of as many rows as there are
-    /// keys each has another.
+    /// The number of a row's key. The keys are in no order, and are repeated only after all have appeared.
     pub(crate) fn key_of(&self, row: usize, rows: usize) -> u64 {
         let keys = (self.keys(rows) as u64).max(1);
         (row as u64).wrapping_mul(STRIDE) % keys

@@ -1,4 +1,4 @@
-//! What an engine is asked to do.
+//! The tasks of an engine.
 use crate::script::{create_rows, push_keys, push_load, push_reports, push_upserts, push_wide};
 use crate::shape::Shape;
 use std::alloc::{AllocError, Global};
@@ -6,39 +6,39 @@ use std::alloc::{AllocError, Global};
 /// A task of an engine.
 #[derive(Clone, Copy)]
 pub(crate) enum Task {
-    /// A load into an empty table with a key.
+    /// Loads rows into an empty table with a key.
     Load,
-    /// A load into an empty table without a key.
+    /// Loads rows into an empty table without a key.
     LoadWithoutKey,
-    /// The rows, each by a line of its own, into a table with a key.
+    /// Upserts rows into a table with a key, by a line each.
     Upsert,
-    /// The rows of a table with a key shown in order.
+    /// Shows the rows of a table with a key, in order.
     Show,
-    /// The rows of a table without a key counted by their keys.
+    /// Counts the rows of a table without a key, by their keys.
     Count,
-    /// The same of the rows for which a condition on their numbers is true, which it is for all.
+    /// The same under a condition on their numbers, which is true for all.
     CountWhere,
-    /// The same of the rows whose keys another table has, which has all of them.
+    /// The same of the rows whose keys are in another table, which has all of them.
     CountExists,
-    /// The numbers of these rows summed by their keys.
+    /// Sums the numbers of these rows, by their keys.
     Sum,
-    /// The different keys of these rows.
+    /// The distinct keys of these rows.
     Distinct,
-    /// Four aggregates of rows with a second column, by their keys and that.
+    /// Four aggregates of rows, by their keys and a second column.
     Wide,
-    /// The same of a rollup of both columns.
+    /// The same with a rollup of both columns.
     Rollup,
-    /// The same of the three groupings of that rollup, by a command each.
+    /// The same three groupings as that rollup, by a command each.
     Levels,
-    /// Reports counted by their cities.
+    /// Counts reports by their cities.
     OneAggregate,
     /// The same with the sum of their numbers.
     TwoAggregates,
-    /// The same with the least and the greatest number, too.
+    /// The same with the minimum and the maximum number, too.
     FourAggregates,
 }
 
-/// The script that makes what a task is about, and the one that asks for it.
+/// The script that makes the tables of a task, and the one that is measured.
 #[derive(Drop)]
 pub(crate) struct Scripts {
     pub(crate) before: Vec<u8>,
@@ -46,7 +46,7 @@ pub(crate) struct Scripts {
 }
 
 impl Task {
-    /// Its scripts for so many rows.
+    /// The scripts for `rows` rows.
     pub(crate) fn scripts(
         self,
         alloc: Global,

@@ -2,8 +2,7 @@
 use std::io;
 use std::time::Instant;
 
-/// The nanoseconds that a work took once, and how many bytes or records came of it: 0 where it
-/// went wrong.
+/// The nanoseconds of a work that was done once, and how many bytes or records it produced; 0 if it failed.
 #[derive(Clone, Copy)]
 pub(crate) struct Timing {
     pub(crate) nanoseconds: u64,

@@ -1,9 +1,9 @@
-//! Works that belong together, by their names.
+//! Topics: works that belong together, and their names.
 use crate::shape::{CASES, FIFTHS, SHAPES, Shape};
 use crate::task::Task;
 use crate::work::{GREATEST, Place, Work};
 
-/// What works are about.
+/// A topic of works.
 #[derive(Clone, Copy)]
 pub(crate) enum Topic {
     /// Rows put into tables, and shown.
@@ -12,7 +12,7 @@ pub(crate) enum Topic {
     Groups,
     /// Groups within budgets.
     Budgets,
-    /// Texts with case and without, side by side.
+    /// Texts with case, and the same without.
     Cases,
     /// Groups by two columns with four aggregates, and totals.
     Totals,
@@ -22,7 +22,7 @@ pub(crate) enum Topic {
     ReportBudgets,
 }
 
-/// All of them.
+/// All topics.
 pub(crate) const TOPICS: [Topic; 7] = [
     Topic::Tables,
     Topic::Groups,
@@ -111,7 +111,7 @@ const BUDGETS: [(Work, &str); 6] = [
 ];
 
 impl Topic {
-    /// Its name. Topics of one name are chosen together.
+    /// The topic's name. Topics with one name are chosen together.
     pub(crate) fn name(self) -> &'static str {
         match self {
             Topic::Tables => "tables",
@@ -123,7 +123,7 @@ impl Topic {
         }
     }
 
-    /// Its works, each with its name.
+    /// The topic's works, each with its name.
     pub(crate) fn works(self) -> &'static [(Work, &'static str)] {
         match self {
             Topic::Tables => &TABLES,
@@ -136,7 +136,7 @@ impl Topic {
         }
     }
 
-    /// The shapes of the rows that they are done on.
+    /// The shapes of rows that the works are done on.
     pub(crate) fn shapes(self) -> &'static [Shape] {
         match self {
             Topic::Tables => &SHAPES,

@@ -7,10 +7,10 @@ use crate::task::Task;
 use crate::timing::Timing;
 use std::io;
 
-/// The greatest budget that there is.
+/// The largest budget.
 pub(crate) const GREATEST: u32 = 1_048_576;
 
-/// Where runs stand.
+/// Where runs are stored.
 #[derive(Clone, Copy)]
 pub(crate) enum Place {
     Memory,
@@ -28,13 +28,13 @@ pub(crate) enum Work {
     Find,
     /// One insertion for each row into a flat map that grows.
     Insert,
-    /// What an engine does with the greatest budget, and with its runs in memory.
+    /// A task of an engine with the largest budget, and with its runs in memory.
     Run(Task),
-    /// What an engine does with at most so many groups at once.
+    /// A task of an engine with a budget of this number of groups.
     Within(Task, u32, Place),
 }
 
-/// Does a work on so many rows, once. What it works on is made before the clock starts.
+/// Does a work on `rows` rows, once. Its data are made before the clock starts.
 pub(crate) fn time(rt: &HostRuntime, work: Work, shape: Shape, rows: usize) -> io::Result<Timing> {
     match work {
         Work::Csv => time_csv(rt, shape, rows),

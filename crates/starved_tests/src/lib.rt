@@ -1,29 +1,28 @@
-//! All memory of a process but a little, for tests in which requests are refused: first with none
-//! left, then with a little more each time, so that each request is the first to be refused in some
-//! run.
+//! All memory of a process but a little, for tests in which allocations fail: first with none left, then with a
+//! little more each time, so that each allocation is the first to fail in some run.
 //!
-//! The memory is taken by blocks that are held and never written to. A test that takes it has a
-//! process of its own, so no other notices.
+//! The memory is allocated in blocks that are held and never written to. A test that does so has a process of
+//! its own, so no other is affected.
 //!
-//! Where all addresses are taken a stack can't grow, and a process whose stack has to is ended by a
-//! signal. So a test does once with memory to spare what it is going to do without.
+//! If no addresses are left a stack can't grow, and a process whose stack has to is ended by a signal. So a
+//! test first does once, with enough memory, what it will do without.
 #![tactic(auto)]
 
 use std::alloc::{AllocError, Global};
 
-/// The most bytes that a run can have, so few that the allocator keeps them among its own.
+/// The most bytes that a run can have, few enough for the allocator to take them from its heap.
 pub const POOL: usize = 100_000;
 
 /// How many runs there can be.
 pub const POOLS: usize = 1_000;
 
-// More blocks than there are of any size that is tried.
+// More blocks than are ever held.
 const BLOCKS: usize = 500_000;
 
-// The first size that is tried, in bytes: half of what a process can address.
+// The first size of blocks, in bytes: half of what a process can address.
 const GREATEST: usize = 1 << 46;
 
-/// All memory that there was, some of it in pools that can be given back.
+/// All memory that there was, some of it in pools that can be freed.
 #[derive(Drop)]
 pub struct Starved {
     held: Vec<Vec<u8>>,
@@ -31,8 +30,8 @@ pub struct Starved {
 }
 
 impl Starved {
-    /// Takes the pools, and then blocks of the greatest size until none is had, then of half of it,
-    /// down to one byte.
+    /// Allocates the pools, and then blocks of the largest size until that fails, then of half the size, down
+    /// to one byte.
     pub fn new(alloc: Global) -> Result<Starved, AllocError> {
         let mut pools = Vec::with_capacity(alloc, POOLS)?;
         for _ in 0..POOLS {
@@ -48,7 +47,7 @@ impl Starved {
         Ok(starved)
     }
 
-    // Takes blocks of one size until none is had.
+    // Allocates blocks of one size until that fails.
     fn take_all(&mut self, alloc: Global, size: usize) {
         for _ in self.held.len()..self.held.capacity() {
             let Ok(block) = Vec::with_capacity(alloc, size) else {
@@ -58,8 +57,8 @@ impl Starved {
         }
     }
 
-    // Takes what little there is: blocks of each small size, then of half the size each time, then of
-    // each small size.
+    // Allocates what little there is: blocks of each small size, then of half the size each time, then of each
+    // small size.
     fn take_rest(&mut self, alloc: Global) {
         for k in 0..64usize {
             self.take_all(alloc, 24 + 16 * k);
@@ -72,13 +71,13 @@ impl Starved {
         }
     }
 
-    /// Leaves so many bytes, or none where there is no pool any more, for one run.
+    /// Leaves `bytes` bytes for one run, or none if no pool is left.
     pub fn leave(&mut self, alloc: Global, bytes: usize) -> Result<Vec<u8>, AllocError> {
         drop(self.pools.pop());
         Vec::with_capacity(alloc, POOL.saturating_sub(bytes))
     }
 
-    /// Takes back what a run had, and what was kept from it.
+    /// Allocates again what a run had, and takes over what was kept from it.
     pub fn end(&mut self, alloc: Global, kept: Vec<u8>) {
         if self.held.len() < self.held.capacity() {
             let _ = self.held.push(kept);

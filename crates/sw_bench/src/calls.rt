@@ -3,21 +3,21 @@
 /// A kind of call.
 #[derive(Clone, Copy)]
 pub(crate) enum Call {
-    /// An insertion of a new key into a map that grows from nothing.
+    /// Insert a new key into a map that grows from empty.
     Insert,
-    /// An insertion of a new key into a map that has room for all.
+    /// Insert a new key into a map that has room for all.
     ReservedInsert,
-    /// A look-up of a key that is there, in another order than the keys came.
+    /// Look up a key that is there, in another order than that of insertion.
     Hit,
-    /// A look-up of a key that is not there.
+    /// Look up a key that is absent.
     Miss,
-    /// One key removed and another inserted.
+    /// Remove a key and insert another.
     Churn,
-    /// One more counted of a key, new or not, in a map that grows from nothing.
+    /// Add one to the count of a key, new or not, in a map that grows from empty.
     Count,
-    /// A step from entry to entry.
+    /// Move to the next entry.
     Iterate,
-    /// An entry that a clear drops.
+    /// Drop an entry by a clear.
     Clear,
 }
 

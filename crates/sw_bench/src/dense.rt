@@ -4,8 +4,8 @@ use crate::map::Map;
 use std::alloc::{AllocError, Global};
 use std::collections::HashMap;
 
-/// A dense map of numbers. It hashes the lowest byte of a number first, so its keys have their
-/// bytes swapped, and the hashes are those of the flat map.
+/// A dense map of numbers. It hashes the lowest byte of a number first, so the bytes of keys are swapped to get
+/// the hashes of the flat map.
 #[derive(Drop)]
 pub(crate) struct DenseNumbers {
     map: HashMap<u64, u64, FnvStart, Global>,

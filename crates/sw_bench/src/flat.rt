@@ -4,7 +4,7 @@ use std::alloc::{AllocError, Global};
 use sw_flat::{Entry, FlatMap};
 use sw_probe::{ByteKey, Direct, Fnv1a, KeyHash, WordHash};
 
-/// A hasher to begin with.
+/// A hasher that can be made.
 pub(crate) trait Start: Drop {
     fn start() -> Self;
 }

@@ -9,7 +9,7 @@ const START: u64 = 0xcbf2_9ce4_8422_2325;
 
 const PRIME: u64 = 0x0000_0100_0000_01b3;
 
-// One byte into a hash: xor, then multiply.
+// One step of the hash: xor, then multiply.
 struct FnvStep;
 
 impl Step for FnvStep {
@@ -21,7 +21,7 @@ impl Step for FnvStep {
     }
 }
 
-/// FNV-1a of 64 bits, seed 0, over the bytes as they come.
+/// FNV-1a of 64 bits, seed 0, over bytes in order.
 #[derive(Drop)]
 pub(crate) struct FnvHasher {
     hash: u64,
@@ -43,7 +43,7 @@ impl Hasher for FnvHasher {
     }
 }
 
-/// Starts each hash anew.
+/// Makes the hasher of each key.
 #[derive(Clone, Copy)]
 pub(crate) struct FnvStart;
 

@@ -2,7 +2,7 @@
 use gq_row::{Key as RowKey, Text, Value};
 use std::alloc::{AllocError, Global};
 
-/// A key that is made of a number, and tells one.
+/// A key that is made from a number.
 pub(crate) trait Key: Sized + Drop {
     fn of(alloc: Global, number: u64) -> Result<Self, AllocError>;
 
@@ -73,7 +73,7 @@ impl Key for String {
     }
 }
 
-/// A key of one text, which stands in the key itself.
+/// A key of one text, which is stored inline.
 impl Key for RowKey {
     fn of(alloc: Global, number: u64) -> Result<RowKey, AllocError> {
         let letters: String = Key::of(alloc, number)?;
@@ -96,7 +96,8 @@ impl Key for RowKey {
     }
 }
 
-/// Keys to hold, as many to ask for among them, in another order, and as many others.
+/// Keys to insert, the same number of keys to look up, which are among these in another order, and of absent
+/// ones.
 #[derive(Drop)]
 pub(crate) struct Keys<K> {
     pub(crate) held: Vec<K>,
@@ -105,7 +106,7 @@ pub(crate) struct Keys<K> {
 }
 
 impl<K: Key> Keys<K> {
-    /// So many of each.
+    /// `n` of each.
     pub(crate) fn new(alloc: Global, n: usize) -> Result<Keys<K>, AllocError> {
         let (mut held, mut asked) = (Vec::new(alloc), Vec::new(alloc));
         let mut absent = Vec::new(alloc);
@@ -132,7 +133,7 @@ pub(crate) fn copies<K: Key>(alloc: Global, keys: &[K]) -> Result<Vec<K>, AllocE
     Ok(copied)
 }
 
-// A permutation of the numbers of 64 bits that looks random: the end of SplitMix64.
+// A pseudo-random permutation of the numbers of 64 bits: the last steps of SplitMix64.
 fn mixed(n: u64) -> u64 {
     let x = n.wrapping_mul(0x9e37_79b9_7f4a_7c15);
     let y = (x ^ (x >> 30)).wrapping_mul(0xbf58_476d_1ce4_e5b9);

@@ -1,15 +1,15 @@
-//! The program `sw_bench`: how long the calls of a flat map take, next to those of the toolchain's
-//! own `HashMap`.
+//! The program `sw_bench`: how long the calls of a flat map take, next to those of the toolchain's own
+//! `HashMap`.
 //!
-//! That map is a dense list of entries with an index of hashes beside it, as an `IndexMap` is, and
-//! no Swiss table: it iterates at the speed of a list, and pays for the index where entries come
-//! and go. Numbers have the very same FNV-1a hash in both; a text's hash takes one closing byte
-//! more in the dense map. The rows `direct` and `inline` are of the flat map alone.
+//! That map is a dense list of entries with an index of their hashes, as an `IndexMap` is, and no Swiss table:
+//! it iterates like a list, and also updates the index on each insertion and removal. Numbers have the same
+//! FNV-1a hash in both; a text's hash takes one closing byte more in the dense map. The rows `direct` and
+//! `inline` are of the flat map alone.
 //!
-//! The keys are numbers, and texts of 8 to 16 letters, which are looked up by a borrowed form: as
-//! lists of bytes under `text`, and under `inline` as the engine keeps them, each within its key. The
-//! arguments are numbers of keys. Without any the program says so, and measures nothing. What it
-//! prints rests on the machine: no contract speaks of time.
+//! The keys are numbers, and texts of 8 to 16 letters, which are looked up by a borrowed form: under `text`
+//! they are lists of bytes, and under `inline` keys as the engine stores them, with the text inline. The
+//! arguments are numbers of keys. Without any the program prints its usage, and measures nothing. Its figures
+//! depend on the machine: no contract covers them.
 #![tactic(auto)]
 
 mod calls;
@@ -25,7 +25,7 @@ mod timing;
 use crate::report::report;
 use std::{env, io};
 
-// The greatest number of keys, so that a table of them stays below half of its greatest size.
+// The largest number of keys, so that a table of them stays below half of its largest size.
 const MOST_KEYS: usize = 50_000_000;
 
 fn main(rt: HostRuntime) -> io::Result<()> {

@@ -16,7 +16,7 @@ pub(crate) trait Map: Sized + Drop {
 
     fn get(&self, key: &Self::Key) -> Option<u64>;
 
-    /// Adds one to the value of a key, which is copied only where it is new.
+    /// Adds one to the value of a key, which is copied only if it is new.
     fn count(&mut self, alloc: Global, key: &Self::Key) -> Result<(), AllocError>;
 
     fn remove(&mut self, key: &Self::Key) -> Option<u64>;

@@ -14,9 +14,8 @@ const ALL_CALLS: u64 = 2_000_000;
 
 const REPEATS: u32 = 5;
 
-/// Prints, for each kind of call on so many keys, the nanoseconds of one call of the flat map and of
-/// the dense map, and the quotient: of numbers, of numbers that are their own hash, of texts, and of
-/// texts as the engine keeps them, by their bytes and by their words.
+/// Prints, for each kind of call with `n` keys, the nanoseconds of a call of the flat map and of the dense map,
+/// and their quotient. The head of `main` says what the keys are.
 pub(crate) fn report(rt: &HostRuntime, n: usize) -> io::Result<()> {
     report_both::<FlatNumbers<Fnv1a>, DenseNumbers>(rt, n, "fnv")?;
     report_flat::<FlatNumbers<WordHash>>(rt, n, "words")?;
@@ -46,7 +45,7 @@ fn report_flat<F: Map>(rt: &HostRuntime, n: usize, hash: &str) -> io::Result<()>
     Ok(())
 }
 
-// The least time of a call, in tenths of a nanosecond, and a sum of what the calls answered.
+// The least time of a call, in tenths of a nanosecond, and a sum of the results.
 #[derive(Clone, Copy)]
 struct Least {
     tenths: u64,

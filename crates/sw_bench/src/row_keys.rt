@@ -1,4 +1,4 @@
-//! The flat map of this repository, of keys as the engine keeps them.
+//! The flat map of this repository, of keys as the engine stores them.
 use crate::flat::Start;
 use crate::keys::Key;
 use crate::map::Map;

@@ -6,15 +6,15 @@ use std::alloc::{AllocError, Global};
 use std::io;
 use std::time::Instant;
 
-/// How long so many rounds took, and a sum of what the calls answered.
+/// The time of some rounds, and a sum of the results.
 #[derive(Clone, Copy)]
 pub(crate) struct Timing {
     pub(crate) nanoseconds: u64,
     pub(crate) sum: u64,
 }
 
-/// The time of some rounds of calls on a map, each with every key. The copies of keys that a call
-/// takes are made before the clock starts.
+/// Times rounds of calls on a map, each with every key. Keys that a call takes are copied before the clock
+/// starts.
 pub(crate) fn time<M: Map>(
     rt: &HostRuntime,
     call: Call,
@@ -88,7 +88,7 @@ fn time_gets<M: Map>(
     Ok(Timing { nanoseconds, sum })
 }
 
-// The keys of the one list leave and those of the other come, and the other way round.
+// Removes the keys of one list and inserts those of the other, and then the other way round.
 fn time_churn<M: Map>(
     rt: &HostRuntime,
     held: &[M::Key],

@@ -1,4 +1,4 @@
-//! Entries by keys that are only asked for.
+//! Entries by borrowed keys.
 use crate::expected::expect;
 use std::alloc::Global;
 use std::process::Abort;
@@ -22,7 +22,7 @@ fn count(alloc: Global, words: &mut Words, text: &[u8]) -> Result<(), Fail> {
     Ok(())
 }
 
-// The key that is stored, of a text.
+// The stored key of a text.
 fn stored<'a>(words: &'a Words, text: &[u8]) -> Option<&'a Vec<u8>> {
     match words.entry(&ByteKey(text)) {
         Entry::Occupied(slot) => Some(words.entry_at(slot).0),

@@ -1,5 +1,5 @@
-//! The snippets of docs/LIBRARY.md, word for word: each is a function here, or a type with its
-//! impls, and is run by the tests. What this program prints stands on the page too.
+//! The snippets of docs/LIBRARY.md, word for word: each is a function here, or a type with its impls, and is
+//! run by the tests. The page has the output of this program too.
 #![tactic(auto)]
 
 #[cfg(test)]

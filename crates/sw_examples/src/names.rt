@@ -1,4 +1,4 @@
-//! A key type of one's own: names that are the same in capitals.
+//! A key type of your own: names that are the same in capitals.
 ghost use Rattle.std.specs.Prelude.{◌≡◌, ◌∷◌, [], map, fold, string_bytes};
 ghost use Rattle.std.specs.Char.{to_ascii_lowercase};
 ghost use Rattle.sw_probe.specs.Hashes.{fnv_of};

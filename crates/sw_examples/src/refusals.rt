@@ -1,4 +1,4 @@
-//! What is refused, and what comes back.
+//! Errors, and what they return.
 use crate::expected::expect;
 use crate::map::Stock;
 use std::process::Abort;

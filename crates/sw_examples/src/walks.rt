@@ -57,7 +57,7 @@ fn sorted(stock: Stock) -> Result<Vec<(u64, u64)>, Fail> {
     Ok(list)
 }
 
-// Room for a hundred, the slots placed anew, and no entry left in them.
+// Makes room for a hundred entries, rehashes, and drops all entries.
 fn tidy(stock: &mut Stock) -> Result<(), Fail> {
     stock.reserve(100)?;
     stock.rehash();
@@ -65,7 +65,7 @@ fn tidy(stock: &mut Stock) -> Result<(), Fail> {
     Ok(())
 }
 
-// Five articles, and five more that come from the other.
+// Five articles, and five more from the other map.
 fn gone_over(rt: &impl Abort, stock: &mut Stock, other: &mut Stock) -> Result<(), Fail> {
     ten_of_each(stock, 0, 11)?;
     withdraw(stock, 9, 10);

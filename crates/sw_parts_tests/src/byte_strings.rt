@@ -1,11 +1,11 @@
-//! Byte strings that are the same, by their lengths.
+//! Comparing byte strings, by their lengths.
 use crate::expected::{expect, expect_at};
 use std::alloc::{AllocError, Global};
 use std::process::Abort;
 use std::test::Fail;
 use sw_probe::same_bytes;
 
-// Bytes of which the one at a place is another.
+// The bytes, with another one at a position.
 fn altered(alloc: Global, bytes: &[u8], at: usize) -> Result<Vec<u8>, AllocError> {
     let mut other = Vec::from_slice(alloc, bytes)?;
     if let Some(byte) = other.get_mut(at) {
@@ -20,7 +20,7 @@ fn longer(alloc: Global, bytes: &[u8]) -> Result<Vec<u8>, AllocError> {
     Ok(longer)
 }
 
-// Some bytes are the same as their copy, and not as bytes of which one is another, or one more.
+// Bytes are equal to their copy, and not to bytes with another one, or one more.
 fn tell_apart(rt: &impl Abort, alloc: Global, one: &[u8]) -> Result<(), Fail> {
     let copy = Vec::from_slice(alloc, one)?;
     expect(rt, same_bytes(one, copy.as_slice()), true);

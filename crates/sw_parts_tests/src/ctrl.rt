@@ -4,7 +4,7 @@ use std::process::Abort;
 use std::test::Fail;
 use sw_ctrl::{Ctrl, Group};
 
-// A group that begins with 5, a deleted byte and 5, and is empty behind.
+// A group that begins with 5, a deleted byte and 5, and is empty from there on.
 fn expect_masks(rt: &impl Abort, group: Group) {
     let found = group.match_h2(5);
     expect(rt, found.bits(), 0x0005);
@@ -37,12 +37,12 @@ fn masks_of_one_group(rt: HostRuntime) -> Result<(), Fail> {
     Ok(())
 }
 
-// The mask of a lane where something holds of its byte, and no lane else.
+// The mask of a lane if its byte passes, and else of none.
 fn mask_if(here: u16, holds: bool) -> u16 {
     if holds { here } else { 0 }
 }
 
-// Expects the masks of a group whose byte in one lane is this one, and whose others are deleted.
+// Expects the masks of a group with this byte in one lane, and deleted bytes in all others.
 fn expect_lane(rt: &impl Abort, group: Group, byte: u8, here: u16) {
     let empty = mask_if(here, byte == 0x80);
     let deleted = mask_if(here, byte == 0xfe);

@@ -1,6 +1,6 @@
-//! The functions on sixteen lanes behind calls that stay calls, so that their machine code can be
-//! read in the program of these tests. Each is a few instructions on all lanes at once, with no loop
-//! over lanes and no test of an index; only marking has a loop, over groups.
+//! The functions on sixteen lanes in calls that aren't inlined, so that their machine code can be read in the
+//! program of these tests. Each is a few instructions on all lanes at once, without a loop over lanes or a
+//! bounds check; only marking has a loop, over groups.
 ghost use Rattle.std.specs.Prelude.{◌≡◌, ◌*◌, ◌<◌, length};
 
 use crate::expected::expect;

@@ -1,8 +1,7 @@
-//! Tests of the parts of a Swiss table that stand below it: raw slots, control bytes, and the probe
-//! with its hashes.
+//! Tests of the parts of a Swiss table: raw slots, control bytes, and the probe with its hashes.
 //!
-//! They try what no contract says, as the values of a published hash, and worked examples whose
-//! answers were computed by hand. They stand here so that the crates below are proved without them.
+//! They test what no contract says, such as the values of a published hash, and worked examples with results
+//! computed by hand. They are in a crate of their own so that those of the parts are proved without them.
 #![tactic(auto)]
 
 #[cfg(test)]

@@ -14,7 +14,7 @@ fn hash_bytes<H: KeyHash<Vec<u8>>>(hasher: &H, bytes: &[u8]) -> u64 {
     hasher.hash(&ByteKey(bytes))
 }
 
-// At any type of keys: a key and a value that names its class hash alike.
+// For any type of keys: a key and a value that names its class have one hash.
 fn hashes_agree<K: Keyed, Q: Names<K>, H: KeyHash<K>>(hasher: &H, key: &K, name: &Q) -> bool
     ensures { Q.named name.now ≡ K.class key.now → IsTrue result }
 {
@@ -62,7 +62,7 @@ fn published_values_of_fnv_1a(rt: HostRuntime) {
     expect(&rt, hash_bytes(&seeded, b""), 0);
 }
 
-// The hashes of these were worked out by whole numbers of any size, from the definition.
+// These hashes were computed from the definition, with whole numbers of any size.
 #[test]
 fn words_of_each_length(rt: HostRuntime) {
     let due: [(&[u8], u64); 9] = [

@@ -4,7 +4,7 @@ use std::cell::Cell;
 use std::test::Fail;
 use sw_slots::Slots;
 
-// A value that counts when it is dropped.
+// A value that counts its drop.
 struct Counted<'a> {
     id: u64,
     drops: &'a Cell<u64>,
