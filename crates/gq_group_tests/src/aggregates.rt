@@ -5,7 +5,7 @@ use gq_row::{Text, Value};
 use std::alloc::{AllocError, Global};
 use std::test::Fail;
 
-/// What an aggregate of some values comes to, spelled out.
+/// The aggregate of some values, spelled out.
 fn aggregate(alloc: Global, kind: AggKind, values: &[Value]) -> Result<String, AllocError> {
     let mut agg = Agg::start(alloc, kind);
     for value in values {

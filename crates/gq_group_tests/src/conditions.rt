@@ -219,7 +219,7 @@ const WITHOUT_CASE: [Case; 9] = [
     ),
 ];
 
-/// Of the row (5, null, 'b'): a text beside one without case is compared as one.
+/// In the row (5, null, 'b'): a text compared with one without case is compared as one.
 #[test]
 fn comparisons_without_case(rt: HostRuntime) -> Result<(), Fail> {
     let row = worked_row(rt.alloc())?;
@@ -255,7 +255,7 @@ fn null_or_not(rt: HostRuntime) -> Result<(), Fail> {
     expect_null(&rt, rt.alloc(), &row, Side::Null, Truth::True)
 }
 
-/// A test of this truth in each row.
+/// A test with this truth in each row.
 fn always(truth: Truth) -> Test {
     let one = Operand::Literal(Value::Int(1));
     match truth {

@@ -1,9 +1,8 @@
-//! A store that counts what is done to it.
+//! A store that counts its calls.
 use gq_spill::{RunId, RunStore, StoreError, decode_row};
 use std::alloc::{AllocError, Global};
 
-/// A store that does as the one within, and counts the records that are appended and the runs that
-/// are live.
+/// A store that passes each call to its inner store, and counts the appended records and the live runs.
 #[derive(Drop)]
 pub(crate) struct Counting<S> {
     pub(crate) alloc: Global,
@@ -13,7 +12,7 @@ pub(crate) struct Counting<S> {
 }
 
 impl<S> Counting<S> {
-    /// The store within, of which no run is live.
+    /// Counts the calls of `inner`, which has no live runs.
     pub(crate) fn new(alloc: Global, inner: S) -> Counting<S> {
         Counting {
             alloc,
@@ -24,7 +23,7 @@ impl<S> Counting<S> {
     }
 }
 
-/// How many records stand at the front of some bytes, one after the other.
+/// The number of records that the bytes begin with.
 fn records_in(alloc: Global, bytes: &[u8]) -> Result<u64, AllocError> {
     let mut left = bytes;
     let mut count = 0u64;

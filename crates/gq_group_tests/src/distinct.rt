@@ -1,4 +1,4 @@
-//! Counts of different values.
+//! Counts of distinct values.
 ghost use Rattle.std.specs.Prelude.{◌≡◌};
 ghost use Rattle.gq_group.specs.Distinct.{all_have};
 ghost use Rattle.gq_group.specs.Groups.{has_columns as columns_there};
@@ -27,8 +27,7 @@ fn have_columns(columns: &[usize], rows: &VecDeque<Row>) -> bool
     rows.iter().all(|row| has_columns(columns, row))
 }
 
-/// The counts of the different values of a column within a budget of so many entries, spelled out, in
-/// the order of their spellings.
+/// The counts of distinct values of a column within a budget of `entries` entries, spelled out and sorted.
 fn counted<H: KeyHash<Key> + Copy>(
     alloc: Global,
     hasher: H,
@@ -41,7 +40,7 @@ fn counted<H: KeyHash<Key> + Copy>(
     counted_over(alloc, hasher, by, column, rows, &mut store, entries)
 }
 
-/// The same over a store.
+/// As `counted`, over a store.
 pub(crate) fn counted_over<H: KeyHash<Key> + Copy, S: RunStore>(
     alloc: Global,
     hasher: H,
@@ -86,8 +85,8 @@ pub(crate) fn counted_over<H: KeyHash<Key> + Copy, S: RunStore>(
     Ok(Answer { spent, groups })
 }
 
-/// What the counts come to under a hasher that spreads keys, one between, and one that hashes all
-/// alike, the last within a budget of one, two and seven, with a line for each.
+/// The counts under a hasher that spreads keys, one in between, and one with one hash for all, the last within
+/// a budget of one, two and seven.
 fn by_each_hasher(
     alloc: Global,
     by: &[usize],
@@ -108,7 +107,7 @@ fn by_each_hasher(
     Ok(answers)
 }
 
-/// Rows, the columns of their keys, the column whose values are counted, and what comes of it.
+/// Rows, the columns of their keys, the column whose values are counted, and the expected counts.
 type Case<'a> = (Rows, &'a [usize], usize, &'a str);
 
 const CASES: [Case; 19] = [
@@ -153,7 +152,7 @@ const CASES: [Case; 19] = [
     ),
 ];
 
-/// Asserts that each case comes to what is due under each hasher and budget.
+/// Asserts that each case has the expected counts under each hasher and budget.
 fn assert_cases(rt: &impl Abort, alloc: Global, cases: &[Case]) -> Result<(), Fail> {
     for (rows, by, column, due) in cases {
         for found in by_each_hasher(alloc, by, *column, *rows)?.as_slice() {

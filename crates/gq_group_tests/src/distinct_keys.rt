@@ -1,4 +1,4 @@
-//! The different keys of rows.
+//! The distinct keys of rows.
 ghost use Rattle.std.specs.Prelude.{◌≡◌};
 ghost use Rattle.std.specs.List.{list_all};
 ghost use Rattle.gq_group.specs.Groups.{has_columns as columns_there};
@@ -28,8 +28,7 @@ fn have_columns(columns: &[usize], rows: &VecDeque<Row>) -> bool
     rows.iter().all(|row| has_columns(columns, row))
 }
 
-/// The different keys of some rows within a budget of so many entries, spelled out, in the order of
-/// their spellings.
+/// The distinct keys of rows within a budget of `entries` entries, spelled out and sorted.
 fn keys<H: KeyHash<Key> + Copy>(
     alloc: Global,
     hasher: H,
@@ -41,7 +40,7 @@ fn keys<H: KeyHash<Key> + Copy>(
     keys_over(alloc, hasher, columns, rows, &mut store, entries)
 }
 
-/// The same over a store.
+/// As `keys`, over a store.
 pub(crate) fn keys_over<H: KeyHash<Key> + Copy, S: RunStore>(
     alloc: Global,
     hasher: H,
@@ -73,8 +72,8 @@ pub(crate) fn keys_over<H: KeyHash<Key> + Copy, S: RunStore>(
     Ok(Answer { spent, groups })
 }
 
-/// What the keys come to under a hasher that spreads keys, one between, and one that hashes all alike,
-/// the last within a budget of one, two and seven, with a line for each.
+/// The keys under a hasher that spreads keys, one in between, and one with one hash for all, the last within a
+/// budget of one, two and seven.
 fn by_each_hasher(alloc: Global, columns: &[usize], rows: Rows) -> Result<Vec<String>, AllocError> {
     let spread = keys(alloc, Fnv1a { seed: 0 }, columns, rows_of(alloc, rows)?, 2);
     let between = keys(alloc, LowBits(7), columns, rows_of(alloc, rows)?, 2);
@@ -88,7 +87,7 @@ fn by_each_hasher(alloc: Global, columns: &[usize], rows: Rows) -> Result<Vec<St
     Ok(answers)
 }
 
-/// Rows, the columns of their keys, and what comes of it.
+/// Rows, the columns of their keys, and the expected keys.
 type Case<'a> = (Rows, &'a [usize], &'a str);
 
 const CASES: [Case; 8] = [
@@ -118,7 +117,7 @@ const CASES: [Case; 8] = [
     ),
 ];
 
-/// Asserts that each case comes to what is due under each hasher and budget.
+/// Asserts that each case has the expected keys under each hasher and budget.
 fn assert_cases(rt: &impl Abort, alloc: Global, cases: &[Case]) -> Result<(), Fail> {
     for (rows, columns, due) in cases {
         for found in by_each_hasher(alloc, columns, *rows)?.as_slice() {

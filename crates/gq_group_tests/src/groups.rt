@@ -15,7 +15,7 @@ use std::process::Abort;
 use std::test::Fail;
 use sw_probe::{Constant, Fnv1a, KeyHash, LowBits};
 
-/// What a grouping answers.
+/// The result of a grouping.
 #[derive(Drop)]
 pub(crate) struct Answer {
     pub(crate) spent: Spent,
@@ -28,14 +28,14 @@ fn fit(spec: &GroupSpec, rows: &VecDeque<Row>) -> bool
     rows.iter().all(|row| spec.fits(row))
 }
 
-// Whether rows are all of this length.
+// Whether all rows have this length.
 fn are_long(columns: usize, rows: &VecDeque<Row>) -> bool
     ensures { result ≡ list_all (λ row. length row == columns) rows.now.items }
 {
     rows.iter().all(|row| row.len() == columns)
 }
 
-/// Whether rows are all as long as the first.
+/// Whether all rows are as long as the first.
 #[tactic(auto, using(gq_group::proofs::Widths::width_told))]
 pub(crate) fn are_even(rows: &VecDeque<Row>) -> bool
     ensures { IsTrue result → OneWidth rows.now.items }
@@ -47,7 +47,7 @@ pub(crate) fn are_even(rows: &VecDeque<Row>) -> bool
     are_long(columns, rows)
 }
 
-/// The groups of some rows within a budget of two, spelled out, in the order of their spellings.
+/// The groups of rows within a budget of two, spelled out and sorted.
 fn grouped<H: KeyHash<Key> + Copy>(
     alloc: Global,
     hasher: H,
@@ -58,7 +58,7 @@ fn grouped<H: KeyHash<Key> + Copy>(
     grouped_over(alloc, hasher, spec, rows, &mut store, 2)
 }
 
-/// The same over a store, within a budget of so many entries.
+/// As `grouped`, over a store and within a budget of `entries` entries.
 pub(crate) fn grouped_over<H: KeyHash<Key> + Copy, S: RunStore>(
     alloc: Global,
     hasher: H,
@@ -86,7 +86,7 @@ pub(crate) fn grouped_over<H: KeyHash<Key> + Copy, S: RunStore>(
     Ok(Answer { spent, groups })
 }
 
-/// What came of a grouping: how many rows and groups there were, and then each group.
+/// The result of a grouping as text: the numbers of rows and of groups, and then each group.
 pub(crate) fn told(alloc: Global, found: Result<Answer, Refusal>) -> Result<String, AllocError> {
     let mut out = String::new(alloc);
     match found {
@@ -143,7 +143,7 @@ pub(crate) fn spelling(alloc: Global, n: i64, chars: &str) -> Result<Row, AllocE
     Ok(Row::new(vec![in alloc; Value::Int(n), name]?))
 }
 
-/// The numbers below one, each with its remainder by another.
+/// The numbers below `end`, each with its remainder by another.
 fn remainders(alloc: Global, end: i64, by: i64) -> Result<VecDeque<Row>, AllocError> {
     let mut list = VecDeque::new(alloc);
     for n in 0..end {
@@ -243,8 +243,7 @@ pub(crate) fn spec(
     Ok(GroupSpec::new(Vec::from_slice(alloc, by)?, Vec::from_slice(alloc, aggs)?))
 }
 
-/// What a grouping comes to under a hasher that spreads keys, one that hashes all alike, and one
-/// between, with a line for each.
+/// The results of a grouping under a hasher that spreads keys, one with one hash for all, and one in between.
 fn by_each_hasher(alloc: Global, spec: &GroupSpec, rows: Rows) -> Result<Vec<String>, AllocError> {
     let spread = grouped(alloc, Fnv1a { seed: 0 }, spec, rows_of(alloc, rows)?);
     let alike = grouped(alloc, Constant(0), spec, rows_of(alloc, rows)?);
@@ -256,7 +255,7 @@ fn by_each_hasher(alloc: Global, spec: &GroupSpec, rows: Rows) -> Result<Vec<Str
     Ok(answers)
 }
 
-/// Rows, the columns that they are grouped by, what is asked of each group, and what comes of it.
+/// Rows, the columns that they are grouped by, the aggregates of each group, and the expected result.
 type Case<'a> = (Rows, &'a [usize], &'a [(AggKind, usize)], &'a str);
 
 const COUNT: &[(AggKind, usize)] = &[(AggKind::Count, 1)];
@@ -339,7 +338,7 @@ const CASES: [Case; 14] = [
     ),
 ];
 
-/// Asserts that each case comes to what is due under each hasher.
+/// Asserts that each case has the expected result under each hasher.
 fn assert_cases(rt: &impl Abort, alloc: Global, cases: &[Case]) -> Result<(), Fail> {
     for (rows, by, aggs, due) in cases {
         let spec = spec(alloc, by, aggs)?;
@@ -355,8 +354,7 @@ fn worked_groups(rt: HostRuntime) -> Result<(), Fail> {
     assert_cases(&rt, rt.alloc(), &CASES)
 }
 
-/// The numbers 0 to 49, each with how many of the numbers below 500 have it as their remainder by 50,
-/// and with their sum.
+/// The numbers 0 to 49, each with the count and the sum of the numbers below 500 whose remainder by 50 it is.
 fn fifty(alloc: Global) -> Result<Vec<String>, AllocError> {
     let mut groups = Vec::new(alloc);
     for g in 0..50u8 {
@@ -367,7 +365,7 @@ fn fifty(alloc: Global) -> Result<Vec<String>, AllocError> {
     Ok(groups)
 }
 
-/// What the counts and sums of the remainders come to.
+/// The result of counting and summing by these remainders.
 pub(crate) fn fifty_told(alloc: Global) -> Result<String, AllocError> {
     let mut text = String::from_str(alloc, "500 rows, 50 groups")?;
     for group in fifty(alloc)?.as_slice() {
@@ -377,7 +375,7 @@ pub(crate) fn fifty_told(alloc: Global) -> Result<String, AllocError> {
     Ok(text)
 }
 
-/// Asks for the count and the sum of the numbers of each remainder.
+/// The count and the sum of the numbers of each remainder.
 pub(crate) fn counts_and_sums(alloc: Global) -> Result<GroupSpec, AllocError> {
     spec(alloc, &[1], &[(AggKind::CountAll, 0), (AggKind::Sum, 0)])
 }

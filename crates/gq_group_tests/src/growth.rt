@@ -1,5 +1,5 @@
-//! Groups of several aggregates, of which those of all groups stand in one list: past each growth of
-//! it, and with each request for memory refused in turn.
+//! Groups of several aggregates, which are stored in one list for all groups: past each growth of the list, and
+//! with each allocation failing in turn.
 use crate::groups::{Answer, grouped_over, spec, told};
 use gq_agg::AggKind;
 use gq_group::Refusal;
@@ -12,7 +12,7 @@ use std::process::Abort;
 use std::test::Fail;
 use sw_probe::{Constant, Fnv1a, KeyHash};
 
-// By how many bytes what is left grows with each step.
+// By how many bytes the free memory grows with each step.
 const STEP: usize = 64;
 
 const ALL: &[(AggKind, usize)] = &[
@@ -23,17 +23,16 @@ const ALL: &[(AggKind, usize)] = &[
     (AggKind::Count, 1),
 ];
 
-/// In which order the two rows of each key come.
+/// The order of the two rows of each key.
 #[derive(Clone, Copy, Debug)]
 enum Order {
-    /// One behind the other, so that the table grows as keys come.
+    /// One after the other, so that the table grows as keys appear.
     InPairs,
-    /// The first of all keys before the second of any, so that room for all is made at once.
+    /// The first of each key before the second of any, so that room for all is made at once.
     InRounds,
 }
 
-/// The first or the second row of a key: the key, a number, and a name with the number that takes
-/// memory of its own.
+/// The first or the second row of a key: the key, a number, and a name with the number that is allocated.
 fn row_of(alloc: Global, key: u32, round: u32) -> Result<Row, AllocError> {
     let number = 10_000u32
         .saturating_add(round.saturating_mul(1_000))
@@ -46,7 +45,7 @@ fn row_of(alloc: Global, key: u32, round: u32) -> Result<Row, AllocError> {
     ]?))
 }
 
-/// Two rows for each of so many keys.
+/// Two rows for each of `keys` keys.
 fn rows_in(alloc: Global, order: Order, keys: u32) -> Result<VecDeque<Row>, AllocError> {
     let mut rows = VecDeque::new(alloc);
     match order {
@@ -67,7 +66,7 @@ fn rows_in(alloc: Global, order: Order, keys: u32) -> Result<VecDeque<Row>, Allo
     Ok(rows)
 }
 
-/// What their groups come to.
+/// The expected groups of these rows.
 fn due(alloc: Global, keys: u32) -> Result<String, AllocError> {
     let mut groups = Vec::new(alloc);
     for key in 0..keys {
@@ -86,7 +85,7 @@ fn due(alloc: Global, keys: u32) -> Result<String, AllocError> {
     Ok(text)
 }
 
-/// The groups of two rows for each of so many keys.
+/// The groups of two rows for each of `keys` keys.
 fn groups_in<H: KeyHash<Key> + Copy>(
     alloc: Global,
     hasher: H,
@@ -115,7 +114,7 @@ fn groups_past_each_growth(rt: HostRuntime) -> Result<(), Fail> {
     Ok(())
 }
 
-/// Takes memory away until all groups of thirty keys come, and tells how often they did not.
+/// Groups thirty keys with more and more memory until all groups are there, and returns how often that failed.
 fn refused_in(
     rt: &impl Abort,
     alloc: Global,
@@ -144,9 +143,9 @@ fn refused_in(
     Ok(refused)
 }
 
-/// Asserts that each request of a grouping is refused in some step, and all groups come in the end.
+/// Asserts that each allocation of a grouping fails in some step, and that all groups are there in the end.
 fn assert_starved(rt: &impl Abort, alloc: Global, order: Order) -> Result<(), Fail> {
-    // Once while there is memory, so that the stack has grown as far as runs need it.
+    // Once with enough memory, so that the stack has grown as far as runs need it.
     assert!(rt; groups_in(alloc, Fnv1a { seed: 0 }, order, 30).is_ok());
     let due = due(alloc, 30)?;
     let mut starved = Starved::new(alloc)?;

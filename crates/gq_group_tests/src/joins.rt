@@ -1,4 +1,4 @@
-//! Rows that have a match among others.
+//! Rows that match others.
 use crate::groups::{row, spelling};
 use gq_row::{Key, Value};
 use gq_select::{KeySet, anti_join, semi_join};
@@ -6,8 +6,8 @@ use std::alloc::{AllocError, Global};
 use std::test::Fail;
 use sw_probe::{Constant, Fnv1a, KeyHash, LowBits};
 
-/// Whether a row has a match among two others by its column 1 and their column 0, and whether it
-/// has none, as two letters.
+/// Whether a row matches one of two others, by its column 1 and their column 0, and whether it matches none, as
+/// two letters.
 fn matched<H: KeyHash<Key> + Copy>(
     alloc: Global,
     hasher: H,

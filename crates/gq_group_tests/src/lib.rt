@@ -1,8 +1,7 @@
-//! Tests of running aggregates, of groups, and of conditions, matches and different keys: worked
-//! examples whose answers were written by hand, under hashers that spread keys and hashers that do
-//! not; how many rows and runs groups past the budget take; groups past each growth of the list of their
-//! aggregates, and without memory for it; and groups over stores in which one call
-//! goes wrong.
+//! Tests of running aggregates, of groups, and of conditions, matches and distinct keys: worked examples with
+//! results written by hand, under hashers that spread keys and hashers that don't; the numbers of rows and runs
+//! that groups past the budget take; groups past each growth of the list of their aggregates, and without
+//! memory for it; and groups over stores in which one call goes wrong.
 #![tactic(auto)]
 
 #[cfg(test)]

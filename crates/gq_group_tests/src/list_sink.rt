@@ -1,4 +1,4 @@
-//! Groups in a list.
+//! A sink that is a list of groups.
 use crate::spelled::spelled_group;
 use gq_group::{GroupSink, Refusal};
 use gq_row::{Key, Value};

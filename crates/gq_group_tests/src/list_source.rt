@@ -1,11 +1,11 @@
-//! Rows of a list.
+//! A source that is a list of rows.
 use gq_group::{Refusal, RowSource};
 use gq_row::Row;
 use gq_spill::RunStore;
 use std::collections::VecDeque;
 use std::marker::Model;
 
-/// The rows that are left, in their order.
+/// The remaining rows, in order.
 #[derive(Drop)]
 pub struct ListSource {
     pub rows: VecDeque<Row>,

@@ -2,7 +2,7 @@
 use gq_row::{Key, Value};
 use std::alloc::{AllocError, Global};
 
-/// A number in decimal, a text between quotes, one without case behind a `~`, or `null`.
+/// A number in decimal, a text between quotes, one without case after a `~`, or `null`.
 pub(crate) fn spelled_value(alloc: Global, value: &Value) -> Result<String, AllocError> {
     match value {
         Value::Null => String::from_str(alloc, "null"),

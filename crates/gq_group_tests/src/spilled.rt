@@ -1,4 +1,4 @@
-//! How many rows groups past the budget take to runs, and how many runs.
+//! How many rows are written to runs for groups past the budget, and to how many runs.
 use crate::counting::Counting;
 use crate::groups::{
     Answer, Rows, counts_and_sums, fifty_told, grouped_over, row, rows_of, spec, told,
@@ -13,7 +13,7 @@ use std::process::Abort;
 use std::test::Fail;
 use sw_probe::{Constant, Fnv1a, KeyHash, Keyed, LowBits, Names, Step};
 
-/// The last eight bytes of a key as a number, the highest first: of a key of one number, that number.
+/// A hash that is the last eight bytes of a key as a number, big-endian: of a key of one number, that number.
 #[derive(Clone, Copy)]
 struct LastBytes;
 
@@ -27,7 +27,7 @@ impl<K: Keyed> KeyHash<K> for LastBytes {
     }
 }
 
-// One byte more of a number, the highest first.
+// Appends a byte to a number, big-endian.
 struct Digit;
 
 impl Step for Digit {
@@ -40,15 +40,14 @@ impl Step for Digit {
     }
 }
 
-/// What came of a grouping, and what it took.
+/// The result of a grouping, and what it took.
 #[derive(Drop)]
 struct Work {
     groups: String,
     spent: String,
 }
 
-/// What a grouping says that it took, beside the records that the store took and the runs that it
-/// was left with.
+/// What a grouping reports that it took, with the records that the store got and the runs that it has.
 fn spent_told(
     alloc: Global,
     found: &Result<Answer, Refusal>,
@@ -65,7 +64,7 @@ fn spent_told(
     )
 }
 
-/// The groups of some rows within a budget, and what they took.
+/// The groups of rows within a budget, and what they took.
 fn work_of<H: KeyHash<Key> + Copy>(
     alloc: Global,
     hasher: H,
@@ -82,8 +81,7 @@ fn work_of<H: KeyHash<Key> + Copy>(
     })
 }
 
-/// Asserts what the counts of some numbers come to, at a budget of one, each number being its own
-/// hash.
+/// Asserts the counts of some numbers within a budget of one, each number being its own hash.
 fn assert_counts(
     rt: &impl Abort,
     alloc: Global,
@@ -102,7 +100,7 @@ fn assert_counts(
     Ok(())
 }
 
-/// The first key stays, and the others part by their four highest bits into two runs.
+/// The first key stays, and the others are partitioned by their four highest bits into two runs.
 #[test]
 fn keys_that_part_at_once(rt: HostRuntime) -> Result<(), Fail> {
     assert_counts(
@@ -114,8 +112,8 @@ fn keys_that_part_at_once(rt: HostRuntime) -> Result<(), Fail> {
     )
 }
 
-/// One key stays in each of the first four passes: of six rows five, four, three and two are
-/// written, and the last two part by their sixteen highest bits.
+/// One key stays in each of the first four passes: of six rows five, four, three and two are written, and the
+/// last two are partitioned by their sixteen highest bits.
 #[test]
 fn keys_that_part_late(rt: HostRuntime) -> Result<(), Fail> {
     assert_counts(
@@ -143,7 +141,7 @@ fn assert_fifty<H: KeyHash<Key> + Copy>(
     Ok(())
 }
 
-/// Forty-nine passes write the ten rows of each key that is left: ten times 49 + 48 + .. + 1.
+/// Forty-nine passes write the ten rows of each remaining key: ten times 49 + 48 + .. + 1.
 #[test]
 fn one_group_a_pass(rt: HostRuntime) -> Result<(), Fail> {
     let due = "500 read, 12250 written, 50 groups, 49 runs; 12250 records, 0 live";
@@ -151,8 +149,7 @@ fn one_group_a_pass(rt: HostRuntime) -> Result<(), Fail> {
     assert_fifty(&rt, rt.alloc(), Constant(u64::MAX), 1, due)
 }
 
-/// Asserts that one group past the budget takes its ten rows to a run, and that no row goes there
-/// where there is none.
+/// Asserts that for one group past the budget ten rows are written, and for none no row.
 fn assert_edge<H: KeyHash<Key> + Copy>(
     rt: &impl Abort,
     alloc: Global,

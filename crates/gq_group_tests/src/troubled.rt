@@ -15,7 +15,7 @@ const FAILED: &str = "the store failed";
 
 const DAMAGED: &str = "a run is damaged";
 
-// What comes of counting some rows over a store with some trouble.
+// The result of counting rows over a store with some trouble.
 fn over(alloc: Global, by: &[usize], rows: Rows, trouble: Trouble) -> Result<String, AllocError> {
     let spec = spec(alloc, by, &[(AggKind::CountAll, 0)])?;
     let mut store = FuseStore::new(MemStore::new(alloc), trouble);
@@ -43,8 +43,8 @@ fn each_call_of_the_store_fails_in_turn(rt: HostRuntime) -> Result<(), Fail> {
     Ok(())
 }
 
-/// What comes of grouping 500 rows within a budget of ten over a store with some trouble, and how
-/// many runs are left.
+/// The result of grouping 500 rows within a budget of ten over a store with some trouble, and the number of
+/// runs that are left.
 fn remainders_over<H: KeyHash<Key> + Copy>(
     alloc: Global,
     hasher: H,
@@ -57,8 +57,8 @@ fn remainders_over<H: KeyHash<Key> + Copy>(
     Ok((told(alloc, found)?, store.live))
 }
 
-/// Asserts that no groups come where a call from the first to the last fails, each in turn, and that no
-/// run is left.
+/// Asserts that there are no groups if a call from the first to the last fails, each in turn, and that no run
+/// is left.
 fn assert_fails<H: KeyHash<Key> + Copy>(
     rt: &impl Abort,
     alloc: Global,
@@ -74,7 +74,7 @@ fn assert_fails<H: KeyHash<Key> + Copy>(
     Ok(())
 }
 
-/// Asserts that the groups come where no call before this one fails, and that no run is left.
+/// Asserts that all groups are there if no earlier call than this one fails, and that no run is left.
 fn assert_ends_before<H: KeyHash<Key> + Copy>(
     rt: &impl Abort,
     alloc: Global,
@@ -96,8 +96,8 @@ fn each_call_of_a_pass_fails(rt: HostRuntime) -> Result<(), Fail> {
     assert_fails(&rt, alloc, Fnv1a { seed: 0 }, 1, 1 + 400 + 1)
 }
 
-/// Four passes write the rows of forty, thirty, twenty and ten keys, and each of the four runs is made,
-/// and read at once.
+/// Four passes write the rows of forty, thirty, twenty and ten keys, and each of their runs is made, and read
+/// at once.
 #[test]
 fn calls_of_later_passes_fail(rt: HostRuntime) -> Result<(), Fail> {
     let alloc = rt.alloc();
@@ -106,7 +106,7 @@ fn calls_of_later_passes_fail(rt: HostRuntime) -> Result<(), Fail> {
     assert_ends_before(&rt, alloc, Constant(0), Trouble::Fail(last + 1))
 }
 
-/// Asserts that no groups come where a read is cut short, and that no run is left.
+/// Asserts that there are no groups if a read is cut short, and that no run is left.
 fn assert_damaged<H: KeyHash<Key> + Copy>(
     rt: &impl Abort,
     alloc: Global,
@@ -121,7 +121,7 @@ fn assert_damaged<H: KeyHash<Key> + Copy>(
     Ok(())
 }
 
-/// Under one hash for all there are four reads, and a fifth is never cut short.
+/// Under one hash for all there are four reads, so a fifth is never cut short.
 #[test]
 fn a_read_cut_short_is_no_groups(rt: HostRuntime) -> Result<(), Fail> {
     let alloc = rt.alloc();
@@ -130,7 +130,7 @@ fn a_read_cut_short_is_no_groups(rt: HostRuntime) -> Result<(), Fail> {
     assert_ends_before(&rt, alloc, Constant(0), Trouble::Short(5))
 }
 
-/// What is asked of four rows: how many values each key has, how many different ones, and the keys.
+/// What is computed of four rows: how many values each key has, how many distinct ones, and the keys.
 #[derive(Clone, Copy)]
 enum Asked {
     Values,
@@ -138,7 +138,7 @@ enum Asked {
     Keys,
 }
 
-/// What comes of four rows, one group at a time, over a store of which a call fails, and how many runs
+/// The result of four rows, one group at a time, over a store with a failing call, and the number of runs that
 /// are left.
 fn worked_over(alloc: Global, asked: Asked, call: u64) -> Result<(String, u64), AllocError> {
     let rows = rows_of(alloc, Rows::Worked)?;
@@ -153,8 +153,8 @@ fn worked_over(alloc: Global, asked: Asked, call: u64) -> Result<(String, u64), 
     Ok((told(alloc, found)?, store.live))
 }
 
-/// Lets each call of the store fail in turn, until none does and what is due comes; how many did. No run
-/// is left in any case.
+/// Lets each call of the store fail in turn until none does and the result is as expected, and returns how many
+/// did. No run is left in any case.
 fn failing(rt: &impl Abort, alloc: Global, asked: Asked, due: &str) -> Result<u64, Fail> {
     for call in 1..100u64 {
         let (found, live) = worked_over(alloc, asked, call)?;
@@ -167,7 +167,7 @@ fn failing(rt: &impl Abort, alloc: Global, asked: Asked, due: &str) -> Result<u6
     Err(Fail::new("calls failed to the end"))
 }
 
-/// A run is made, written to and read; of different values more than one.
+/// A run is made, written to and read; for distinct values more than one.
 #[test]
 fn each_call_of_each_grouping_fails(rt: HostRuntime) -> Result<(), Fail> {
     let alloc = rt.alloc();

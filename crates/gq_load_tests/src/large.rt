@@ -7,8 +7,8 @@ use std::test::Fail;
 
 const RECORDS: u64 = 100_000;
 
-/// The cities 0 to 99,999, named by their numbers: every third name quoted, every fifth null, a
-/// blank line behind every seventh record.
+/// The cities 0 to 99,999, named by their numbers: every third name quoted, every fifth null, a blank line
+/// after every seventh record.
 fn payload(alloc: Global) -> Result<Vec<u8>, AllocError> {
     let mut text = Vec::from_slice(alloc, b"city,id\r\n")?;
     for i in 0..RECORDS {
@@ -84,7 +84,7 @@ fn many_records(rt: HostRuntime) -> Result<(), Fail> {
     Ok(())
 }
 
-/// A payload of one text of so many bytes.
+/// A payload of one text of `size` bytes.
 fn long_text(alloc: Global, size: usize) -> Result<Vec<u8>, AllocError> {
     let mut text = Vec::from_slice(alloc, b"note\n")?;
     for _ in 0..size {

@@ -1,8 +1,8 @@
-//! Tests of loads: worked payloads whose answers were written by hand from the CSV standard and the
-//! rules of `docs/FORMATS.md`, what no contract says, and loads while memory runs out.
+//! Tests of loads: worked payloads with results written by hand from the CSV standard and the rules of
+//! `docs/FORMATS.md`, what no contract says, and loads while memory runs out.
 //!
-//! The tests of `starved` take up all memory that there is to be had, by blocks that they hold and
-//! never write to; each test has a process of its own, so no other notices.
+//! The tests of `starved` allocate all memory that there is, in blocks that they hold and never write to; each
+//! test has a process of its own, so no other is affected.
 #![tactic(auto)]
 
 #[cfg(test)]

@@ -36,7 +36,7 @@ const RECORDS: [Case; 16] = [
         b"\xef\xbb\xbf\"id\",city\n1,Oslo\n",
         "1,'Oslo';",
     ),
-    // Columns in another order: the value stands where the header's name does.
+    // Columns in another order: a value goes to the column that the header names.
     (
         Table::Cities,
         b"city,id\nOslo,1\nRome,2\n",
@@ -48,7 +48,7 @@ const RECORDS: [Case; 16] = [
         b"\"city\",\"id\"\n\"Oslo\",\"1\"\n",
         "1,'Oslo';",
     ),
-    // Rows of one key are all given, in the order of the payload.
+    // All rows of one key are returned, in the order of the payload.
     (
         Table::Cities,
         b"id,city\n1,a\n1,b\n1,a\n",
@@ -130,7 +130,7 @@ const NUMBERS: [Case; 9] = [
     ),
 ];
 
-/// Texts without case are kept as they are spelled, rows of one key among them.
+/// Texts without case keep their spelling, in rows with the same key too.
 const WITHOUT_CASE: [Case; 5] = [
     (
         Table::Towns,
@@ -151,7 +151,7 @@ const WITHOUT_CASE: [Case; 5] = [
     ),
 ];
 
-// Whether each payload of a table of cases has the rows that stand beside it.
+// Whether each payload of a list of cases has the expected rows.
 fn all_right(rt: &(impl AllocGlobal + Abort), cases: &[Case]) -> Result<(), Fail> {
     let alloc = rt.alloc();
     for (table, payload, due) in cases {

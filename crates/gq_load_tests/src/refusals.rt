@@ -5,8 +5,7 @@ use std::alloc::Global;
 use std::process::Abort;
 use std::test::Fail;
 
-/// A payload for the cities, of texts of at most four bytes and at most three records, and its
-/// fault.
+/// A payload for the cities, with texts of at most four bytes and at most three records, and its fault.
 type Case = (&'static [u8], LoadRefusal);
 
 const HEADERS: [Case; 14] = [
@@ -60,9 +59,9 @@ const RECORDS: [Case; 21] = [
 
 const COUNTS: [Case; 6] = [
     (b"id,city\n1,a\n2,b\n3,c\n4,d\n", LoadRefusal::Limit),
-    // Records count before equal keys fall together.
+    // Records are counted, whether their keys are equal or not.
     (b"id,city\n1,a\n1,a\n1,a\n1,a\n", LoadRefusal::Limit),
-    // Each fault goes before too many records.
+    // Any fault is reported before too many records.
     (b"id,city\n1,a\n2,b\n3,c\nx,d\n", LoadRefusal::BadInt(4)),
     (
         b"id,city\n1,a\n2,b\n3,c\n4,d\nx,e\n",
@@ -86,7 +85,7 @@ const TOWNS: [Case; 7] = [
     (b"id,town\n1,abcde\n", LoadRefusal::Limit),
     (b"id,town\n1,\\N\n", LoadRefusal::NullKey(1)),
     (b"id,town\n1,a\n2,\"\\N\"\n", LoadRefusal::NullKey(2)),
-    // Records count before keys that are the same fall together.
+    // Records are counted, whether their keys are the same or not.
     (
         b"id,town\n1,Oslo\n2,OSLO\n3,oslo\n4,oSLO\n",
         LoadRefusal::Limit,
@@ -164,7 +163,7 @@ fn first_faults(rt: HostRuntime) {
 #[test]
 fn too_many_records(rt: HostRuntime) {
     all_refused(&rt, &COUNTS);
-    // As many records as may be, texts as long as may be.
+    // As many records, and texts as long, as the limits allow.
     let most: [&[u8]; 2] = [
         b"id,city\n1,Oslo\n2,Rome\n3,Bern\n",
         b"id,city\n1,\xc3\xa9\xc3\xa9\n1,Rome\n1,Bern",

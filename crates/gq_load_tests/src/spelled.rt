@@ -20,8 +20,8 @@ fn push_value(alloc: Global, out: &mut String, value: &Value) -> Result<(), Allo
     }
 }
 
-/// The values of each row with a comma between them, and a semicolon behind each row: numbers in
-/// decimal, texts between quotes, those without case behind a `~`, and `null`.
+/// The values of rows with commas between them, and a semicolon after each row: numbers in decimal, texts
+/// between quotes, those without case after a `~`, and `null`.
 pub(crate) fn spelled(alloc: Global, rows: &[Row]) -> Result<String, AllocError> {
     let mut out = String::new(alloc);
     for row in rows {

@@ -1,12 +1,12 @@
-//! Loads while memory runs out: first with none, then with a little more each time, so that each
-//! request is the first to be refused in some run.
+//! Loads while memory runs out: first with none left, then with a little more each time, so that each
+//! allocation is the first to fail in some run.
 use crate::tables::{Table, schema};
 use gq_load::{LoadRefusal, load_rows};
 use gq_row::{Limits, Row, Sequence, Value};
 use starved_tests::{POOLS, Starved};
 use std::test::Fail;
 
-// By how many bytes what is left grows with each step.
+// By how many bytes the free memory grows with each step.
 const STEP: usize = 16;
 
 const PAYLOAD: &[u8] =
@@ -44,7 +44,7 @@ fn each_request_refused_in_turn(rt: HostRuntime) -> Result<(), Fail> {
         return Ok(());
     };
     let limits = Limits::greatest();
-    // Once while there is memory, so that the stack has grown as far as a load needs it.
+    // Once with enough memory, so that the stack has grown as far as a load needs it.
     assert!(rt; load_rows(alloc, PAYLOAD, &schema, &limits).is_ok());
     let mut starved = Starved::new(alloc)?;
     assert!(rt;
@@ -80,7 +80,7 @@ fn each_request_refused_in_turn(rt: HostRuntime) -> Result<(), Fail> {
         }
         refused = refused.saturating_add(1);
     }
-    // The requests grow from a few bytes to some hundred, so many steps were refused.
+    // The allocations grow from a few bytes to some hundred, so more than ten steps fail.
     assert!(rt; 10 < refused && refused < POOLS, "{refused} refused");
     assert!(rt; 0 < told, "{refused} refused");
     Ok(())

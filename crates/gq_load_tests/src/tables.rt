@@ -28,7 +28,7 @@ fn two(alloc: Global, first: (&str, Kind), second: (&str, Kind)) -> Option<Vec<C
     vec![in alloc; first, second].ok()
 }
 
-/// The schema of a table; None only where memory ran out.
+/// The schema of a table, or `None` if memory is refused.
 pub(crate) fn schema(alloc: Global, table: Table) -> Option<Schema> {
     let no_key = Vec::new(alloc);
     match table {
@@ -52,7 +52,7 @@ pub(crate) fn schema(alloc: Global, table: Table) -> Option<Schema> {
     }
 }
 
-/// The greatest limits, but for the bytes of a text and the number of rows.
+/// The largest limits, but for the bytes of a text and the number of rows.
 pub(crate) fn limits(text: usize, rows: usize) -> Option<Limits> {
     let mut bounds: Bounds = Limits::greatest().bounds;
     bounds.text = text;

@@ -1,4 +1,4 @@
-//! Texts about the 22 bytes that stand in a value, with ample memory and with none.
+//! Texts of about 22 bytes, which is the most that is stored inline, with enough memory and with none.
 use gq_row::{Text, Value};
 use starved_tests::Starved;
 use std::alloc::{AllocError, Global};
@@ -6,8 +6,8 @@ use std::mem::size_of;
 use std::process::Abort;
 use std::test::Fail;
 
-/// Each with its fold: of 0, 1, 21, 22, 23 and 24 bytes, and with a letter of two bytes, or one of
-/// four, that ends at the bound or goes past it.
+/// Texts with their folds: of 0, 1, 21, 22, 23 and 24 bytes, and with a letter of two bytes, or one of four,
+/// that ends at byte 22 or after it.
 const TEXTS: [(&str, &str); 10] = [
     ("", ""),
     ("A", "a"),
@@ -21,7 +21,7 @@ const TEXTS: [(&str, &str); 10] = [
     ("ABCDEFGHIJKLMNOPQRSTU😀", "abcdefghijklmnopqrstu😀"),
 ];
 
-/// A text that is written over another is what it was written as.
+/// A text that is overwritten with another equals that one.
 fn expect_written(rt: &impl Abort, alloc: Global, old: &str, new: &str) -> Result<(), AllocError> {
     let mut over = Text::of(alloc, old)?;
     let other = Text::of(alloc, new)?;
@@ -64,8 +64,8 @@ fn copied_and_folded(rt: HostRuntime) -> Result<(), Fail> {
     Ok(())
 }
 
-/// Without memory a short text is made, copied and written, and a long one is refused: the text that
-/// it was written over is then empty.
+/// Without memory a short text is made, copied and written, and a long one fails: the overwritten text is then
+/// empty.
 #[test]
 fn without_memory(rt: HostRuntime) -> Result<(), Fail> {
     let alloc = rt.alloc();
@@ -84,7 +84,7 @@ fn without_memory(rt: HostRuntime) -> Result<(), Fail> {
     Ok(())
 }
 
-/// A text of 22 bytes makes a value no larger than a string does.
+/// A value with 22 bytes of text inline is no larger than one with a string.
 #[test]
 fn sizes(rt: HostRuntime) {
     assert_eq!(rt; size_of::<Text>(), 24);
