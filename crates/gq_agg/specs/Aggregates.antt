@@ -10,8 +10,7 @@ use Rattle.gq_agg.specs.Values.{present, total, least, greatest}
 abbrev pub is_i64 : ℤ → Bool
 is_i64 n = int_le (negsuc (2 ^ 63 - 1)) n && int_le n (pos (2 ^ 63 - 1))
 
--- the SQL sum of values: that of those that aren't null, null if there are none, and no value if it is out of
--- range
+-- the sum of the values that aren't null, as in SQL: null if there are none, and no value if it is out of range
 abbrev pub summed : List Value → Option Value
 summed values =
     if length (present values) == 0 then Some Null

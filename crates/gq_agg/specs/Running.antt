@@ -14,6 +14,7 @@ pub record Running : Type 0 where
   pub adds : ℕ
   pub state : State
 
+-- the kind of aggregate that something is kept for
 abbrev pub kind_of : State → AggKind
 kind_of Rows = kind.CountAll
 kind_of (Values n) = kind.Count
@@ -56,7 +57,7 @@ with_value (Greatest w) v = Greatest (greater w v)
 abbrev pub tally : AggKind → List Value → Running
 tally added values = record { adds = length values; state = kept added values }
 
--- what is kept of `adds` values is within the bounds of what they can amount to
+-- the number that is kept of `adds` values is within what they can amount to
 abbrev pub IsBounded : ℕ → State → Type 0
 IsBounded adds Rows = Unit {0}
 IsBounded adds (Values n) = n ≤ adds

@@ -12,7 +12,7 @@ pub fn nulls_are_unseen()
     ensures { NullsAreUnseen }
 {}
 
-/// The minimum and the maximum are among the values, and none comes before or after them.
+/// The minimum and the maximum are among the values, and none comes before the minimum or after the maximum.
 pub fn ends_are_reached()
     ensures { EndsAreReached }
 {}

@@ -1,10 +1,10 @@
 //! Many values in one list, and rows of them.
 //!
-//! In [`Cells`] a number takes eight bytes as long as all values are numbers, and if texts are stored out of line. [`Rows`]
-//! are parts of one such list. A [`CellRef`] or a [`RowRef`] refers to what is stored there.
+//! In [`Cells`] a number takes eight bytes as long as all values are numbers, and if texts are stored out of
+//! line. [`Rows`] are ranges of one such list. A [`CellRef`] or a [`RowRef`] refers to what is stored there.
 //!
-//! The one contract above this crate: clauses see [`Cells`] as the list of their values and [`Rows`] as the list of
-//! their rows, whatever they take of memory.
+//! The one contract above this crate: clauses see [`Cells`] as the list of their values and [`Rows`] as the
+//! list of their rows, in every layout.
 #![tactic(auto)]
 
 mod cell_ref;

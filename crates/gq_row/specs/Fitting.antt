@@ -22,7 +22,7 @@ goes_in kind.Int (NoCase t) = false
 goes_in kind.Text (NoCase t) = false
 goes_in kind.NoCase (NoCase t) = true
 
--- the value that a column stores: a text becomes one without case if the column is of those, and any other
+-- the value that a column stores: a text becomes one without case in a column of such texts, and any other
 -- value is unchanged
 abbrev pub stored : Kind → Value → Value
 stored kind.Int v = v
@@ -42,12 +42,13 @@ fits_columns [] (v ∷ vs) = false
 fits_columns (c ∷ cs) [] = false
 fits_columns (c ∷ cs) (v ∷ vs) = goes_in c.kind v && fits_columns cs vs
 
+-- a value is null
 abbrev pub is_null : Value → Bool
 is_null Null = true
 is_null (Int n) = false
 is_null (Text t) = false
 is_null (NoCase t) = false
 
--- a row has null in one of some columns
+-- a row has null in one of the given columns
 abbrev pub has_null : List ℕ → List Value → Bool
 has_null columns row = list_any (λ column. is_null (cell row column)) columns

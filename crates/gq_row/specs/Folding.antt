@@ -8,7 +8,7 @@ use Rattle.gq_row.specs.declared.value.Value.TheVariants.{Null, Int, Text, NoCas
 abbrev pub fold_case : List ℕ → List ℕ
 fold_case text = map to_ascii_lowercase text
 
--- the case of a value counts: that of each but a text without case
+-- a value has case: each but a text without case
 abbrev pub has_case : Value → Bool
 has_case Null = true
 has_case (Int n) = true

@@ -14,10 +14,8 @@ use crate::words::{fold_cell_words, fold_folded_words, fold_row_words};
 use std::marker::Model;
 use sw_probe::{Keyed, Names, Step, WordStep};
 
-/// Two keys are in one class if their values are the same. The bytes that are hashed of a key are those of its
-/// values' folds, in order: null is 0; a number is 1 and eight bytes in two's complement, big-endian; a text is
-/// 2, the low 32 bits of its length, big-endian, and its bytes; a text without case is 3, and then the same of
-/// its fold. The words are 0 for null, a number itself, and the words of a text's bytes. Neither takes memory.
+/// Two keys are in one class if their values are the same. The bytes and words that are hashed of a key are
+/// `spelling` and `value_words` of its values' folds, in order; neither takes memory.
 impl Keyed for Key {
     ghost class = { class_of };
 

@@ -19,7 +19,7 @@ abbrev pub decided : Bool → Truth
 decided true = True
 decided false = False
 
--- a truth is this one of the three
+-- a truth is true, is false, is unknown
 abbrev pub is_true : Truth → Bool
 is_true True = true
 is_true False = false

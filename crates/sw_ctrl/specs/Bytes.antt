@@ -2,9 +2,11 @@
 use Rattle.std.specs.Prelude.{ℕ, ◌==◌, ◌||◌, IsTrue, Bool, nat_lt, if◌then◌else◌}
 use Rattle.sw_ctrl.specs.declared.control.TheConstants.{EMPTY, DELETED}
 
+-- the byte of an empty slot
 abbrev pub is_empty : ℕ → Bool
 is_empty b = b == EMPTY
 
+-- the byte of a deleted slot
 abbrev pub is_deleted : ℕ → Bool
 is_deleted b = b == DELETED
 

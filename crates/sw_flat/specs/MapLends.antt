@@ -14,6 +14,7 @@ pub record IsWritten {K V H : Type 0} (class : K → List ℕ) (old new : View K
   pub bytes : new.bytes ≡ old.bytes
   pub hasher : new.hasher ≡ old.hasher
 
+-- the value of a class, if it has one, is borrowed, and when the borrow ends it is what was written last
 abbrev pub lends_value : (K V H : RattleType) (g : Keyed.Ghosts K.Denot) (g' : KeyHash.Ghosts H.Denot K.Denot) → MutBor (View K.Denot V.Denot H.Denot) → List ℕ → Option (MutBor V.Denot) → Fml
 lends_value K V H g g' m c r = LendsSo (the_row K V H g g') V m r (λ n w. OnSome r (IsWritten g.class m.now n c w)) (λ n. n ≡ m.now)
 

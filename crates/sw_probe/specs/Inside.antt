@@ -3,6 +3,7 @@ use Rattle.std.specs.Prelude.{◌≡◌, ◌<◌}
 use Rattle.sw_probe.specs.Order.{Walk, IsGroupCount, group_of}
 use Rattle.sw_probe.specs.declared.probe.Probe.TheInside.{Inside}
 
+-- the probe that its fields represent
 abbrev pub walk_of : Inside → Walk
 walk_of p = record { start = p.start; groups = p.groups; index = p.index }
 

@@ -27,9 +27,11 @@ pub record Walk : Type 0 where
   pub groups : ℕ
   pub index : ℕ
 
+-- the group of a probe at its step
 abbrev pub group_of : Walk → ℕ
 group_of w = group_number w.start w.groups w.index
 
+-- a probe at its next step
 abbrev pub moved : Walk → Walk
 moved w = record w { index = w.index + 1 }
 

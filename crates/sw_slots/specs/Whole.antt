@@ -1,4 +1,4 @@
--- What holds of the fields of the slots.
+-- The invariant of the fields of slots.
 use Rattle.std.specs.Prelude.{◌≡◌, length}
 use Rattle.sw_slots.specs.declared.slots.Slots.TheInside.{Inside}
 use Rattle.sw_slots.specs.Granted.{IsGrantOf}

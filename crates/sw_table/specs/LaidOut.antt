@@ -29,6 +29,7 @@ abbrev pub Reached : List ℕ → ℕ → ℕ → Type 0
 Reached bs hash i = ReachedIn (length bs / 16) bs hash i
 
 module _ {K V : Type 0} where
+  -- the layout of a table, by its slots, its control bytes and the hash of each class
   pub record IsLaidOut (class : K → List ℕ) (hash : List ℕ → ℕ) (ps : List (Option (K × V))) (bs : List ℕ) : Type 0 where
     -- there are as many slots as bytes, which is a capacity
     pub size : (length ps ≡ length bs) × IsCapacity (length bs)

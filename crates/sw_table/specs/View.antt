@@ -5,7 +5,7 @@ use Rattle.std.specs.Coded.{Coded, code_by, coded×, coded_list, coded_ℕ, code
 use Rattle.sw_ctrl.specs.declared.control.TheConstants.{EMPTY, DELETED}
 use Rattle.sw_slots.specs.Place.{place}
 
--- what each slot holds, the control byte of each slot, and the hasher
+-- what contracts see of a table: what each slot holds, the control byte of each slot, and the hasher
 pub record View (K V H : Type 0) : Type 0 where
   pub places : List (Option (K × V))
   pub bytes : List ℕ
