@@ -362,7 +362,7 @@ impl Stored {
         Ok(())
     }
 
-    // Appends all of `more`. Numbers and nulls keep their layout; if there are texts, all become `Value`s.
+    // Appends all of `more`. Numbers and nulls stay so; in any other layout all become `Value`s.
     fn append(&mut self, alloc: Global, more: &mut Stored) -> Result<(), AllocError>
         ensures appended { OnOk result (cells_of self.new ≡ cells_of self.old ++ cells_of more.old) }
         ensures unchanged { OnErr result (cells_of self.new ≡ cells_of self.old) }

@@ -19,6 +19,7 @@ module _ (key : List ℕ) (hash : List ℕ → ℕ) (rows : List (List Value)) w
   abbrev pub ArePlaces : List (List Value) → List Found → Type 0
   ArePlaces new places = AllZip IsPlace new places
 
+-- a look-up found no row
 abbrev pub is_absent : Found → Bool
 is_absent (At number) = false
 is_absent (Absent absence) = true

@@ -26,6 +26,7 @@ module _ (R : RattleType) where
   abbrev pub is_small : List (Option R.Denot) → Fml
   is_small s = flt (length s * type_size R) (2 ^ 63)
 
+  -- the ownership of all places of a block
   abbrev pub block_owned : Ptr → List (Option R.Denot) → Fml
   block_owned (block_ptr b o) s = fsep (is_small s) (places_owned b o s)
   block_owned null_ptr s = ffalse
