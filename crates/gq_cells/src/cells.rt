@@ -449,7 +449,7 @@ pub(crate) fn push_value(values: &mut Vec<Value>, value: &mut Value) -> Result<(
     Ok(())
 }
 
-// Numbers in the layout that admits null, with capacity for no more. So are the next four.
+// Numbers in the layout that admits null, with capacity for all of them. So are the next four.
 fn nullable_of(alloc: Global, numbers: &[i64]) -> Result<Vec<Option<i64>>, AllocError>
     ensures { IfOk result (λ cells. map number_cell cells.items ≡ map Int numbers.now) }
 {

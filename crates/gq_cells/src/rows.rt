@@ -17,8 +17,9 @@ pub struct Span {
     pub end: usize,
 }
 
-/// Rows whose cells are stored one after the other in one list, seen as the list of rows. They take two allocations
-/// in all, a list of [`Row`](gq_row::Row) one for each row. Swapping or removing rows moves spans, and no cell.
+/// Rows whose cells are stored one after the other in one list, seen as the list of rows. They take two blocks
+/// of memory in all; a list of [`Row`](gq_row::Row)s takes one for each row. Swapping or removing rows moves
+/// spans, and no cell.
 #[derive(Drop)]
 pub struct Rows {
     cells: Cells,

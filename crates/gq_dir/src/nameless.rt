@@ -4,7 +4,7 @@ use std::fs::{self, Files, OpenOptions};
 use std::io::{self, ErrorKind};
 use std::os::unix::fs::OpenOptionsExt;
 
-// How often a file is tried to be made while other programs make one with the same name.
+// How often making a file is tried while other programs make one with the same name.
 const TRIES: u32 = 1_000;
 
 /// A new empty file, open for reads and writes by its owner alone: made under a path, and unlinked at once. A

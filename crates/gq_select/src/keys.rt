@@ -15,7 +15,7 @@ use std::alloc::Global;
 use sw_probe::KeyHash;
 
 /// Pushes each distinct key of the source's rows by its fold, in some order, with an empty list of values.
-/// Errors are those of [`group`] but for `SumRange`; the source and the sink then are part way.
+/// Errors are those of [`group`] but for `SumRange`, and leave the source and the sink part way.
 pub fn distinct<H: KeyHash<Key> + Copy, S: RunStore, R: RowSource<S>, K: GroupSink<S>>(
     alloc: Global,
     hasher: H,

@@ -1,9 +1,9 @@
 //! Matches of rows with those of another table, as data.
 use gq_row::Sequence;
 
-/// Keeps the rows that match a row of another table, or with `negated` those that don't. A row's match has in
-/// its columns `theirs` what the row has in `ours`, one by one, none of that null. Columns are positions in a
-/// row.
+/// Which rows are kept: those that match a row of another table, or with `negated` those that don't. A row's
+/// match has in its columns `theirs` what the row has in `ours`, one by one, none of that null. Columns are
+/// positions in a row.
 #[derive(Drop)]
 pub struct Matching {
     pub negated: bool,

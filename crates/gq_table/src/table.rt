@@ -92,7 +92,7 @@ impl<H: KeyHash<Key> + Copy> Table<H> {
     }
 
     /// Reserves room for `rows` rows in total; for their cells only if there is a row, which says how wide they
-    /// are. The table doesn't change, on error neither.
+    /// are. The contents don't change, even on error.
     pub fn reserve(&mut self, rows: usize) -> Result<(), AllocError>
         ensures { self.new ≡ self.old }
     {

@@ -16,7 +16,7 @@ use sw_table::Refused;
 
 impl<K: Keyed, V, H: KeyHash<K>> FlatMap<K, V, H> {
     /// Inserts an entry if its key is new, and else returns the pair. On error (`Limit` at 2^28 slots, else
-    /// `Memory`) the pair is returned and the map doesn't change; there is none while the table has space.
+    /// `Memory`) the pair is returned and the map doesn't change. No error occurs while the table has space.
     #[inline]
     pub fn try_emplace(&mut self, key: K, value: V) -> Result<Emplaced<K, V>, Refused<K, V>>
         ensures answer { IfOk result (λ e. e ≡
