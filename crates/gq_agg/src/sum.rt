@@ -53,7 +53,6 @@ impl Sum {
         }
     }
 
-    /// The number.
     #[inline]
     pub(crate) fn to_i128(&self) -> i128
         ensures { result ≡ self.now }

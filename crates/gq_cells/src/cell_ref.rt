@@ -49,7 +49,6 @@ impl<'a> CellRef<'a> {
         }
     }
 
-    // A number, or null.
     #[inline(always)]
     pub(crate) fn of_number(number: Option<i64>) -> CellRef<'a>
         ensures { value_of result ≡ number_cell number }

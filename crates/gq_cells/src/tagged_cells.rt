@@ -60,7 +60,6 @@ impl TaggedCells {
         self.words.len()
     }
 
-    // The value at a position.
     #[inline(always)]
     pub(crate) fn get(&self, position: usize) -> CellRef<'_>
         requires { position < length self.now }

@@ -30,7 +30,6 @@ fn put_text(tag: u8, text: &Text, out: &mut Vec<u8>) -> Result<(), AllocError>
     out.extend_from_slice(text.as_str().as_bytes())
 }
 
-// Appends a value.
 #[tactic(auto, unfolding(crate::specs::Records::value_bytes))]
 fn put_value(value: &Value, out: &mut Vec<u8>) -> Result<(), AllocError>
     requires { IsCell value.now }

@@ -87,7 +87,6 @@ fn lanes_fold_to(text: &[u8], folded: &[u8], at: usize) -> bool
     folds.simd_ne(u8x8::from_slice(&folded[at..])).to_bitmask() == 0
 }
 
-// The folds of eight bytes.
 #[inline(always)]
 fn fold_lanes(lanes: u8x8) -> u8x8
     ensures { result ≡ fold_case lanes }

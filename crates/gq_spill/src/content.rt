@@ -28,7 +28,6 @@ impl Content {
         }
     }
 
-    // Appends bytes.
     pub(crate) fn append(&mut self, bytes: &[u8]) -> Result<(), AllocError>
         ensures { OnOk result (self.new ≡ self.old ++ bytes.now) }
     {

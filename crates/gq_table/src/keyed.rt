@@ -34,7 +34,6 @@ impl<H: KeyHash<Key>> KeyedRows<H> {
         }
     }
 
-    // The number of rows.
     pub(crate) fn len(&self) -> usize
         ensures { result ≡ length self.now.rows }
     {
