@@ -96,8 +96,7 @@ impl Key for RowKey {
     }
 }
 
-/// Keys to insert, the same number of keys to look up, which are among these in another order, and of absent
-/// ones.
+/// Keys to insert, as many of these to look up in another order, and as many absent ones.
 #[derive(Drop)]
 pub(crate) struct Keys<K> {
     pub(crate) held: Vec<K>,
