@@ -13,7 +13,7 @@ use Rattle.gq_check.specs.declared.report.Report.{Report}
 use Rattle.gq_check.specs.Findings.{IsFaultOf}
 use Rattle.gq_script.specs.Numbering.{Numbered, numbered, numbered_left}
 
--- the message of a refusal by a limit: its name, and what it is of
+-- the fixed message of each fault but `Syntax`: its name, and what it is about
 abbrev pub limit_message : Fault → Bytes
 limit_message why.Syntax = []
 limit_message why.LineTooLong = codes "LineTooLong: the line has more than 65536 bytes"
@@ -21,11 +21,11 @@ limit_message why.Limit = codes "Limit: a name has more than 63 bytes, a text mo
 limit_message why.LoadOpen = codes "LoadOpen: no line '\\.' ends the payload"
 limit_message why.PayloadTooLong = codes "Limit: the payload has more than 268435456 bytes"
 
--- the bytes have no line end among them
+-- the bytes contain no line end
 abbrev pub IsOneLine : Bytes → Type 0
 IsOneLine bytes = list_all is_plain bytes ≡ true
 
--- the item's report: its line's number, why reading refuses it, a column in its line or right behind it, of which the first byte's is 1, and a message of one line; of a limit it is fixed
+-- the report of an item: its line's number, why it is refused, a column (from 1) in its line or just past its end, and a message of one line, which is fixed for each fault but `Syntax`
 pub record IsReportOf (b : Bounds) (x : Numbered) (r : Report) : Type 0 where
   pub line : r.line ≡ x.number
   pub fault : IsFaultOf b x.entry (Some r.fault)
@@ -33,23 +33,23 @@ pub record IsReportOf (b : Bounds) (x : Numbered) (r : Report) : Type 0 where
   pub one_line : IsOneLine (string_bytes r.message)
   pub limit : r.fault ≢ why.Syntax → string_bytes r.message ≡ limit_message r.fault
 
--- the reports of items, in order: one for each that reading refuses, and none for others
+-- the reports of items, in order: one for each item that is refused, and none for others
 abbrev pub Reports : Bounds → List Numbered → List Report → Type 0
 Reports b [] reports = reports ≡ []
 Reports b (x ∷ xs) reports =
     (IsFaultOf b x.entry None × Reports b xs reports)
     ⊎ ((r : Report) × (rest : List Report) × (reports ≡ r ∷ rest) × IsReportOf b x r × Reports b xs rest)
 
--- a place in a script: the bytes that are left, where they are known, and how many lines came before
+-- a position in a script: the remaining bytes, if they are known, and the number of lines before them
 pub record Place : Type 0 where
   pub left : Option Bytes
   pub lines : ℕ
 
--- between two places stand items of which these are the reports
+-- the items between two positions have these reports
 abbrev pub Between : Bounds → Place → Place → List Report → Type 0
 Between b old new found = IfSome old.left (λ bytes. (rest : Bytes) × (new.left ≡ Some rest) × (passed : List Numbered) × (numbered_left b old.lines bytes ≡ passed ++ numbered_left b new.lines rest) × Reports b passed found)
 
--- the bytes are the front of a line that says a command
+-- the bytes are a prefix of a line that parses as a command
 abbrev pub Leads : Bytes → Type 0
 Leads front = (rest : Bytes) × (c : Command) × Says (front ++ rest) c
 
@@ -57,6 +57,6 @@ Leads front = (rest : Bytes) × (c : Command) × Says (front ++ rest) c
 abbrev pub report_text : Bytes → Report → Bytes
 report_text name r = name ++ codes ":" ++ decimal r.line ++ codes ":" ++ decimal r.column ++ codes ": " ++ string_bytes r.message ++ codes "\n"
 
--- a script has no reports exactly where each of its items is read as a command with nothing wrong
+-- a script has no reports if and only if each of its items reads as a command without a fault
 abbrev pub CleanTells : Type 0
 CleanTells = (b : Bounds) (script : Bytes) → Reports b (numbered b script) [] ↔ All (λ (x : Numbered). IsFaultOf b x.entry None) (numbered b script)

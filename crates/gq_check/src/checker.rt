@@ -1,4 +1,4 @@
-//! A script, read item by item for what reading refuses.
+//! Reads a script item by item, and reports each item that is refused.
 ghost use Rattle.std.specs.Prelude.{◌≡◌, ◌≢◌, ◌≤◌, ◌+◌, false, IfOk, OnOk, length, string_bytes};
 ghost use Rattle.gq_token.specs.Texts.{Bytes};
 ghost use Rattle.gq_script.specs.Gathering.{Gathers};
@@ -20,7 +20,7 @@ use std::alloc::{AllocError, Global};
 use std::io::Read;
 use std::marker::Model;
 
-/// What is wrong with a line that is no blank line and no comment, where something is.
+/// The fault, if any, of a line that is neither blank nor a comment.
 fn fault_of(alloc: Global, line: &OpenLine, limits: &Limits) -> Result<Option<Fault>, AllocError>
     ensures { (text : Bytes) → Gathers limits.now.bounds.line line.now text → is_skipped text ≡ false → IfOk result (IsFaultOf limits.now.bounds (Plain text)) }
 {
@@ -30,7 +30,7 @@ fn fault_of(alloc: Global, line: &OpenLine, limits: &Limits) -> Result<Option<Fa
     if line.lost {
         return Err(AllocError);
     }
-    // A dash alone is no token.
+    // A lone dash isn't a token.
     if matches!(line.opening, Opening::Dash) {
         return Ok(Some(Fault::Syntax));
     }
@@ -43,13 +43,13 @@ fn fault_of(alloc: Global, line: &OpenLine, limits: &Limits) -> Result<Option<Fa
     }
 }
 
-/// The column of a byte of a line, by how many bytes of what was kept stand before it: blanks before
-/// those count too.
+/// The column of byte `at` of the kept text. The blanks before that text, which aren't kept, count
+/// too.
 fn column_of(line: &OpenLine, at: usize, most: usize) -> u64
     ensures { (text : Bytes) → Gathers most line.now text → (1 ≤ result) × (result ≤ length text + 1) }
 {
     let width = most.saturating_sub(line.room);
-    // A dash alone is not kept.
+    // A lone dash isn't kept.
     let kept = if matches!(line.opening, Opening::Dash) {
         1
     } else {
@@ -86,8 +86,8 @@ pub fn report_of(
     })
 }
 
-/// What is wrong with an item, where something is, behind whose line the reader stands; and how many
-/// lines came up to its end, where that line has this number.
+/// Skips the payload if the line is a load. Returns the item's fault, if any, and how many lines
+/// the script has up to the item's end.
 fn take_item<R: Read>(
     alloc: Global,
     source: &mut Source<R>,
@@ -109,21 +109,21 @@ fn take_item<R: Read>(
     }
 }
 
-/// What the next line of a script comes to.
+/// The outcome of one line.
 #[derive(Drop)]
 enum Step {
-    /// There is none.
+    /// The script's end.
     End,
-    /// Nothing is wrong with its item, or it has none.
+    /// The line's item has no fault, or the line has no item.
     Clean,
     Found(Report),
 }
 
-/// The reports of a script, one after the other, in whatever pieces its bytes come.
+/// Returns the reports of a script one by one; its bytes may come in pieces of any length.
 #[derive(Drop)]
 pub struct Checker<R: Read> {
     source: Source<R>,
-    /// How many lines came.
+    /// How many lines were read.
     lines: u64,
 }
 
@@ -153,11 +153,11 @@ impl<R: Read> Checker<R> {
         }
     }
 
-    /// The next report, or `None` at the script's end. After a fault there is nothing more to learn.
+    /// The next report, or `None` at the script's end. After an error nothing is promised.
     pub fn next(&mut self, alloc: Global, limits: &Limits) -> Result<Option<Report>, CheckFault>
-        // It is that of the first item that is left and that reading refuses.
+        // It is the report of the first remaining item that is refused.
         ensures report { IfOk result (λ x. IfSome x (λ report. Between limits.now.bounds self.old self.new (report ∷ []))) }
-        // None comes only where reading refuses none of what is left.
+        // `None` means that no remaining item is refused.
         ensures end { IfOk result (λ x. IfNone x (IfSome self.old.left (λ bytes. Reports limits.now.bounds (numbered_left limits.now.bounds self.old.lines bytes) []))) }
     {
         for _ in 0..u64::MAX {
@@ -170,7 +170,7 @@ impl<R: Read> Checker<R> {
         Err(CheckFault::Read)
     }
 
-    /// Takes a line, and the payload behind it where it has one.
+    /// Takes a line, and the payload after it if it is a load.
     fn step(&mut self, alloc: Global, limits: &Limits) -> Result<Step, CheckFault>
         ensures { IfOk result (Stepped limits.now.bounds self.old self.new) }
     {

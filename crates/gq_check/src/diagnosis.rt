@@ -1,4 +1,5 @@
-//! Where a line stops being the front of a command, and what could stand there, as the parser says.
+//! Finds where a line stops being the prefix of a command, and which words could follow. The parser
+//! decides both.
 ghost use Rattle.std.specs.Prelude.{◌≡◌, ◌≤◌, ◌++◌, ℕ, List, true, length, take, IfOk};
 ghost use Rattle.std.specs.List.{All};
 ghost use Rattle.gq_command.specs.Commands.{Bytes};
@@ -13,7 +14,7 @@ use gq_command::LineRefusal;
 use gq_row::Limits;
 use std::alloc::{AllocError, Global};
 
-/// Whether a line says a command, within the limits or past them.
+/// Whether a line parses as a command, within the limits or not.
 fn says_command(alloc: Global, line: &[u8], limits: &Limits) -> Result<bool, AllocError>
     ensures { IfOk result (λ b. b ≡ true → (c : Command) × Says line.now c) }
 {
@@ -24,7 +25,7 @@ fn says_command(alloc: Global, line: &[u8], limits: &Limits) -> Result<bool, All
     }
 }
 
-/// Whether a front says a command with this behind it.
+/// Whether `front` followed by `end` parses as a command.
 fn leads_with(alloc: Global, front: &[u8], end: &[u8], limits: &Limits) -> Result<bool, AllocError>
     ensures { IfOk result (λ b. b ≡ true → Leads front.now) }
 {
@@ -33,7 +34,7 @@ fn leads_with(alloc: Global, front: &[u8], end: &[u8], limits: &Limits) -> Resul
     says_command(alloc, line.as_slice(), limits)
 }
 
-/// Whether a front says a command with one of these ends behind it.
+/// Whether `front` followed by one of `ends` parses as a command.
 fn leads_with_any(
     alloc: Global,
     front: &[u8],
@@ -50,8 +51,8 @@ fn leads_with_any(
     Ok(false)
 }
 
-/// So many names in a list, one at least, behind what begins it, and what closes it. They are as short
-/// as names are, and all alike, as those of an `exists` may be.
+/// `begin`, then `count` names (at least one) and a closing parenthesis. Each name is `_`: the
+/// lists of an `exists` may repeat a name.
 fn names_behind(alloc: Global, begin: &str, count: usize) -> Result<String, AllocError> {
     let mut list = String::from_str(alloc, begin)?;
     list.push_str("_")?;
@@ -62,8 +63,8 @@ fn names_behind(alloc: Global, begin: &str, count: usize) -> Result<String, Allo
     Ok(list)
 }
 
-/// Whether a front says a command with one of so many names behind it, as one does that lacks names
-/// in the lists of an `exists`.
+/// Whether `front` parses as a command with `count` more names, as a prefix does that ends within
+/// the lists of an `exists`.
 fn leads_with_names(
     alloc: Global,
     front: &[u8],
@@ -81,8 +82,8 @@ fn leads_with_names(
     Ok(false)
 }
 
-/// How many commas more the first list of an `exists` has than the second, which may both be open;
-/// None where no piece of the front is the word.
+/// How many more commas the first list of an `exists` has than the second; both may be open. `None`
+/// if no piece is `exists`.
 fn commas_ahead(alloc: Global, front: &[u8]) -> Result<Option<usize>, AllocError> {
     let pieces = pieces_of(alloc, front)?;
     let mut ahead: Option<usize> = None;
@@ -99,15 +100,15 @@ fn commas_ahead(alloc: Global, front: &[u8]) -> Result<Option<usize>, AllocError
     Ok(ahead)
 }
 
-/// What is known of a line whose fronts are looked at.
+/// What a search over the prefixes of a line needs.
 #[derive(Clone, Copy)]
 struct Search<'a> {
-    /// What a front of its form may lack.
+    /// The endings that can complete a prefix of its form.
     ends: &'static [&'static str],
     limits: &'a Limits,
 }
 
-/// Whether a front is that of a command, as far as the tables go.
+/// Whether `front` is the prefix of a command, as far as the tables show.
 fn leads(alloc: Global, front: &[u8], search: &Search) -> Result<bool, AllocError>
     ensures { IfOk result (λ b. b ≡ true → Leads front.now) }
 {
@@ -117,7 +118,7 @@ fn leads(alloc: Global, front: &[u8], search: &Search) -> Result<bool, AllocErro
     let Some(commas) = commas_ahead(alloc, front)? else {
         return Ok(false);
     };
-    // One name more where the front ends within a list, behind a comma or what opens it.
+    // One more name if the prefix ends within a list, after a comma or the opening parenthesis.
     for count in commas..commas.saturating_add(2) {
         if leads_with_names(alloc, front, count, search.limits)? {
             return Ok(true);
@@ -126,7 +127,7 @@ fn leads(alloc: Global, front: &[u8], search: &Search) -> Result<bool, AllocErro
     Ok(false)
 }
 
-/// Whether a line is the front of a command up to the end of this piece, where there is one.
+/// Whether the line up to the end of `piece` is the prefix of a command; false without a piece.
 fn leads_up_to(
     alloc: Global,
     line: &[u8],
@@ -142,7 +143,7 @@ fn leads_up_to(
     }
 }
 
-/// How many of the pieces are the longest front of a command.
+/// How many pieces the longest prefix of a command has.
 fn front_len(
     alloc: Global,
     line: &[u8],
@@ -165,7 +166,7 @@ fn front_len(
     Ok(low)
 }
 
-/// Whether a word can stand behind a front.
+/// Whether a word can follow the prefix.
 fn leads_on(
     alloc: Global,
     front: &[u8],
@@ -182,7 +183,7 @@ fn leads_on(
     leads(alloc, longer.as_slice(), &Search { ends, ..*search })
 }
 
-/// Those of some words that can stand behind a front.
+/// The words that can follow the prefix.
 fn words_behind(
     alloc: Global,
     front: &[u8],
@@ -198,26 +199,26 @@ fn words_behind(
     Ok(words)
 }
 
-/// Where a line stops being the front of a command, and what could stand there.
+/// Where a line stops being the prefix of a command, and what could follow.
 #[derive(Drop)]
 pub struct Diagnosis {
-    /// How many bytes the front has that is one.
+    /// The length of that prefix in bytes.
     pub front: usize,
-    /// The piece behind it; at the line's end it is empty.
+    /// The piece after it; empty at the line's end.
     pub piece: Piece,
-    /// The words that can stand behind the front, as messages show them and as they are spelled.
+    /// The words that can follow, as messages show them and as they are spelled.
     pub words: Vec<(&'static str, &'static str)>,
-    /// Whether the front is a command itself.
+    /// Whether the prefix is itself a command.
     pub whole: bool,
 }
 
-/// Looks where a line stops being the front of a command.
+/// Finds where a line stops being the prefix of a command.
 pub fn diagnose(alloc: Global, line: &[u8], limits: &Limits) -> Result<Diagnosis, AllocError> {
     let pieces = pieces_of(alloc, line)?;
     diagnose_pieces(alloc, line, pieces.as_slice(), limits)
 }
 
-/// The same of a line with these pieces.
+/// Like [`diagnose`], with the line's pieces.
 fn diagnose_pieces(
     alloc: Global,
     line: &[u8],
@@ -240,7 +241,7 @@ fn diagnose_pieces(
     })
 }
 
-/// How many bytes so many pieces of a line take, from its start.
+/// Where the first `count` pieces of a line end, in bytes.
 fn front_end(line: &[u8], pieces: &[Piece], count: usize) -> usize
     ensures { result ≤ length line.now }
 {
@@ -253,7 +254,7 @@ fn front_end(line: &[u8], pieces: &[Piece], count: usize) -> usize
     }
 }
 
-/// The piece behind so many, or an empty one at the line's end.
+/// The piece after the first `count`, or an empty one at the line's end.
 fn piece_behind(line: &[u8], pieces: &[Piece], count: usize) -> Piece {
     match pieces.get(count) {
         Some(piece) => *piece,
@@ -264,7 +265,7 @@ fn piece_behind(line: &[u8], pieces: &[Piece], count: usize) -> Piece {
     }
 }
 
-/// The first piece of a line, or all of it where it has none.
+/// The first piece of a line, or the whole line if it has none.
 fn first_word<'a>(line: &'a [u8], pieces: &[Piece]) -> &'a [u8] {
     match pieces.first() {
         Some(piece) => line.get(piece.start..piece.end).unwrap_or(line),

@@ -1,8 +1,8 @@
-//! What may stand in a line, and what a line may end with: tables of words, and of the ends of which
-//! each front of a command lacks one.
+//! Tables of the words that a command can contain, and of the endings that complete its prefixes:
+//! for each prefix of a command at least one does.
 
-/// What may stand somewhere in a command: as a message shows it, and as it is spelled, with a space
-/// before it. The name is one that nobody gives.
+/// Words of a command: as a message shows them, and as they are spelled, after a space. The name is
+/// one that nobody uses.
 pub const WORDS: [(&str, &str); 39] = [
     ("'create'", " create"),
     ("'drop'", " drop"),
@@ -104,7 +104,7 @@ const OF_GROUP: [&str; 24] = [
     " = (\"\u{2}\")",
 ];
 
-/// The forms: the words that they begin with, and the ends of their fronts.
+/// The forms of commands: their first words, and the endings that complete their prefixes.
 const FORMS: [(&[&str], &[&str]); 5] = [
     (&["create"], &OF_CREATE),
     (&["drop", "load", "show"], &OF_NAME),
@@ -113,7 +113,7 @@ const FORMS: [(&[&str], &[&str]); 5] = [
     (&["group"], &OF_GROUP),
 ];
 
-/// Whether a word is one of these keywords, in whatever case.
+/// Whether a word is one of these keywords, in any case.
 fn is_one_of(word: &[u8], keywords: &[&str]) -> bool {
     for keyword in keywords {
         if word.eq_ignore_ascii_case(keyword.as_bytes()) {
@@ -123,7 +123,7 @@ fn is_one_of(word: &[u8], keywords: &[&str]) -> bool {
     false
 }
 
-/// The ends of the fronts of the form that begins with this word; none where no form does.
+/// The endings for the form that begins with this word; empty if no form does.
 pub fn ends_of(first: &[u8]) -> &'static [&'static str] {
     for (keywords, ends) in &FORMS {
         if is_one_of(first, keywords) {
@@ -133,5 +133,5 @@ pub fn ends_of(first: &[u8]) -> &'static [&'static str] {
     &[]
 }
 
-/// What may stand before the names that a list of `exists` lacks.
+/// What can precede the names that a list of an `exists` lacks.
 pub const BEFORE_LISTS: [&str; 6] = ["\"\u{2}\") = (", ") = (", " = (", "(", " ", ","];

@@ -1,4 +1,4 @@
-//! What is wrong with an item of a script, and why a check stops.
+//! Faults of a script's items, and errors that stop a check.
 ghost use Rattle.std.specs.Prelude.{◌≡◌};
 ghost use Rattle.gq_check.specs.declared.fault.CheckFault.TheVariants.{Memory, Read};
 
@@ -6,19 +6,19 @@ use gq_script::ReadFault;
 use std::alloc::AllocError;
 use thiserror::Error;
 
-/// Why reading refuses an item of a script, whatever tables there are.
+/// Why an item of a script is refused when it is read, whichever tables there are.
 #[derive(Clone, Copy, PartialEq, Eq)]
 pub enum Fault {
-    /// The line says no command.
+    /// The line isn't a command.
     Syntax,
-    /// The line has more bytes than a line may have.
+    /// The line has more bytes than the limit.
     LineTooLong,
-    /// The line says a command with a name or a text that is too long, with too many columns, or
-    /// with too many aggregates.
+    /// The line is a command whose names or texts are too long, or with too many columns or
+    /// aggregates.
     Limit,
     /// No line ends the payload.
     LoadOpen,
-    /// The payload has more bytes than a payload may have.
+    /// The payload has more bytes than the limit.
     PayloadTooLong,
 }
 
@@ -28,7 +28,7 @@ pub enum CheckFault {
     /// A read failed, or the script has more bytes than the limit.
     #[error("a read failed, or the script is past its limit")]
     Read,
-    /// A request for memory was refused.
+    /// An allocation failed.
     #[error("out of memory")]
     Memory,
 }

@@ -1,10 +1,10 @@
-//! Laws: what the definitions come to, in the subject's own words. Each is the contract of a
-//! function that does nothing.
+//! Laws: what follows from the definitions, in the field's terms. Each is the contract of an empty
+//! function.
 ghost use Rattle.gq_check.specs.Reports.{CleanTells};
 
 pub use gq_command::laws::numbers_tell;
 
-/// A script has no report exactly where reading refuses none of its items.
+/// A script has no report if and only if none of its items is refused.
 pub fn clean_tells()
     ensures { CleanTells }
 {}

@@ -1,19 +1,18 @@
-//! Scripts that are read, and not run: a report of each line that is no command.
+//! Checks scripts without running them: one report for each item that is refused.
 //!
-//! Which lines those are is what [`gq_command`] says: an item of a script has a report exactly where
-//! reading refuses it, as a line that says no command, or that passes a limit; or where it is a load
-//! whose payload is open or passes its limit. Payloads are passed over by the rule of [`gq_script`],
-//! a line at a time, so that no more than a line is in memory.
+//! [`gq_command`] defines what is refused: a line that isn't a command, a line or a command past a
+//! limit, and a load whose payload is open or too long. Payloads are skipped line by line, by the
+//! rules of [`gq_script`], so at most one line is in memory.
 //!
-//! A line that says no command is looked at by the parser itself: it is the longest front that some
-//! words make a command of, and the words that can stand behind that front. So there is no second
-//! grammar here, but a table of words, and of ends that a front may lack.
+//! A line that isn't a command is diagnosed with the parser: the message says which words can
+//! follow the longest prefix that some ending completes to a command. So there is no second grammar
+//! here, only a table of words and one of such endings.
 //!
-//! The one contract above this crate: [`Checker::next`] gives the reports of a script in the order of
-//! its lines, one for each item that reading refuses, and none for others; each has the number of the
-//! item's line, a column in that line or right behind it, and a message of one line. The laws in
-//! [`laws`] say what the numbers are, and that a script has no report exactly where each of its items
-//! is read as a command that can be carried out.
+//! The contract of [`Checker::next`] covers the reports: they come in the order of the script's
+//! lines, one for each item that is refused and none for others. Each has the number of the item's
+//! line, a column in that line or just past its end, and a message of one line. The laws in
+//! [`laws`] say what the numbers are, and that a script has no report if and only if each of its
+//! items reads as a command without a fault.
 #![tactic(auto)]
 
 mod checker;

@@ -1,4 +1,4 @@
-//! What a report says.
+//! The messages of reports.
 ghost use Rattle.std.specs.Prelude.{◌≡◌, ◌≢◌, IfOk, string_bytes};
 ghost use Rattle.gq_check.specs.Reports.{IsOneLine, limit_message};
 ghost use Rattle.gq_check.specs.declared.fault.Fault.TheVariants as why;
@@ -10,15 +10,15 @@ use gq_row::Limits;
 use gq_token::{Token, lex};
 use std::alloc::{AllocError, Global};
 
-/// What is told of a line, and of which byte of it.
+/// A message about a line, and the byte that it is about.
 #[derive(Drop)]
 pub struct Told {
-    /// How many bytes stand before that byte.
+    /// How many bytes precede that byte.
     pub at: usize,
     pub message: String,
 }
 
-/// The message of a refusal by a limit.
+/// The fixed message of each fault but `Syntax`.
 fn limit_message(fault: Fault) -> &'static str
     ensures { result.now ≡ limit_message fault }
 {
@@ -33,7 +33,7 @@ fn limit_message(fault: Fault) -> &'static str
     }
 }
 
-/// What is told of a line with this fault; of one that says no command by its text.
+/// The message for a line with this fault; that for `Syntax` depends on the text.
 pub fn told_of(
     alloc: Global,
     fault: Fault,
@@ -59,7 +59,7 @@ pub fn told_of(
     })
 }
 
-/// What could stand where the text of a line stops being the front of a command, and what does.
+/// Says what could follow the longest prefix of a command, and what was found there.
 fn told_of_syntax(alloc: Global, text: &[u8], limits: &Limits) -> Result<Told, AllocError> {
     let diagnosis = diagnose(alloc, text, limits)?;
     let piece = text
@@ -74,7 +74,7 @@ fn told_of_syntax(alloc: Global, text: &[u8], limits: &Limits) -> Result<Told, A
     })
 }
 
-/// Appends what could stand behind a front.
+/// Appends what could follow the prefix.
 fn push_expected(
     alloc: Global,
     message: &mut String,
@@ -85,7 +85,7 @@ fn push_expected(
     let last = words
         .len()
         .saturating_sub(if diagnosis.whole { 0 } else { 1 });
-    // Each word would make the line longer than a line may be.
+    // Any word would make the line too long.
     message.push_str(if words.is_empty() && !diagnosis.whole {
         "expected a shorter line"
     } else {
@@ -99,7 +99,7 @@ fn push_expected(
     })
 }
 
-/// Appends words, with an `or` before the one of this index.
+/// Appends words, with an `or` before the one at `last`.
 fn push_words(
     alloc: Global,
     message: &mut String,
@@ -120,8 +120,8 @@ fn push_words(
     Ok(())
 }
 
-/// What a word is called where this was found: a name where one may stand has been named before, and
-/// a number is out of range.
+/// The label of a word, given the piece that was found in its place: a number found there is out of
+/// range, and a name found there is already used.
 fn label(alloc: Global, shown: &'static str, piece: &[u8]) -> &'static str {
     if shown == NUMBER
         && piece.iter().any(|byte| byte.is_ascii_digit())
@@ -135,7 +135,7 @@ fn label(alloc: Global, shown: &'static str, piece: &[u8]) -> &'static str {
     }
 }
 
-/// Whether a piece is a name, as far as there is memory to tell.
+/// Whether a piece lexes as a name; false if an allocation fails.
 fn is_name(alloc: Global, piece: &[u8]) -> bool {
     let Ok(text) = str::from_utf8(piece) else {
         return false;
@@ -155,7 +155,7 @@ fn push_found(message: &mut String, piece: &[u8]) -> Result<(), AllocError> {
     message.push_str(quote)
 }
 
-/// What a piece is called, and the quote around it.
+/// What a message calls a piece, and the quote around it.
 fn found(piece: &[u8]) -> (&'static str, &str) {
     let Ok(text) = str::from_utf8(piece) else {
         return ("", "what is not UTF-8");
@@ -174,7 +174,7 @@ fn found(piece: &[u8]) -> (&'static str, &str) {
     }
 }
 
-/// Whether the byte that a piece begins with stands in it an odd number of times.
+/// Whether a piece's first byte occurs in it an odd number of times.
 fn is_open(piece: &[u8]) -> bool {
     let Some(quote) = piece.first() else {
         return false;

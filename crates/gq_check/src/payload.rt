@@ -1,4 +1,4 @@
-//! Payloads, passed over line by line.
+//! Skips payloads line by line.
 ghost use Rattle.std.specs.Prelude.{◌≡◌, ◌≤◌, ℕ, ◌++◌, [], Some, IfOk, OnOk};
 ghost use Rattle.gq_token.specs.Texts.{Bytes};
 ghost use Rattle.gq_script.specs.Payloads.{Holds};
@@ -11,7 +11,7 @@ use gq_script::{Kept, Source, take_payload_line};
 use std::alloc::{AllocError, Global};
 use std::io::Read;
 
-/// What keeps a line's bytes while the payload is within its limit, so that they can be counted.
+/// Keeps a line's bytes, to count them, as long as the payload is within its limit.
 fn kept_for(alloc: Global, room: Option<usize>) -> Kept
     ensures { (most : ℕ) → Holds most result [] }
 {
@@ -21,8 +21,7 @@ fn kept_for(alloc: Global, room: Option<usize>) -> Kept
     }
 }
 
-/// How many more bytes a payload may have behind a line of which this was kept: None where it is past
-/// its limit.
+/// How many more bytes a payload may have after this line; `None` past the limit.
 fn room_behind(room: Option<usize>, line: Kept) -> Result<Option<usize>, AllocError>
     ensures { IfOk result (λ left. (most : ℕ) (front raw : Bytes) → HasRoom most room front → Holds most line raw → HasRoom most left (front ++ raw)) }
 {
@@ -36,8 +35,9 @@ fn room_behind(room: Option<usize>, line: Kept) -> Result<Option<usize>, AllocEr
     }
 }
 
-/// Passes a payload and the line that ends it, or all that is left where no line does. Answers what is
-/// wrong with it, and how many lines came up to there, where so many came before it.
+/// Skips a payload and the line that ends it, or the rest of the script if no line does. Returns
+/// its fault, if any, and how many lines the script has up to there; `before` of them precede the
+/// payload.
 pub fn pass_payload<R: Read>(
     alloc: Global,
     source: &mut Source<R>,
@@ -59,7 +59,7 @@ pub fn pass_payload<R: Read>(
     Err(CheckFault::Read)
 }
 
-/// What is wrong with a payload that ends.
+/// The fault, if any, of a payload that a line ends.
 fn past_limit(room: Option<usize>) -> Option<Fault>
     ensures { (most : ℕ) (bytes : Bytes) → HasRoom most room bytes → result ≡ payload_fault most (Some bytes) }
 {

@@ -1,22 +1,22 @@
-//! The pieces of a line: words, numbers, signs and what stands in quotes. Only where a line may be cut
-//! rests on them, so no contract says more than that they stand in the line.
+//! Splits a line into pieces: words, numbers, signs and quoted texts. They only decide where a line
+//! may be cut, so contracts cover no more than their lengths.
 ghost use Rattle.std.specs.Prelude.{◌≤◌, ◌+◌, length};
 
 use std::alloc::{AllocError, Global};
 
-/// A piece of a line, from the byte `start` up to `end`.
+/// A piece of a line: the bytes `start..end`.
 #[derive(Clone, Copy)]
 pub struct Piece {
     pub start: usize,
     pub end: usize,
 }
 
-/// A kind of bytes that stand together in a line.
+/// A class of bytes.
 #[derive(Clone, Copy)]
 enum Kind {
     Word,
     Blank,
-    /// Behind the first of a character of several bytes.
+    /// A continuation byte of a UTF-8 character.
     Tail,
 }
 
@@ -30,15 +30,15 @@ impl Kind {
     }
 }
 
-/// How many bytes of a kind stand at the front.
+/// How many leading bytes belong to the class.
 fn run_len(bytes: &[u8], kind: Kind) -> usize
     ensures { result ≤ length bytes.now }
 {
     bytes.iter().take_while(|b| kind.has(**b)).count()
 }
 
-/// The bytes up to the quote that closes, behind the one that opens: a doubled quote closes nothing.
-/// All of them, where none closes.
+/// The bytes up to and including the closing quote, given those after the opening one; all of them
+/// if none closes. A doubled quote doesn't close.
 fn quoted_len(bytes: &[u8], quote: u8) -> usize
     ensures { result ≤ length bytes.now }
 {
@@ -53,7 +53,7 @@ fn quoted_len(bytes: &[u8], quote: u8) -> usize
     bytes.len()
 }
 
-/// How long the piece is that begins with this byte, by the bytes behind it.
+/// The length of the piece that begins with `first`, given the bytes after it.
 fn piece_len(first: u8, behind: &[u8]) -> usize
     ensures { result ≤ 1 + length behind.now }
 {
@@ -66,7 +66,7 @@ fn piece_len(first: u8, behind: &[u8]) -> usize
     }
 }
 
-/// The pieces of a line, from left to right, with blanks between them where there are any.
+/// The pieces of a line, from left to right. Blanks between pieces belong to none.
 pub fn pieces_of(alloc: Global, line: &[u8]) -> Result<Vec<Piece>, AllocError> {
     let mut pieces = Vec::new(alloc);
     let mut rest = line;

@@ -5,10 +5,10 @@ use gq_command::{LineRefusal, parse_line};
 use gq_row::Limits;
 use std::alloc::Global;
 
-/// Why a line gives no command, where it gives none.
+/// Why a line is refused; `None` if it is a command within the limits.
 pub fn refusal_of(alloc: Global, line: &[u8], limits: &Limits) -> Option<LineRefusal>
     ensures { IsToldOf limits.now.bounds line.now result }
 {
-    // The command goes here, whoever asks.
+    // The command itself is dropped.
     parse_line(alloc, line, limits).err()
 }

@@ -6,19 +6,20 @@ use crate::fault::Fault;
 use itoa::Buffer;
 use std::alloc::{AllocError, Global};
 
-/// What is told of an item that reading refuses.
+/// Why an item of a script is refused.
 #[derive(Drop)]
 pub struct Report {
     /// The number of its line; the first line of a script is 1.
     pub line: u64,
     pub fault: Fault,
-    /// The byte of the line that it is about; the first is 1.
+    /// The byte of the line that it is about; the first byte is 1.
     pub column: u64,
     pub message: String,
 }
 
 impl Report {
-    /// The report as compilers write it: the script's name, the line, the column and the message.
+    /// The report in the format of compilers: the script's name, the line, the column and the
+    /// message.
     pub fn text(&self, alloc: Global, name: &str) -> Result<String, AllocError>
         ensures { IfOk result (λ text. string_bytes text ≡ report_text name.now self.now) }
     {
