@@ -1,4 +1,4 @@
--- The rows that a query gives.
+-- The result rows of queries.
 use Rattle.std.specs.Prelude.{◌&&◌, ℕ, pos, Bool, true, List, [], ◌∷◌, ◌++◌, map, filter, Option, None, Some, option_map}
 use Rattle.gq_row.specs.declared.value.Value.{Value}
 use Rattle.gq_row.specs.declared.value.Value.TheVariants.{Int}
@@ -16,7 +16,7 @@ use Rattle.gq_select.specs.declared.output_column.OutputColumn.TheVariants.{Aggr
 use Rattle.gq_select.specs.Matches.{is_matched}
 use Rattle.gq_select.specs.Truths.{keeps}
 
--- whether a row has the match that is asked for among other rows, if one is
+-- whether a row has the match that is asked for among the other rows, if one is asked for
 abbrev pub has_match : Option Matching → List (List Value) → List Value → Bool
 has_match None others row = true
 has_match (Some matching) others row = is_matched matching others row
@@ -25,32 +25,32 @@ has_match (Some matching) others row = is_matched matching others row
 abbrev pub rows_kept : List Test → Option Matching → List (List Value) → List (List Value) → List (List Value)
 rows_kept tests matching others rows = filter (λ row. keeps tests row && has_match matching others row) rows
 
--- what is shown of a group's rows; there is nothing of a sum that is out of range
+-- the value that is shown of a group's rows; `None` for a sum that is out of range
 abbrev pub shown_value : OutputColumn → List (List Value) → Option Value
 shown_value (Aggregate kind column) rows = aggregate kind (column_of column rows)
 shown_value (CountDistinct column) rows = Some (Int (pos (different (column_of column rows))))
 
--- how the key of some rows is shown: in each of its columns by the least value there, which is the least spelling of a text without case, and else the one value that they have
+-- the key of some rows as it is shown: the least value in each of its columns, which is the least spelling of a text without case, and otherwise the one value that the rows have
 abbrev pub shown_key : List ℕ → List (List Value) → List Value
 shown_key by rows = map (λ column. least (column_of column rows)) by
 
--- a result row: the key as it is shown, and then what is shown of the rows that have it
+-- a result row: the key as it is shown, and then the values shown of the rows that have it; `None` if a sum is out of range
 abbrev pub result_row : List ℕ → List OutputColumn → List (List Value) → List Value → Option (List Value)
 result_row by shown rows key = option_map (λ values. shown_key by (of_key by rows key) ++ values) (all_of (map (λ s. shown_value s (of_key by rows key)) shown))
 
--- the result rows of a `group`: one for each different key, in the order of the keys; none where some sum is out of range
+-- the result rows of a `group`: one for each distinct key, in the order of the keys; `None` if a sum is out of range
 abbrev pub answer : List ℕ → List OutputColumn → List (List Value) → Option (List (List Value))
 answer by shown rows = all_of (map (result_row by shown rows) (in_order (λ key. key) (keys_of by rows)))
 
--- of these the rows that `having` keeps: it is asked of finished rows, and where some sum is out of range there are none, whatever it says
+-- the result rows of a `group` that `having` keeps; `None` if a sum is out of range, whatever `having` says
 abbrev pub answer_having : List ℕ → List OutputColumn → List Test → List (List Value) → Option (List (List Value))
 answer_having by shown having rows = option_map (filter (keeps having)) (answer by shown rows)
 
--- the result rows of a `distinct`: the different keys in some columns, in order, each as it is shown; null is one key value
+-- the result rows of a `distinct`: the distinct keys in some columns, in order, each as it is shown; null is one key value
 abbrev pub distinct_keys : List ℕ → List (List Value) → List (List Value)
 distinct_keys on rows = map (λ key. shown_key on (of_key on rows key)) (in_order (λ key. key) (keys on rows))
 
--- what the rows of a table are ordered by: their keys, or all of their values where there is no key
+-- what the rows of a table are ordered by: their keys, or all of their values if the table has no key
 abbrev pub ordered_by : List ℕ → List Value → List Value
 ordered_by [] row = row
 ordered_by (column ∷ columns) row = key_of (column ∷ columns) row

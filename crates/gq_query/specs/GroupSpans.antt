@@ -10,30 +10,30 @@ use Rattle.gq_query.specs.declared.sort_prefix.SortPrefix.{SortPrefix}
 use Rattle.gq_query.specs.declared.group_list.GroupSpan.{GroupSpan}
 use Rattle.gq_query.specs.SortPrefixes.{IsSortPrefix}
 
--- where the key of a span ends
+-- where the cells of a span's key end
 abbrev pub middle_of : GroupSpan → ℕ
 middle_of span = span.start + span.key
 
--- and where what stands behind it ends
+-- where the cells of a span's values end
 abbrev pub end_of : GroupSpan → ℕ
 end_of span = middle_of span + span.values
 
--- a span that begins at a place, of so many cells for its key, and so many behind these
+-- a span with this prefix that begins at `start`, with `key` cells of the key and then `values` cells of the values
 pub record IsSpan (prefix : SortPrefix) (start key values : ℕ) (span : GroupSpan) : Type 0 where
   pub prefixed : span.prefix ≡ prefix
   pub begins : span.start ≡ start
   pub keyed : span.key ≡ key
   pub valued : span.values ≡ values
 
--- the group that stands at a span: its key, and what stands behind it
+-- the group at a span: its key, and its values
 abbrev pub group_at : List Value → GroupSpan → Group
 group_at cells span = (part cells span.start (middle_of span), part cells (middle_of span) (end_of span))
 
--- a span lies within a list, and its prefix is that of the key there
+-- a span is within a list, and its prefix is that of the key there
 pub record IsGroupAt (cells : List Value) (span : GroupSpan) : Type 0 where
   pub within : end_of span ≤ length cells
   pub prefixed : IsSortPrefix (part cells span.start (middle_of span)) span.prefix
 
--- spans are compared by the two words of their prefixes, and by the keys that stand there where these tie
+-- the order of two spans: by the two words of their prefixes, and by their keys if these tie
 abbrev pub compare_at : List Value → GroupSpan → GroupSpan → Ordering
 compare_at cells a b = ordering_then (ordering_then (nat_cmp a.prefix.high b.prefix.high) (nat_cmp a.prefix.low b.prefix.low)) (compare_keys (part cells a.start (middle_of a)) (part cells b.start (middle_of b)))

@@ -1,4 +1,4 @@
--- Rows that are kept, where the keys of the other rows are in a set.
+-- The rows that are kept, given the keys of the other rows in a set.
 use Rattle.std.specs.Prelude.{◌<◌, ◌&&◌, ℕ, Bool, true, not, All, List, [], length, filter, Option, None, Some, option_copied, if◌then◌else◌}
 use Rattle.gq_row.specs.declared.value.Value.{Value}
 use Rattle.gq_row.specs.Rows.{key_of}
@@ -9,12 +9,12 @@ use Rattle.gq_select.specs.Truths.{keeps}
 use Rattle.gq_query.specs.declared.row_filter.RowFilter.{RowFilter}
 use Rattle.gq_query.specs.declared.query.Query.{Query}
 
--- the columns that a match asks of a row
+-- the columns of a row that a match compares
 abbrev pub ours_of : Option Matching → List ℕ
 ours_of None = []
 ours_of (Some matching) = matching.ours
 
--- whether a row has the match that is asked for among the rows whose keys are in a set, if one is
+-- whether a row has the match that is asked for, if any, among the rows whose keys are in a set
 abbrev pub is_found : {H : Type 0} → Option Matching → KeySet H → List Value → Bool
 is_found None keys row = true
 is_found (Some matching) keys row = if matching.negated then not (has keys (key_of matching.ours row)) else has keys (key_of matching.ours row)
@@ -30,7 +30,7 @@ AreLong columns rows = All (λ row. All (λ column. column < length row) columns
 abbrev pub kept_rows : {H : Type 0} → Query H → List (List Value)
 kept_rows query = filter (is_kept query.kept.now) query.table.now.rows
 
--- a query groups by columns of its table, and asks columns of it for a match
+-- the columns that a query groups by, and those that it compares for a match, are columns of its table
 pub record HasColumns {H : Type 0} (query : Query H) : Type 0 where
   pub by : All (λ column. column < length query.table.now.schema.columns) query.by.now
   pub ours : All (λ column. column < length query.table.now.schema.columns) (ours_of (option_copied query.kept.now.matching))

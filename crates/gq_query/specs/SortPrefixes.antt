@@ -1,4 +1,4 @@
--- Normalized sort keys: what two words say of a value's place in the order.
+-- Normalized sort keys: two words that say where a value is in the order.
 use Rattle.std.specs.Prelude.{◌≡◌, ℕ, zero, suc, ◌+◌, ◌-◌, ◌*◌, ◌^◌, ◌<◌, negsuc, ◌-ℤ◌, List, [], ◌∷◌, drop, get_or, unsigned_abs, FitsSigned}
 use Rattle.std.specs.Int.{w64}
 use Rattle.gq_row.specs.declared.value.Value.{Value}
@@ -7,20 +7,20 @@ use Rattle.gq_row.specs.Folding.{fold_case}
 use Rattle.gq_row.specs.Rows.{cell}
 use Rattle.gq_query.specs.declared.sort_prefix.SortPrefix.{SortPrefix}
 
--- the first n bytes of a text as one number, the first of them highest, with zeros behind its end
+-- the first `n` bytes of a text as a big-endian number, padded with zeros
 abbrev pub leading : ℕ → List ℕ → ℕ
 leading zero text = 0
 leading (suc n) [] = 0
 leading (suc n) (byte ∷ text) = byte * 256 ^ n + leading n text
 
--- sixteen bytes in two words: nothing of null, 1 and how far a number is from the least, 2 and the first fifteen bytes of a text, 3 and those of the fold of a text without case
+-- the sixteen bytes of a value, in two words: 0 for null, 1 and a number's distance from the minimum, 2 and the first fifteen bytes of a text, 3 and those of the fold of a text without case
 abbrev pub prefix_of : Value → SortPrefix
 prefix_of Null = record { high = 0; low = 0 }
 prefix_of (Int n) = record { high = 2 ^ 56; low = unsigned_abs (n -ℤ negsuc (2 ^ 63 - 1)) }
 prefix_of (Text text) = record { high = 2 * 2 ^ 56 + leading 7 text; low = leading 8 (drop 7 text) }
 prefix_of (NoCase text) = record { high = 3 * 2 ^ 56 + leading 7 (fold_case text); low = leading 8 (drop 7 (fold_case text)) }
 
--- what a machine holds: numbers of 64 bits, and texts of bytes
+-- the values that a machine holds: numbers of 64 bits, and texts of bytes
 abbrev pub IsOfBytes : Value → Type 0
 IsOfBytes Null = Unit {0}
 IsOfBytes (Int n) = FitsSigned w64 n

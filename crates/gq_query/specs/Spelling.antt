@@ -1,4 +1,4 @@
--- How keys are shown as their rows spell them.
+-- Keys as their rows spell them.
 use Rattle.std.specs.Prelude.{ℕ, Bool, true, false, List, map}
 use Rattle.std.specs.List.{list_any}
 use Rattle.gq_row.specs.declared.schema.Column.{Column}
@@ -14,10 +14,10 @@ is_nocase kind.Int = false
 is_nocase kind.Text = false
 is_nocase kind.NoCase = true
 
--- whether a key in these columns may be spelled in more than one way: one of them has texts without case
+-- whether a key in these columns can have more than one spelling: one of the columns has texts without case
 abbrev pub has_spellings : List Column → List ℕ → Bool
 has_spellings columns by = list_any (λ column. is_nocase (kind_at columns column)) by
 
--- the least value in each column of a key
+-- the minimum of each column of a key
 abbrev pub least_shown : List ℕ → List OutputColumn
 least_shown by = map (λ column. Aggregate Min column) by

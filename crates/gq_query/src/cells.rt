@@ -1,4 +1,4 @@
-//! Which cells of a row are handed on to be grouped, and where each then stands.
+//! The cells of a row that are passed on for grouping, and their positions.
 ghost use Rattle.std.specs.Prelude.{◌≡◌, fold, IfOk, OnOk, position, nat_eq};
 ghost use Rattle.gq_query.specs.Cells.{with_column, with_agg, columns_used, place_of, placed_columns, placed_aggs, aggs_of};
 
@@ -6,7 +6,7 @@ use gq_agg::AggKind;
 use gq_select::OutputColumn;
 use std::alloc::{AllocError, Global};
 
-/// The columns that a grouping by columns and of aggregates needs, each once.
+/// The columns that a key and aggregates need, each once.
 pub fn columns_used(
     alloc: Global,
     by: &[usize],
@@ -43,7 +43,7 @@ fn add_column(columns: &mut Vec<usize>, column: usize) -> Result<(), AllocError>
     Ok(())
 }
 
-/// Where the cell of a column stands among the cells of these columns; it is one of them.
+/// The position of a column among these columns; it is one of them.
 pub fn place_of(columns: &[usize], column: usize) -> usize
     ensures { result ≡ place_of columns.now column }
 {
@@ -56,7 +56,7 @@ fn find_column(columns: &[usize], column: usize) -> Option<usize>
     columns.iter().position(|other| *other == column)
 }
 
-/// Where the cells of some columns stand.
+/// The positions of some columns among others.
 pub fn place_columns(
     alloc: Global,
     columns: &[usize],
@@ -71,7 +71,7 @@ pub fn place_columns(
     Ok(places)
 }
 
-/// The same aggregates, of rows of the cells in these columns alone.
+/// The same aggregates, over rows that hold only the cells of these columns.
 pub fn place_aggs(
     alloc: Global,
     columns: &[usize],
@@ -86,7 +86,7 @@ pub fn place_aggs(
     Ok(aggs)
 }
 
-/// The aggregates among what is shown, but for counts of different values.
+/// The aggregates among the shown columns, without counts of distinct values.
 pub fn aggs_of(alloc: Global, shown: &[OutputColumn]) -> Result<Vec<(AggKind, usize)>, AllocError>
     ensures { IfOk result (λ aggs. aggs.items ≡ aggs_of shown.now) }
 {

@@ -1,4 +1,4 @@
-//! The different keys of the rows that a query is about, in order.
+//! The distinct keys of the rows that a query is about, in order.
 ghost use Rattle.std.specs.Prelude.{◌≡◌, ◌<◌, All, IsTrue, IfOk, IfErr, length, option_copied};
 ghost use Rattle.gq_group.specs.Access.{LeavesOthers, HasCause};
 ghost use Rattle.gq_query.specs.Answers.{distinct_keys};
@@ -16,13 +16,11 @@ use gq_spill::RunStore;
 use std::alloc::Global;
 use sw_probe::KeyHash;
 
-/// The result rows of a `distinct`: the different keys that the rows that are selected have in some
-/// columns, of which there is one at least, in ascending order. Null is one key value. A text without
-/// case is shown by the least spelling that these rows have of it.
+/// The distinct keys that the selected rows have in the columns `on`, in ascending order. Null is
+/// one key value. A text without case is shown by its least spelling among these rows.
 ///
-/// Refused with `Memory` for want of memory, `StoreFault` where the store failed, and `Damaged`
-/// where it did not read back what was written. Whatever comes of it, the store has the live runs
-/// that it had.
+/// Fails with `Memory`, `StoreFault`, or `Damaged` if the store doesn't read back what was written.
+/// In every case the store has the same live runs as before.
 pub fn distinct_rows<H: KeyHash<Key> + Copy, S: RunStore>(
     alloc: Global,
     hasher: H,

@@ -1,7 +1,7 @@
-//! A list of groups as a sink.
+//! A list of groups, as a sink.
 //!
-//! The cells of all groups stand in one list, those of a group one behind the other: its key, and then
-//! what is shown of its rows. What sorts groups moves where they stand, and no cell.
+//! One list holds the cells of all groups, group after group: its key, then its shown values.
+//! Sorting moves spans and no cells.
 ghost use Rattle.std.specs.Prelude.{◌≡◌, ◌<◌, ◌^◌, ◌++◌, ◌∷◌, [], IfOk, IsOk, IsPermutation, OnOk, drop, length, slice_index_or, map};
 ghost use Rattle.std.specs.List.Sorted.{IsSortedByKey};
 ghost use Rattle.gq_row.specs.Order.{compare_keys};
@@ -19,8 +19,8 @@ use std::alloc::{AllocError, Global};
 use std::cmp::Ordering;
 use std::marker::Model;
 
-/// Where a group stands in a list of cells, and the prefix of its key: so many cells from `start` on are the
-/// key, and so many behind these its values. It has 24 bytes, as each group has one, and sorts move it.
+/// The cells of a group, and the prefix of its key: `key` cells of the key from `start` on, then
+/// `values` cells of its values. It has 24 bytes, since each group has one and sorts move it.
 #[derive(Clone, Copy)]
 pub struct GroupSpan {
     prefix: SortPrefix,
@@ -30,7 +30,8 @@ pub struct GroupSpan {
 }
 
 impl GroupSpan {
-    // A group in a list of 2^32 cells, which take 32 GiB or more, and one of 2^16 cells count as too large for memory.
+    // A start of 2^32 cells (32 GiB or more), or a key or values of 2^16 cells, count as out of
+    // memory.
     #[inline]
     fn new(
         prefix: SortPrefix,
@@ -64,7 +65,7 @@ impl GroupSpan {
         self.start as usize
     }
 
-    // Where they end.
+    // Where the cells of the key end.
     #[inline]
     fn middle(&self) -> usize
         ensures { result ≡ middle_of self.now }
@@ -72,7 +73,7 @@ impl GroupSpan {
         self.start as usize + self.key as usize
     }
 
-    // Where the cells behind them end.
+    // Where the cells of the values end.
     #[inline]
     fn end(&self) -> usize
         ensures { result ≡ end_of self.now }
@@ -81,14 +82,13 @@ impl GroupSpan {
     }
 }
 
-/// The groups that were pushed, in that order: of each the key, and what is shown of the rows that
-/// have it.
+/// The groups that were pushed, in that order, each with its key and its shown values.
 #[derive(Drop)]
 pub struct GroupList {
     alloc: Global,
     cells: Cells,
     groups: Vec<GroupSpan>,
-    // For how many groups room for cells is to be made with the next.
+    // For how many groups the next one reserves cells.
     expected: usize,
 }
 
@@ -105,14 +105,15 @@ impl Model for GroupList {
 }
 
 impl GroupList {
-    /// No group. It takes no memory. What is shown of groups is mostly numbers, and their keys may be texts.
+    /// An empty list; allocates nothing. Texts are stored out of line, since most shown values are
+    /// numbers.
     pub fn new(alloc: Global) -> GroupList
         ensures { result ≡ [] }
     {
         GroupList::with_cells(alloc, Cells::with_texts_apart(alloc))
     }
 
-    /// No group, of those of which nothing is shown but their keys.
+    /// An empty list for groups of which only the keys are shown.
     pub fn of_keys(alloc: Global) -> GroupList
         ensures { result ≡ [] }
     {
@@ -137,8 +138,8 @@ impl GroupList {
         self.groups.len()
     }
 
-    // Makes room for the cells of all groups that are expected, where they are as many of each as those that
-    // stand from a position on. Where there is no memory for that, the list grows as groups come.
+    // Reserves cells for all expected groups, if each has as many as those from `start` on. If that
+    // allocation fails, the list grows as groups come.
     fn make_room(&mut self, start: usize)
         ensures { self.new ≡ self.old }
     {
@@ -149,7 +150,7 @@ impl GroupList {
         }
     }
 
-    // Puts a group behind the others.
+    // Appends a group.
     #[inline(always)]
     fn add(&mut self, key: Key, values: &mut Vec<Value>) -> Result<(), AllocError>
         ensures { OnOk result (self.new ≡ self.old ++ (key, values.old.items) ∷ []) }
@@ -164,8 +165,8 @@ impl GroupList {
         Ok(())
     }
 
-    /// Puts a group behind the others. Its key and its values move out of the lists that are lent, and what is left there is
-    /// of no value.
+    /// Appends a group. The values move out of the borrowed lists, whose contents are then
+    /// unspecified.
     pub fn push_group(
         &mut self,
         key: &mut Vec<Value>,
@@ -181,7 +182,7 @@ impl GroupList {
         Ok(())
     }
 
-    /// Writes the values of the key of a group over those of a list.
+    /// Overwrites `key` with the key of a group.
     pub fn copy_key(&self, group: usize, key: &mut Vec<Value>) -> Result<(), AllocError>
         requires { group < length self.now }
         ensures { OnOk result (key.new.items ≡ (slice_index_or self.now group ([], [])).0) }
@@ -194,7 +195,7 @@ impl GroupList {
         self.cells.copy_part(self.alloc, span, key)
     }
 
-    /// Writes what is shown of a group over the values of a list.
+    /// Overwrites `values` with the shown values of a group.
     pub fn copy_values(&self, group: usize, values: &mut Vec<Value>) -> Result<(), AllocError>
         requires { group < length self.now }
         ensures { OnOk result (values.new.items ≡ (slice_index_or self.now group ([], [])).1) }
@@ -207,7 +208,7 @@ impl GroupList {
         self.cells.copy_part(self.alloc, span, values)
     }
 
-    /// Sorts the groups by their keys: by the prefixes of these first, and by whole keys where prefixes tie.
+    /// Sorts the groups by their keys: by prefixes first, and by whole keys if prefixes tie.
     pub fn sort(&mut self)
         ensures moved { IsPermutation self.old self.new }
         ensures ascending { IsSortedByKey (λ (g : Group). g.0) compare_keys self.new }
@@ -217,7 +218,7 @@ impl GroupList {
             .sort_unstable_by(|a, b| compare_spans(cells, a, b));
     }
 
-    /// The result rows of the groups: of each the key's values, and then the others. No cell moves.
+    /// The result rows of the groups: the key's values, then the shown values. No cell moves.
     pub fn into_rows(self, alloc: Global) -> Result<Rows, AllocError>
         ensures { IfOk result (λ rows. rows ≡ map row_of self) }
     {
@@ -231,7 +232,7 @@ impl GroupList {
         Ok(Rows::of(self.cells, spans))
     }
 
-    /// Those without the values of the keys.
+    /// The result rows without the keys.
     pub fn into_values(self, alloc: Global) -> Result<Rows, AllocError>
         ensures { IfOk result (λ rows. rows ≡ map (λ (g : Group). g.1) self) }
     {
@@ -246,7 +247,7 @@ impl GroupList {
     }
 }
 
-// Puts the values of a key behind others. They move.
+// Moves the values of a key to the end of the cells.
 #[inline(always)]
 fn put_key(alloc: Global, cells: &mut Cells, key: Key) -> Result<(), AllocError>
     ensures put { OnOk result (cells.new ≡ cells.old ++ key) }
@@ -259,7 +260,7 @@ fn put_key(alloc: Global, cells: &mut Cells, key: Key) -> Result<(), AllocError>
     Ok(())
 }
 
-// Puts copies of values behind others.
+// Appends copies of values.
 pub(crate) fn copy_cells(
     alloc: Global,
     cells: &mut Vec<Value>,
@@ -273,7 +274,7 @@ pub(crate) fn copy_cells(
     Ok(())
 }
 
-// Where the key of a group stands, as far as that is within a list.
+// The span of a group's key, clamped to the list.
 #[inline]
 fn key_within(cells: &Cells, group: &GroupSpan) -> Span
     ensures within { IsPart cells.now result }
@@ -286,7 +287,7 @@ fn key_within(cells: &Cells, group: &GroupSpan) -> Span
     }
 }
 
-// The order of the keys that stand at two spans.
+// The order of two groups by their keys.
 #[inline]
 fn compare_spans(cells: &Cells, a: &GroupSpan, b: &GroupSpan) -> Ordering
     ensures { result ≡ compare_at cells.now a.now b.now }
@@ -297,7 +298,7 @@ fn compare_spans(cells: &Cells, a: &GroupSpan, b: &GroupSpan) -> Ordering
     }
 }
 
-// The same where prefixes tie. Stands by itself, so that the sort's loops are short.
+// The same if the prefixes tie. Not inlined, so that the sort's loops stay short.
 #[inline(never)]
 fn compare_keys_at(cells: &Cells, a: &GroupSpan, b: &GroupSpan) -> Ordering
     ensures { result ≡ compare_keys (part cells.now a.now.start (middle_of a.now))

@@ -1,4 +1,4 @@
-//! The groups of the rows that a query is about, in order.
+//! Answers `group`: the result rows of the groups, in the order of their keys.
 ghost use Rattle.std.specs.Prelude.{◌≡◌, ◌+◌, ◌<◌, All, IsTrue, IfOk, OnOk, IfErr, IsErrOf, None, Some, ◌++◌, filter, insert, length, option_copied, slice_index_or, ◌∷◌, []};
 ghost use Rattle.std.specs.List.{list_all};
 ghost use Rattle.gq_row.specs.declared.value.Value.TheVariants.{Null};
@@ -28,21 +28,21 @@ use std::alloc::{AllocError, Global};
 use std::mem::replace;
 use sw_probe::KeyHash;
 
-/// By which columns rows are grouped, what is shown of each group, and which result rows are kept:
-/// those for which `having` is true, where a row's columns are the key's, and then what is shown.
+/// The columns that rows are grouped by, the columns shown of each group, and the condition on
+/// result rows: its columns are those of the key, then the shown ones.
 #[derive(Drop)]
 pub struct Grouping<'a> {
     pub by: &'a [usize],
-    /// Whether rows are grouped by each front of these columns, the empty one first, and not by all
-    /// of them alone.
+    /// Whether rows are grouped by each prefix of these columns, the empty one first, and not only
+    /// by all of them.
     pub rollup: bool,
     pub shown: &'a [OutputColumn],
     pub having: &'a Condition,
 }
 
 impl<'a, H: KeyHash<Key> + Copy> Query<'a, H> {
-    // The groups in the order of their keys, with the aggregates among what is shown, and what
-    // grouping them took.
+    // The groups in the order of their keys, with the aggregates among the shown columns, and the
+    // work of grouping them.
     fn aggregates<S: RunStore>(
         &self,
         shown: &[OutputColumn],
@@ -71,7 +71,7 @@ impl<'a, H: KeyHash<Key> + Copy> Query<'a, H> {
         Ok((groups, spent))
     }
 
-    // The counts of different values in the order of the keys.
+    // The counts of distinct values, in the order of the keys.
     fn counts<S: RunStore>(&self, column: usize, store: &mut S) -> Result<GroupList, Refusal>
         requires columns { HasColumns self.now }
         requires column { column < length self.now.table.now.schema.columns }
@@ -86,8 +86,8 @@ impl<'a, H: KeyHash<Key> + Copy> Query<'a, H> {
         Ok(counts)
     }
 
-    // Counts the different values that are shown next, if they are, for each group. The others
-    // have their values by then, up to that place, and then the aggregates.
+    // If a count of distinct values is shown at `place`, inserts it into each group. Before that,
+    // groups have the values shown before `place`, then the remaining aggregates.
     fn show_next<S: RunStore>(
         &self,
         shown: &[OutputColumn],
@@ -123,8 +123,8 @@ impl<'a, H: KeyHash<Key> + Copy> Query<'a, H> {
         }
     }
 
-    // The groups in the order of their keys, with what is shown of each, and what the grouping of
-    // their aggregates took. Counts of different values are left out of that.
+    // The groups in the order of their keys, with all shown values, and the work of grouping their
+    // aggregates. Counts of distinct values are left out of the work.
     pub(crate) fn show<S: RunStore>(
         &self,
         shown: &[OutputColumn],
@@ -153,7 +153,7 @@ impl<'a, H: KeyHash<Key> + Copy> Query<'a, H> {
 }
 
 impl<'a, H: KeyHash<Key> + Copy> Query<'a, H> {
-    // The result rows that `having` keeps, and what was spent, raised by what grouping them took.
+    // The result rows that `having` keeps, and `spent` raised by the work of grouping them.
     fn answer<S: RunStore>(
         &self,
         grouping: &Grouping<'_>,
@@ -186,7 +186,7 @@ impl<'a, H: KeyHash<Key> + Copy> Query<'a, H> {
     }
 }
 
-// The groups with each count at a place among the values of its group.
+// Inserts each count at `place` among the values of its group.
 fn join_counts(
     alloc: Global,
     groups: &GroupList,
@@ -211,7 +211,7 @@ fn join_counts(
     Ok(all)
 }
 
-// Takes the first of some values out, or null where there is none.
+// Takes the first of some values, or null if there is none.
 fn take_first(values: &mut Vec<Value>) -> Value
     ensures { result ≡ slice_index_or values.old.items 0 Null }
 {
@@ -243,21 +243,12 @@ fn rows_having(alloc: Global, rows: Rows, condition: &Condition) -> Result<Rows,
     Ok(rows)
 }
 
-/// The result rows of a `group`: one for each different key that the rows that are selected have in
-/// some columns, in ascending order; in it the key's values, and then what is shown of the rows
-/// that have it. A text without case is shown in the key by the least spelling that these rows have of
-/// it in that column. Of these rows `having` keeps those for which it is true, after all are finished.
+/// The result rows of a `group`, and `spent` raised by the work of each grouping; counts of
+/// distinct values are left out of it.
 ///
-/// A rollup is such a grouping by no column, by the first, by the first two, and so on, one behind the
-/// other. In a result row its level stands first, which is how many columns it is by, and null in
-/// each other column; `having` is asked of the rows with these nulls, and knows no level.
-///
-/// And what was spent, raised by what each grouping took of which the aggregates come; counts of
-/// different values are left out.
-///
-/// Refused with `SumRange` where some sum is out of range, whatever `having` says, `Memory` for
-/// want of memory, `StoreFault` where the store failed, and `Damaged` where it did not read back
-/// what was written. Whatever comes of it, the store has the live runs that it had.
+/// Fails with `SumRange` if a sum is out of range, whatever `having` says; with `Memory`,
+/// `StoreFault`, or `Damaged` if the store doesn't read back what was written. It keeps the live
+/// runs that it had.
 pub fn group_rows<H: KeyHash<Key> + Copy, S: RunStore>(
     alloc: Global,
     hasher: H,

@@ -1,14 +1,14 @@
-//! Laws: what the definitions come to, in the subject's own words. Each is the contract of a
-//! function that does nothing.
+//! Laws: what follows from the definitions, in the field's terms. Each is the contract of an empty
+//! function.
 ghost use Rattle.gq_query.specs.Laws.{OrderIsUnseen, RollsUp};
 
-/// The order of rows makes no difference to what is answered, neither that of the table nor that
-/// of the other among whose rows a match is asked for.
+/// The order of rows doesn't change an answer, in the table or in the other one that is searched
+/// for matches; that of `show` only if rows have the same key.
 pub fn order_is_unseen()
     ensures { OrderIsUnseen }
 {}
 
-/// A level of a rollup is the `group` by so many of its first columns.
+/// A level of a rollup is the `group` by that many of its first columns.
 pub fn rolls_up()
     ensures { RollsUp }
 {}

@@ -2,11 +2,14 @@
 //!
 //! - A [`Selection`] says which rows of a table a query is about: those for which a condition is
 //!   true and which have a match among the rows of another table, or have none, as it asks.
-//! - [`group_rows`] gives a row for each different key that these rows have in some columns: the
-//!   key, and then each [`OutputColumn`] of the rows that have it. Of the finished rows it keeps those
-//!   for which `having` is true. A rollup does so for each prefix of the columns, and puts the level
-//!   first. [`distinct_rows`] gives the distinct keys alone.
-//! - [`show_rows`] gives all rows of a table.
+//! - [`group_rows`] returns a row for each distinct key that these rows have in some columns: the
+//!   key, and then each [`OutputColumn`] of the rows that have it. A text without case is shown in
+//!   the key by its least spelling among these rows. `having` keeps the finished rows for which it
+//!   is true.
+//! - With `rollup` it groups by each prefix of the columns: by none, the first, the first two, and
+//!   so on. These rows have null in the other columns, which `having` sees, and then get their
+//!   level as the first value: the number of columns that they are grouped by.
+//! - [`distinct_rows`] returns only the distinct keys, and [`show_rows`] all rows of a table.
 //!
 //! ```text
 //! let selection = Selection { table: &table, condition: &condition, matching: None, others: None };
@@ -15,19 +18,20 @@
 //! let (rows, spent) = group_rows(alloc, hasher, &selection, &grouping, &mut store, budget, spent)?;
 //! ```
 //!
-//! A row that is not kept is passed over before a cell of it is copied. The keys of the other
+//! Rows that aren't kept are skipped before any of their cells is copied. The keys of the other
 //! table's rows are put into a set once for each query, and each row is looked up there.
 //!
-//! # The contract above this crate
+//! # The contract
 //!
 //! Over an honest store the rows of [`group_rows`] are `group_answer` of `specs/Rollups.antt`, and
 //! those of [`distinct_rows`] are `distinct_keys` of `specs/Answers.antt`, each of the `rows_kept`
-//! there: these speak of lists, filters and aggregates alone. `SumRange` is returned only if some sum
-//! is out of range, whatever `having` says. What each grouping took raises what was spent, by `RisesBy`
-//! of `specs/Work.antt`: how many rows were read and how many groups there are is exact, and how many
-//! rows were written and runs made is within bounds. Counts of distinct values are left out. Over every
-//! store no run remains and none is touched that was there, and both refuse for a cause. The law in
-//! [`laws`] says that the order of rows is not seen, neither that of the table nor that of the other.
+//! there: these definitions use only lists, filters and aggregates. `SumRange` is returned only if
+//! a sum is out of range, whatever `having` says. The work of each grouping raises `spent`, by
+//! `RisesBy` of `specs/Work.antt`: the numbers of rows read and of groups are exact, and those of
+//! rows written and of runs are within bounds. Counts of distinct values are left out. Over every
+//! store no new run remains, no other run is touched, and both functions fail only for a cause. The
+//! laws in [`laws`] say that the order of rows, in either table, doesn't change these answers, and
+//! that each level of a rollup is a `group`.
 #![tactic(auto)]
 
 mod cells;

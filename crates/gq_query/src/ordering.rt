@@ -1,8 +1,8 @@
-//! Rows in the order in which queries give them.
+//! Rows in the order in which queries return them.
 //!
-//! Spans are sorted, and no cell moves: by prefixes first, which are made once and compared in place. What
-//! they leave is mostly in order, so that the sort by whole rows behind it is one look over it, and moves
-//! spans again among ties alone. Groups keep their prefixes, and are sorted where they stand.
+//! Sorting moves spans and no cells. It compares prefixes first, which are computed once. They
+//! leave the rows mostly in order, so the sort by whole rows after it is about one pass, and moves
+//! only spans whose prefixes tie. Groups keep their prefixes, and are sorted in place.
 ghost use Rattle.std.specs.Prelude.{◌≡◌, IfOk, IsPermutation, OnOk};
 ghost use Rattle.std.specs.List.Sorted.{IsSortedByKey};
 ghost use Rattle.gq_row.specs.Laws.{IsArranged};
@@ -17,7 +17,7 @@ use gq_row::{Value, compare_cells, compare_folded};
 use std::alloc::{AllocError, Global};
 use std::cmp::Ordering;
 
-/// The same rows by their keys in some columns, or by all of their values where none are named.
+/// Sorts rows by their keys in some columns, or by all of their values if no column is given.
 pub fn sort_rows(alloc: Global, rows: Rows, columns: &[usize]) -> Result<Rows, AllocError>
     ensures { IfOk result (IsArranged (ordered_by columns.now) rows) }
 {
@@ -27,7 +27,7 @@ pub fn sort_rows(alloc: Global, rows: Rows, columns: &[usize]) -> Result<Rows, A
     Ok(Rows::of(Cells::of(cells), spans))
 }
 
-// Sorts where rows stand likewise.
+// Sorts the spans of rows in the same way.
 fn sort_spans(cells: &[Value], spans: &mut Vec<Span>, columns: &[usize]) -> Result<(), AllocError>
     ensures moved { IsPermutation spans.old.items spans.new.items }
     ensures ascending { OnOk result (IsSortedByKey
@@ -37,7 +37,7 @@ fn sort_spans(cells: &[Value], spans: &mut Vec<Span>, columns: &[usize]) -> Resu
     spans.sort_by(|a, b| compare_rows(columns, row_in(cells, a), row_in(cells, b)))
 }
 
-// The row that stands at a span, or none where the span is not of this list.
+// The row at a span, or an empty one if the span isn't within the list.
 #[inline]
 fn row_in<'a>(cells: &'a [Value], span: &Span) -> &'a [Value]
     ensures { result.now ≡ row_in cells.now span.now }
@@ -59,8 +59,8 @@ fn compare_rows(columns: &[usize], a: &[Value], b: &[Value]) -> Ordering
     }
 }
 
-// The order of two rows by their keys in some columns. These are folds, so that nothing is left to
-// bytes where all of them tie.
+// The order of two rows by their keys in some columns. Keys hold folds, so rows that tie in all of
+// these columns are equal, whatever their bytes.
 fn compare_in(columns: &[usize], a: &[Value], b: &[Value]) -> Ordering
     ensures { result ≡ compare_keys (key_of columns.now a.now) (key_of columns.now b.now) }
 {
@@ -73,7 +73,7 @@ fn compare_in(columns: &[usize], a: &[Value], b: &[Value]) -> Ordering
     Ordering::Equal
 }
 
-// A row that is too short has null there.
+// A row that is too short counts as null there.
 fn compare_cell(column: usize, a: &[Value], b: &[Value]) -> Ordering
     ensures { result ≡ folded_order (cell a.now column) (cell b.now column) }
 {

@@ -1,4 +1,4 @@
-//! The rows that a query is about, grouped over a run store.
+//! Groups the rows that a query is about, over a run store.
 ghost use Rattle.std.specs.Prelude.{◌≡◌, ◌<◌, true, IsTrue, IfOk, IfErr, IsErrOf, IsPermutation, OnOk, [], length};
 ghost use Rattle.std.specs.List.{list_all};
 ghost use Rattle.gq_group.specs.Access.{LeavesOthers, HasCause, GroupCause};
@@ -24,8 +24,7 @@ use gq_table::Table;
 use std::alloc::{AllocError, Global};
 use sw_probe::KeyHash;
 
-/// What the groupings of one query have in common: the rows of a table that are kept, and the
-/// columns that they are grouped by.
+/// What the groupings of one query share: the kept rows of a table, and the columns to group by.
 #[derive(Drop)]
 pub struct Query<'a, H: KeyHash<Key>> {
     pub alloc: Global,
@@ -37,8 +36,8 @@ pub struct Query<'a, H: KeyHash<Key>> {
 }
 
 impl<'a, H: KeyHash<Key> + Copy> Query<'a, H> {
-    /// Puts the groups of the rows that are kept into a list that has none, in some order, with these
-    /// aggregates, and tells what grouping them took.
+    /// Writes the groups of the kept rows with these aggregates to an empty list, in any order, and
+    /// returns the work that it took.
     pub fn groups_into<S: RunStore>(
         &self,
         aggs: &[(AggKind, usize)],
@@ -82,7 +81,7 @@ impl<'a, H: KeyHash<Key> + Copy> Query<'a, H> {
         )
     }
 
-    /// How many different values the rows of each key have in a column, in some order.
+    /// For each key, the number of distinct values that its rows have in a column; in any order.
     pub fn counts_of<S: RunStore>(&self, column: usize, store: &mut S) -> Result<GroupList, Refusal>
         requires columns { HasColumns self.now }
         requires column { column < length self.now.table.now.schema.columns }
@@ -118,8 +117,7 @@ impl<'a, H: KeyHash<Key> + Copy> Query<'a, H> {
         Ok(sink)
     }
 
-    /// The different keys of the rows that are kept, in some order, as groups of which nothing is
-    /// told but their keys.
+    /// The distinct keys of the kept rows, in any order, as groups that show only their keys.
     pub fn keys<S: RunStore>(&self, store: &mut S) -> Result<GroupList, Refusal>
         requires columns { HasColumns self.now }
         requires some { 0 < length self.now.by.now }
@@ -153,7 +151,7 @@ impl<'a, H: KeyHash<Key> + Copy> Query<'a, H> {
     }
 }
 
-// The same grouping, of rows of the cells in some columns alone.
+// The same grouping, over rows that hold only the cells of these columns.
 fn place_spec(
     alloc: Global,
     columns: &[usize],

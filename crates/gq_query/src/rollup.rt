@@ -1,8 +1,8 @@
 //! The levels of a rollup.
 //!
-//! Each level is a grouping of its own, by a front of the columns: by none for the total, and by one more
-//! at each level. Its result rows get a null for each other column before `having` is asked, and the
-//! number of the level in front after it.
+//! Each level is a grouping of its own, by a prefix of the columns: by none for the total, and by
+//! one more at each level. Its result rows get a null for each other column before `having` is
+//! evaluated, and the level as their first value after that.
 ghost use Rattle.std.specs.Prelude.{◌≡◌, ◌≤◌, ◌++◌, ◌∷◌, true, IsTrue, IfOk, IfErr, OnOk, IsErrOf, None, Some, pos, length, map, filter, take};
 ghost use Rattle.std.specs.List.{list_all};
 ghost use Rattle.gq_row.specs.declared.value.Value.TheVariants.{Int};
@@ -25,8 +25,7 @@ use gq_spill::RunStore;
 use std::alloc::{AllocError, Global};
 use sw_probe::KeyHash;
 
-// A result row of so many of the first of some columns, with a null for each other behind its key, put
-// behind the number of its level.
+// Appends a result row of a level, with a null for each other column after its key.
 fn write_filled(
     alloc: Global,
     cells: &mut Vec<Value>,
@@ -45,8 +44,8 @@ fn write_filled(
     copy_cells(alloc, cells, shown)
 }
 
-// The result rows of a level, of so many of the first of some columns, that `having` keeps, each behind
-// the number of the level.
+// The result rows of a level that `having` keeps, with a null for each other column, and with the
+// level as their first value.
 fn rows_leveled(
     alloc: Global,
     rows: &Rows,
@@ -58,7 +57,7 @@ fn rows_leveled(
     ensures { IfOk result (λ found. found ≡ map (λ row. Int (pos level) ∷ row)
         (filter (keeps condition.now.tests) (map (filled level columns) rows.now))) }
 {
-    // There is no memory for a list of so many columns that this fails.
+    // Cannot fail: a list of that many columns would not fit in memory.
     let Ok(number) = i64::try_from(level) else {
         return Err(AllocError);
     };
@@ -78,7 +77,7 @@ fn rows_leveled(
 }
 
 impl<'a, H: KeyHash<Key> + Copy> Query<'a, H> {
-    // The result rows of a level, and what grouping them took.
+    // The result rows of a level, and the work of grouping them.
     fn level<S: RunStore>(
         &self,
         level: usize,
@@ -117,8 +116,8 @@ impl<'a, H: KeyHash<Key> + Copy> Query<'a, H> {
         }
     }
 
-    /// The result rows of a rollup, one level behind the other, and what was spent, raised by what
-    /// the grouping of each level took.
+    /// The result rows of a rollup, level after level, and `spent` raised by the work of each
+    /// level.
     pub fn rollup<S: RunStore>(
         &self,
         shown: &[OutputColumn],

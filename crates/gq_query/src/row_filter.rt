@@ -9,8 +9,8 @@ use gq_table::RowCursor;
 use std::alloc::AllocError;
 use sw_probe::KeyHash;
 
-/// Keeps the rows for which a condition is true and, if a match is asked for, which have it, or with
-/// `negated` have none, among the rows of which a set has the keys.
+/// Keeps the rows for which a condition is true and, if a match is asked for, whose key is in the
+/// set, or with `negated` is not.
 #[derive(Drop)]
 pub struct RowFilter<'a, H: KeyHash<Key>> {
     pub condition: &'a Condition,
@@ -19,7 +19,7 @@ pub struct RowFilter<'a, H: KeyHash<Key>> {
 }
 
 impl<'a, H: KeyHash<Key>> RowFilter<'a, H> {
-    /// Whether a row is kept. Nothing is copied, and its key is looked up at most once.
+    /// Whether a row is kept. Copies nothing, and looks up the row's key at most once.
     #[inline]
     pub fn keeps(&self, row: &[Value]) -> bool
         requires { All (λ column. column < length row.now)
@@ -29,7 +29,7 @@ impl<'a, H: KeyHash<Key>> RowFilter<'a, H> {
         filter(self.condition, row) && self.matches(row)
     }
 
-    // Whether it has the match that is asked for, if one is.
+    // Whether the row has the match that is asked for, if any.
     #[inline]
     fn matches(&self, row: &[Value]) -> bool
         requires { All (λ column. column < length row.now)
@@ -46,7 +46,7 @@ impl<'a, H: KeyHash<Key>> RowFilter<'a, H> {
         }
     }
 
-    // Whether all rows are kept, whatever their values.
+    // Whether every row is kept, whatever its values.
     #[inline]
     fn keeps_all(&self) -> bool
         ensures { result ≡ true → (row : List Cell) → is_kept self.now row ≡ true }
@@ -54,7 +54,7 @@ impl<'a, H: KeyHash<Key>> RowFilter<'a, H> {
         self.condition.tests.as_slice().is_empty() && self.matching.is_none()
     }
 
-    // Whether the row where a walk stands is kept. It is read only where that rests on its values.
+    // Whether the cursor's row is kept. The row is read only if that depends on its values.
     #[inline]
     fn keeps_here(&self, rows: &mut RowCursor<'_>) -> Result<bool, AllocError>
         requires { All (λ column. column < length rows.old.row)
@@ -70,8 +70,8 @@ impl<'a, H: KeyHash<Key>> RowFilter<'a, H> {
         Ok(self.keeps(rows.row()))
     }
 
-    /// Goes on to the next of some rows that is kept, and tells whether there is one. Those before it are
-    /// passed over. Refused for want of memory as the walk is.
+    /// Advances to the next row that is kept, and returns whether there is one. Fails only if
+    /// reading a row runs out of memory.
     #[inline]
     pub fn advance(&self, rows: &mut RowCursor<'_>) -> Result<bool, AllocError>
         requires { AreLong (ours_of (option_copied self.now.matching)) rows.old.rest }

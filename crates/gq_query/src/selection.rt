@@ -11,9 +11,9 @@ use gq_table::Table;
 use std::alloc::{AllocError, Global};
 use sw_probe::KeyHash;
 
-/// Which rows of a table a query is about: those for which a condition is true and, where a match
-/// is asked for, which have it among the rows of another table, or with `negated` have none.
-/// Without another table there are no other rows.
+/// The rows of a table that a query is about: those for which a condition is true and, if a match
+/// is asked for, which have one among the rows of another table, or with `negated` have none.
+/// Without another table there is no match.
 #[derive(Drop)]
 pub struct Selection<'t, 'q, H: KeyHash<Key>> {
     pub table: &'t Table<H>,
@@ -22,8 +22,8 @@ pub struct Selection<'t, 'q, H: KeyHash<Key>> {
     pub others: Option<&'t Table<H>>,
 }
 
-/// The keys of the other rows in the columns that a match asks of them. Where none is asked for
-/// they are of no rows, and take no memory.
+/// The keys of the other table's rows in the columns that a match compares. An empty set, which
+/// allocates nothing, if no match is asked for.
 pub fn other_keys<H: KeyHash<Key> + Copy>(
     alloc: Global,
     hasher: H,
@@ -45,7 +45,7 @@ pub fn other_keys<H: KeyHash<Key> + Copy>(
     keys_of(alloc, hasher, others, matching.theirs.as_slice())
 }
 
-// The keys of a table's rows in some columns, but for those with null.
+// The keys of a table's rows in some columns, without those that contain null.
 fn keys_of<H: KeyHash<Key> + Copy>(
     alloc: Global,
     hasher: H,

@@ -9,7 +9,7 @@ use gq_table::Table;
 use std::alloc::{AllocError, Global};
 use sw_probe::KeyHash;
 
-/// The rows of a table in the order of their keys, or of all their values where it has no key.
+/// The rows of a table in the order of their keys, or of all their values if it has no key.
 pub fn show_rows<H: KeyHash<Key> + Copy>(
     alloc: Global,
     table: &Table<H>,

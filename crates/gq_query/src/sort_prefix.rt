@@ -7,9 +7,9 @@ ghost use Rattle.gq_query.specs.SortPrefixes.{IsSortPrefix, IsValuePrefix, prefi
 
 use gq_row::{Value, fold_eight};
 
-/// The normalized key of a value, cut to sixteen bytes in two words: zeros for null, 1 and a number, 2 and
-/// the first fifteen bytes of a text, 3 and those of the fold of a text without case. Compared as numbers
-/// they are in the order of the folds. So only where they tie are whole values compared.
+/// The normalized key of a value, cut to 16 bytes: 0 for null, 1 and a number, 2 and the first 15
+/// bytes of a text, 3 and those of the fold of a text without case. As numbers they are in the
+/// order of the folds, so whole values are compared only if these tie.
 #[derive(Clone, Copy, PartialEq, Eq, PartialOrd, Ord)]
 pub struct SortPrefix {
     high: u64,
@@ -18,16 +18,16 @@ pub struct SortPrefix {
 
 const NULL: SortPrefix = SortPrefix { high: 0, low: 0 };
 
-// The first byte of a number's prefix, in its place.
+// The highest byte for a number.
 const NUMBER: u64 = 1 << 56;
 
-// That of a text's.
+// The highest byte for a text.
 const TEXT: u64 = 2 << 56;
 
-// And that of a text's without case.
+// The highest byte for a text without case.
 const NO_CASE: u64 = 3 << 56;
 
-/// The prefix of a row's first value among those that it is ordered by.
+/// The prefix of the first value that a row is ordered by.
 #[inline]
 pub fn prefix_in(columns: &[usize], row: &[Value]) -> SortPrefix
     ensures { IsSortPrefix (ordered_by columns.now row.now) result }
@@ -65,7 +65,7 @@ fn text_prefix(text: &[u8]) -> SortPrefix
     }
 }
 
-// That of a text without case. Its bytes are folded as they are read.
+// The prefix of a text without case. Its bytes are folded while they are read.
 fn folded_prefix(text: &[u8]) -> SortPrefix
     ensures { IsValuePrefix (NoCase text.now) result }
 {
@@ -75,7 +75,7 @@ fn folded_prefix(text: &[u8]) -> SortPrefix
     }
 }
 
-// The first eight bytes of a text, the first of them highest.
+// The first eight bytes of a text, big-endian.
 fn first_bytes(text: &[u8]) -> u64
     ensures { result ≡ leading 8 text.now }
 {
@@ -85,7 +85,7 @@ fn first_bytes(text: &[u8]) -> u64
     }
 }
 
-// The same, of a text that may end before them: zeros stand behind its end.
+// The same for a shorter text, padded with zeros.
 fn padded_bytes(text: &[u8]) -> u64
     ensures { result ≡ leading 8 text.now }
 {
@@ -111,7 +111,7 @@ fn byte(text: &[u8], place: usize) -> u8
     }
 }
 
-// The first eight bytes of a text's fold, the first of them highest.
+// The first eight bytes of a text's fold, big-endian.
 fn first_folded(text: &[u8]) -> u64
     ensures { result ≡ leading 8 (fold_case text.now) }
 {
@@ -121,7 +121,7 @@ fn first_folded(text: &[u8]) -> u64
     }
 }
 
-// The same, of a text that may end before them.
+// The same for a shorter text, padded with zeros.
 fn padded_folded(text: &[u8]) -> u64
     ensures { result ≡ leading 8 (fold_case text.now) }
 {

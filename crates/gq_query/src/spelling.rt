@@ -1,9 +1,8 @@
-//! Result rows with their keys as the rows of a table spell them.
+//! Result rows whose keys are spelled as in the table's rows.
 //!
-//! Rows are grouped and sorted by keys whose texts without case stand by their folds. Where a key's
-//! columns have such texts, the least value in each of them is asked of the groups too, before what is
-//! shown, and stands in the result row in the key's place. Where none has, a key has the rows' own
-//! values, and nothing more is asked.
+//! Rows are grouped and sorted by keys that hold texts without case as folds. If a key's columns
+//! have such texts, the groups also take the minimum of each key column, before the shown values,
+//! and the result row shows these minimums as its key. Otherwise a key holds the rows' own values.
 ghost use Rattle.std.specs.Prelude.{◌≡◌, ◌<◌, ◌++◌, All, IsTrue, IfOk, IfErr, IsErrOf, false, length, None, Some};
 ghost use Rattle.std.specs.List.{list_all};
 ghost use Rattle.gq_row.specs.Fitting.{fits_columns};
@@ -25,7 +24,7 @@ use gq_spill::RunStore;
 use std::alloc::{AllocError, Global};
 use sw_probe::KeyHash;
 
-// Whether a key in these columns may be spelled in more than one way.
+// Whether a key in these columns can have more than one spelling.
 fn has_spellings(columns: &[Column], by: &[usize]) -> bool
     requires { All (λ column. column < length columns.now) by.now }
     ensures { result ≡ may_differ columns.now by.now }
@@ -39,7 +38,7 @@ fn has_spellings(columns: &[Column], by: &[usize]) -> bool
     false
 }
 
-// The least value in each column of the key, and behind them what is shown.
+// The minimum of each key column, then the shown columns.
 fn with_least(
     alloc: Global,
     shown: &[OutputColumn],
@@ -56,7 +55,7 @@ fn with_least(
 }
 
 impl<'a, H: KeyHash<Key> + Copy> Query<'a, H> {
-    /// The result rows of the groups, in the order of their keys, and what grouping them took.
+    /// The result rows of the groups, in the order of their keys, and the work of grouping them.
     pub fn rows<S: RunStore>(
         &self,
         shown: &[OutputColumn],
@@ -84,7 +83,7 @@ impl<'a, H: KeyHash<Key> + Copy> Query<'a, H> {
         }
     }
 
-    // The same, where keys have the rows' own values.
+    // The same if keys hold the rows' own values.
     fn rows_alone<S: RunStore>(
         &self,
         shown: &[OutputColumn],
@@ -114,7 +113,7 @@ impl<'a, H: KeyHash<Key> + Copy> Query<'a, H> {
         }
     }
 
-    // The same, with the least value in each of their columns.
+    // The same, with the minimum of each key column as the key.
     fn rows_spelled<S: RunStore>(
         &self,
         shown: &[OutputColumn],
@@ -144,7 +143,7 @@ impl<'a, H: KeyHash<Key> + Copy> Query<'a, H> {
         }
     }
 
-    /// The different keys of the rows that are kept, in order, each as it is shown.
+    /// The distinct keys of the kept rows, in order, each as it is shown.
     pub fn different<S: RunStore>(&self, store: &mut S) -> Result<Rows, Refusal>
         requires columns { HasColumns self.now }
         requires some { 0 < length self.now.by.now }
@@ -182,7 +181,7 @@ impl<'a, H: KeyHash<Key> + Copy> Query<'a, H> {
         }
     }
 
-    // They are groups of which nothing but the key is shown.
+    // The keys are groups without shown values.
     fn different_spelled<S: RunStore>(&self, store: &mut S) -> Result<Rows, Refusal>
         requires columns { HasColumns self.now }
         requires some { 0 < length self.now.by.now }
@@ -194,7 +193,7 @@ impl<'a, H: KeyHash<Key> + Copy> Query<'a, H> {
     {
         match self.rows_spelled(&[], store) {
             Ok((rows, _)) => Ok(rows),
-            // No minimum is out of range.
+            // A minimum is never out of range.
             Err(why) => Err(why.as_damaged()),
         }
     }

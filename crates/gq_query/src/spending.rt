@@ -4,7 +4,7 @@ ghost use Rattle.gq_query.specs.Work.{both_spent};
 
 use gq_group::Spent;
 
-// What was spent and what is spent now, together: each number stops at the greatest.
+// The sum of two amounts of work; each number saturates.
 pub(crate) fn both_spent(old: Spent, more: Spent) -> Spent
     ensures { result ≡ both_spent old more }
 {

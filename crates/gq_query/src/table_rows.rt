@@ -1,4 +1,4 @@
-//! The rows of a table that are kept, as a source.
+//! The kept rows of a table, as a source.
 
 use crate::row_filter::RowFilter;
 use gq_group::{Refusal, RowSource};
@@ -7,8 +7,8 @@ use gq_spill::RunStore;
 use gq_table::RowCursor;
 use sw_probe::KeyHash;
 
-/// The rows of a table that are still to come. Of each that is kept it hands on the cells in some
-/// columns as they stand, one behind the other, and nothing else is copied.
+/// The remaining rows of a table. Of each kept row it writes the cells of some columns, one after
+/// the other, and copies nothing else.
 #[derive(Drop)]
 pub struct TableRows<'a, H: KeyHash<Key>> {
     pub rows: RowCursor<'a>,
