@@ -1,4 +1,4 @@
--- The program's command line, in clap's terms, and what that comes to.
+-- The program's command line, in clap's terms, and what follows from them.
 use Rattle.std.specs.Prelude.{◌≡◌, ◌≢◌, ◌==◌, ◌&&◌, ◌||◌, ◌++◌, ◌^◌, ℕ, Bool, true, false, if◌then◌else◌, List, [], ◌∷◌, Option, Some, None, codes, find, fold, is_some, map, nat_le, nat_lt, option_and_then, option_map, unwrap_or}
 use Rattle.std.specs.Option.{option_map_or}
 use Rattle.std.specs.Str.{bytes_eq}
@@ -15,7 +15,7 @@ use Rattle.gq_options.specs.declared.options.Output.TheVariants.{Replies, Csv, J
 use Rattle.gq_options.specs.declared.options.Seed.{Seed}
 use Rattle.gq_options.specs.declared.options.Seed.TheVariants.{Number, Random}
 
--- an option with one value, by its name
+-- an option with one value, by its long name
 abbrev pub option_named : Text → Rule
 option_named name = record (new_rule name) {
   long = Some name;
@@ -26,38 +26,38 @@ option_named name = record (new_rule name) {
 abbrev pub short_named : Text → ℕ → Rule
 short_named name letter = record (option_named name) { short = Some letter }
 
--- the same, and it may be given several times
+-- an option with one value, by its long name and its short one, that may be repeated
 abbrev pub repeated_named : Text → ℕ → Rule
 repeated_named name letter = record (short_named name letter) { action = Some Append }
 
--- an option with one value, any text, that may be given several times; its letter is t
+-- the option for tables: its value is any text, it may be repeated, and its letter is t
 abbrev pub TABLE : Rule
 TABLE = repeated_named (codes "table") 116
 
--- the same with the letter c
+-- the option for commands: its value is any text, it may be repeated, and its letter is c
 abbrev pub COMMAND : Rule
 COMMAND = repeated_named (codes "command") 99
 
--- an option with one value, any text, and `replies` if it is not given; its letter is o
+-- the option for the output format: its value is any text, and `replies` if it isn't given; its letter is o
 abbrev pub OUTPUT : Rule
 OUTPUT = record (short_named (codes "output") 111) { defaults = codes "replies" ∷ [] }
 
--- an option with one value, any text, and `0` where it is not given
+-- the option for the seed: its value is any text, and `0` if it isn't given
 abbrev pub SEED : Rule
 SEED = record (option_named (codes "seed")) { defaults = codes "0" ∷ [] }
 
--- an option with one value, a number of 1 to 1,048,576, and 65,536 where it is not given
+-- the option for the budget: its value is a number of 1 to 1,048,576, and 65,536 if it isn't given
 abbrev pub BUDGET : Rule
 BUDGET = record (option_named (codes "budget")) {
   defaults = codes "65536" ∷ [];
   parser = Some (vp.Unsigned 1 1048576);
 }
 
--- an option with one value, any text
+-- the option for the folder of spilled rows: its value is any text
 abbrev pub SPILL : Rule
 SPILL = option_named (codes "spill")
 
--- a flag by its name
+-- a flag, by its long name
 abbrev pub flag_named : Text → Rule
 flag_named name = record (new_rule name) {
   long = Some name;
@@ -65,23 +65,23 @@ flag_named name = record (new_rule name) {
   parser = Some vp.Bool;
 }
 
--- a flag
+-- the flag that completes short records with nulls
 abbrev pub RAGGED : Rule
 RAGGED = flag_named (codes "ragged")
 
--- a flag too
+-- the flag for the report of the work
 abbrev pub STATS : Rule
 STATS = flag_named (codes "stats")
 
--- a flag too
+-- the flag for a check
 abbrev pub CHECK : Rule
 CHECK = flag_named (codes "check")
 
--- a word by its place
+-- the script's path: a word by its position
 abbrev pub SCRIPT : Rule
 SCRIPT = new_rule (codes "SCRIPT")
 
--- a command line that tells its version too
+-- a command line that also has `--version`
 abbrev pub with_version : App → App
 with_version app = record app { top = record app.top { has_version = true } }
 
@@ -93,7 +93,7 @@ ARGUMENTS = TABLE ∷ COMMAND ∷ OUTPUT ∷ RAGGED ∷ BUDGET ∷ SEED ∷ SPIL
 abbrev pub LINE : App
 LINE = fold with_rule (with_version (new_app (codes "groupsh"))) ARGUMENTS
 
--- what a command line may ask for: a script by its path, or else the standard input; the tables to load and the commands to run in place of a script, each as given and in order; the format of results; whether rows may differ in length; a seed, by its number or from the system; a budget; a folder for runs, or else memory; whether the work is reported; and whether the script is only checked
+-- what a command line may ask for: a script by its path, or else the standard input; the tables to load and the commands to run instead of a script, each as given and in order; the format of results; whether short records are completed with nulls; a seed, by its number or from the system; a budget; a folder for spilled rows, or else memory; whether the work is reported; and whether the script is only checked
 pub record Asked : Type 0 where
   pub script : Option Text
   pub tables : List Text
@@ -118,7 +118,7 @@ number_of text = digits_value 10 (without_leading_plus text)
 abbrev pub is_random : Text → Bool
 is_random text = bytes_eq text (codes "random")
 
--- the seed that a text names, where it names one
+-- the seed that a text names, if it names one
 abbrev pub seed_named : Text → Seed
 seed_named text = if is_random text then Random else Number (number_of text)
 
@@ -130,7 +130,7 @@ FORMATS = (codes "replies", Replies) ∷ (codes "csv", Csv) ∷ (codes "json", J
 abbrev pub output_named : Text → Option Output
 output_named text = option_map (λ format. format.1) (find (λ format. bytes_eq text format.0) FORMATS)
 
--- the value of a flag by its text
+-- the value of a flag, given its text
 abbrev pub is_set : Text → Bool
 is_set text = bytes_eq text (codes "true")
 
@@ -138,7 +138,7 @@ is_set text = bytes_eq text (codes "true")
 abbrev pub values_in : Text → List Row → List Text
 values_in name rows = unwrap_or (all_of name rows) []
 
--- the number that is an option's value, or this one without a value
+-- the number that is an option's value, or `otherwise` without a value
 abbrev pub number_in : Text → ℕ → List Row → ℕ
 number_in name otherwise rows = option_map_or number_of (one_of name rows) otherwise
 
@@ -146,11 +146,11 @@ number_in name otherwise rows = option_map_or number_of (one_of name rows) other
 abbrev pub flag_in : Text → List Row → Bool
 flag_in name rows = option_map_or is_set (one_of name rows) false
 
--- the seed by its text, and the number 0 without one
+-- the seed that a text names, or the number 0 without a text
 abbrev pub seed_by : Option Text → Seed
 seed_by named = option_map_or seed_named named (Number 0)
 
--- the output format by its text, and replies without one
+-- the output format that a text names, or replies without a text
 abbrev pub output_by : Option Text → Output
 output_by named = unwrap_or (option_and_then output_named named) Replies
 
@@ -173,51 +173,51 @@ asked_in rows = record {
 abbrev pub asked_of : List Text → Asked
 asked_of words = asked_in (matches_of LINE words)
 
--- a word that may be an option
+-- whether a word begins with a dash, as options do
 abbrev pub has_dash : Text → Bool
 has_dash [] = false
 has_dash (c ∷ cs) = c == 45
 
--- digits, with or without `+` before them, of a number below 2^64
+-- whether a text is the digits of a number below 2^64, with or without `+` before them
 abbrev pub is_seed : Text → Bool
 is_seed text = is_numeral (without_leading_plus text) && nat_lt (number_of text) (2 ^ 64)
 
--- the text names a seed: it is that word, or such digits
+-- whether a text names a seed: it is `random`, or such digits
 abbrev pub names_seed : Text → Bool
 names_seed text = is_random text || is_seed text
 
--- what is wrong with the text of a seed, where there is one
+-- the fault of a seed's text, if there is a text
 abbrev pub seed_fault : Option Text → Kinds
 seed_fault None = []
 seed_fault (Some text) = if names_seed text then [] else ValueValidation ∷ []
 
--- the text names an output format
+-- whether a text names an output format
 abbrev pub is_output : Text → Bool
 is_output text = is_some (output_named text)
 
--- what is wrong with the text of an output format, if there is one
+-- the fault of an output format's text, if there is a text
 abbrev pub output_fault : Option Text → Kinds
 output_fault None = []
 output_fault (Some text) = if is_output text then [] else InvalidValue ∷ []
 
--- commands can't be used with a script
+-- the fault of commands that are given with a script
 abbrev pub script_fault : Option Text → List Text → Kinds
 script_fault None commands = []
 script_fault (Some path) [] = []
 script_fault (Some path) (lines ∷ more) = ArgumentConflict ∷ []
 
--- the first fault of clap's matches: in the text of the seed, in that of the output format, or commands given with a script
+-- the first fault of clap's matches: in the seed's text, in the output format's text, or commands that are given with a script
 abbrev pub faults_in : List Row → Kinds
 faults_in rows =
     or_else (seed_fault (first_of (codes "seed") rows))
     (or_else (output_fault (first_of (codes "output") rows))
     (script_fault (first_of (codes "SCRIPT") rows) (values_in (codes "command") rows)))
 
--- what is wrong with the words, or that they ask for help or the version: the faults that clap finds, or else those of its matches; none if the words may be run
+-- the faults of the words, or that they ask for help or the version: the faults that clap finds, or else those of its matches; none if the words may be run
 abbrev pub faults_of : List Text → Kinds
 faults_of words = or_else (fault_of LINE words) (faults_in (matches_of LINE words))
 
--- digits, with or without `+` before them, of a number of 1 to 1,048,576
+-- whether a text is the digits of a number of 1 to 1,048,576, with or without `+` before them
 abbrev pub is_budget : Text → Bool
 is_budget text = is_numeral (without_leading_plus text) && (nat_le 1 (number_of text) && nat_le (number_of text) 1048576)
 
@@ -226,7 +226,7 @@ pub record Names (words : List Text) (asked : Asked) : Type 0 where
   pub accepted : faults_of words ≡ []
   pub asked_is : asked_of words ≡ asked
 
--- The same without clap, of the words behind the program's name: a word that has no dash at its front is the script's path, and so is a dash alone, and behind `--` each word is; `--help` and `-h` ask for help, and `--version` and `-V` for the version, whatever stands behind, and behind a path too; a second path is refused, and so are options that there are not.
+-- Paths without clap, in the words after the program's name: a word that doesn't begin with a dash is the script's path, and so are a dash alone and the word after `--`; `--help` and `-h` ask for help, and `--version` and `-V` for the version, whatever follows, and also after a path; a second path is refused, and so is an unknown option, `--nonesuch`.
 pub record TakesOnePath : Type 0 where
   pub nothing : (name : Text) → Names (name ∷ []) DEFAULTS
   pub path : (name path : Text) → has_dash path ≡ false → Names (name ∷ path ∷ []) (record DEFAULTS { script = Some path })
@@ -243,7 +243,7 @@ pub record TakesOnePath : Type 0 where
   pub two_paths : (name one two : Text) → has_dash one ≡ false → has_dash two ≡ false → faults_of (name ∷ one ∷ two ∷ []) ≡ UnknownArgument ∷ []
   pub no_option : (name : Text) (more : List Text) → faults_of (name ∷ codes "--nonesuch" ∷ more) ≡ UnknownArgument ∷ []
 
--- And of `--seed N` and `--seed=N`: with a number below 2^64 it stands alone, before a path or behind it, and names that seed; with any text but such a number and `random` in the same word it is refused, whatever stands behind it, and so it is with any such text that has no dash at its front in the next, with `-1`, without a value, and the second time.
+-- `--seed N` and `--seed=N` with a number below 2^64 name that seed, alone and before or after a path. With any other text than such a number and `random` they are refused: in the same word whatever follows, and in the next word if the text doesn't begin with a dash. They are also refused with `-1`, without a value, and the second time.
 pub record TakesOneSeed : Type 0 where
   pub alone : (name seed : Text) → is_seed seed ≡ true → Names (name ∷ codes "--seed" ∷ seed ∷ []) (record DEFAULTS { seed = Number (number_of seed) })
   pub before : (name seed path : Text) → is_seed seed ≡ true → has_dash path ≡ false → Names (name ∷ codes "--seed" ∷ seed ∷ path ∷ []) (record DEFAULTS { script = Some path; seed = Number (number_of seed) })
@@ -260,7 +260,7 @@ pub record TakesOneSeed : Type 0 where
   pub without_value : (name : Text) → faults_of (name ∷ codes "--seed" ∷ []) ≡ InvalidValue ∷ []
   pub twice : (name one two : Text) → has_dash one ≡ false → has_dash two ≡ false → faults_of (name ∷ codes "--seed" ∷ one ∷ codes "--seed" ∷ two ∷ []) ≡ ArgumentConflict ∷ []
 
--- And of `--seed random` and `--seed=random`: it asks for a seed from the system, alone, before a path and behind it, and in no other letters.
+-- `--seed random` and `--seed=random` ask for a seed from the system, alone and before or after a path; no other spelling does.
 pub record TakesRandom : Type 0 where
   pub alone : (name : Text) → Names (name ∷ codes "--seed" ∷ codes "random" ∷ []) (record DEFAULTS { seed = Random })
   pub before : (name path : Text) → has_dash path ≡ false → Names (name ∷ codes "--seed" ∷ codes "random" ∷ path ∷ []) (record DEFAULTS { script = Some path; seed = Random })
@@ -270,10 +270,10 @@ pub record TakesRandom : Type 0 where
   pub joined_behind : (name path : Text) → has_dash path ≡ false → Names (name ∷ path ∷ codes "--seed=random" ∷ []) (record DEFAULTS { script = Some path; seed = Random })
   pub capital : (name : Text) → faults_of (name ∷ codes "--seed" ∷ codes "Random" ∷ []) ≡ ValueValidation ∷ []
   pub longer : (name : Text) → faults_of (name ∷ codes "--seed=random1" ∷ []) ≡ ValueValidation ∷ []
-  -- beside a budget, a folder and the flag for the report
+  -- with a budget, a folder and the flag for the report
   pub all : (name budget folder : Text) → is_budget budget ≡ true → Names (name ∷ codes "--seed=random" ∷ (codes "--budget=" ++ budget) ∷ (codes "--spill=" ++ folder) ∷ codes "--stats" ∷ []) (record DEFAULTS { script = None; seed = Random; budget = number_of budget; spill = Some folder; stats = true; check = false })
 
--- And of `--budget N` and `--budget=N`, alike, with a number of 1 to 1,048,576.
+-- `--budget N` and `--budget=N` are like `--seed`, with a number of 1 to 1,048,576.
 pub record TakesOneBudget : Type 0 where
   pub alone : (name budget : Text) → is_budget budget ≡ true → Names (name ∷ codes "--budget" ∷ budget ∷ []) (record DEFAULTS { budget = number_of budget })
   pub before : (name budget path : Text) → is_budget budget ≡ true → has_dash path ≡ false → Names (name ∷ codes "--budget" ∷ budget ∷ path ∷ []) (record DEFAULTS { script = Some path; budget = number_of budget })
@@ -286,11 +286,11 @@ pub record TakesOneBudget : Type 0 where
   pub below_zero : (name : Text) (more : List Text) → faults_of (name ∷ codes "--budget" ∷ codes "-1" ∷ more) ≡ UnknownArgument ∷ []
   pub without_value : (name : Text) → faults_of (name ∷ codes "--budget" ∷ []) ≡ InvalidValue ∷ []
   pub twice : (name one two : Text) → is_budget one ≡ true → has_dash two ≡ false → faults_of (name ∷ codes "--budget" ∷ one ∷ codes "--budget" ∷ two ∷ []) ≡ ArgumentConflict ∷ []
-  -- beside a seed, in either order
+  -- with a seed, in either order
   pub seed_first : (name seed budget : Text) → is_seed seed ≡ true → is_budget budget ≡ true → Names (name ∷ (codes "--seed=" ++ seed) ∷ (codes "--budget=" ++ budget) ∷ []) (record DEFAULTS { seed = Number (number_of seed); budget = number_of budget })
   pub budget_first : (name seed budget : Text) → is_seed seed ≡ true → is_budget budget ≡ true → Names (name ∷ (codes "--budget=" ++ budget) ∷ (codes "--seed=" ++ seed) ∷ []) (record DEFAULTS { seed = Number (number_of seed); budget = number_of budget })
 
--- And of `--spill DIR` and `--spill=DIR`: in the same word any text is the folder's name, the empty one and one with a dash at its front among them; in the next word any that has no dash at its front, the empty one among them, and a dash alone. Other words with a dash at their front are options there; without a value it is refused, and the second time.
+-- `--spill DIR` and `--spill=DIR` name a folder: in the same word by any text, also an empty one and one that begins with a dash; in the next word by any text that doesn't begin with a dash, also an empty one, and by a dash alone. Other words that begin with a dash are options there. They are refused without a value, and the second time.
 pub record TakesOneFolder : Type 0 where
   pub alone : (name folder : Text) → has_dash folder ≡ false → Names (name ∷ codes "--spill" ∷ folder ∷ []) (record DEFAULTS { spill = Some folder })
   pub dash : (name : Text) → Names (name ∷ codes "--spill" ∷ codes "-" ∷ []) (record DEFAULTS { spill = Some (codes "-") })
@@ -303,20 +303,20 @@ pub record TakesOneFolder : Type 0 where
   pub without_value : (name : Text) → faults_of (name ∷ codes "--spill" ∷ []) ≡ InvalidValue ∷ []
   pub before_dashes : (name path : Text) → faults_of (name ∷ codes "--spill" ∷ codes "--" ∷ path ∷ []) ≡ InvalidValue ∷ []
   pub twice : (name one two : Text) → has_dash one ≡ false → has_dash two ≡ false → faults_of (name ∷ codes "--spill" ∷ one ∷ codes "--spill" ∷ two ∷ []) ≡ ArgumentConflict ∷ []
-  -- beside a seed and beside a budget, in either order
+  -- with a seed and with a budget, in either order
   pub seed_first : (name seed folder : Text) → is_seed seed ≡ true → Names (name ∷ (codes "--seed=" ++ seed) ∷ (codes "--spill=" ++ folder) ∷ []) (record DEFAULTS { seed = Number (number_of seed); spill = Some folder })
   pub before_seed : (name seed folder : Text) → is_seed seed ≡ true → Names (name ∷ (codes "--spill=" ++ folder) ∷ (codes "--seed=" ++ seed) ∷ []) (record DEFAULTS { seed = Number (number_of seed); spill = Some folder })
   pub budget_first : (name budget folder : Text) → is_budget budget ≡ true → Names (name ∷ (codes "--budget=" ++ budget) ∷ (codes "--spill=" ++ folder) ∷ []) (record DEFAULTS { budget = number_of budget; spill = Some folder })
   pub before_budget : (name budget folder : Text) → is_budget budget ≡ true → Names (name ∷ (codes "--spill=" ++ folder) ∷ (codes "--budget=" ++ budget) ∷ []) (record DEFAULTS { budget = number_of budget; spill = Some folder })
 
--- And of `--stats`: it stands alone, before a path or behind it, and is refused the second time and with a value.
+-- `--stats` is taken alone and before or after a path; it is refused with a value, and the second time.
 pub record TakesStats : Type 0 where
   pub alone : (name : Text) → Names (name ∷ codes "--stats" ∷ []) (record DEFAULTS { stats = true })
   pub before : (name path : Text) → has_dash path ≡ false → Names (name ∷ codes "--stats" ∷ path ∷ []) (record DEFAULTS { script = Some path; stats = true })
   pub behind : (name path : Text) → has_dash path ≡ false → Names (name ∷ path ∷ codes "--stats" ∷ []) (record DEFAULTS { script = Some path; stats = true })
   pub with_value : (name text : Text) (more : List Text) → faults_of (name ∷ (codes "--stats=" ++ text) ∷ more) ≡ TooManyValues ∷ []
   pub twice : (name : Text) (more : List Text) → faults_of (name ∷ codes "--stats" ∷ codes "--stats" ∷ more) ≡ ArgumentConflict ∷ []
-  -- beside a seed, a budget and a folder, in either order, and beside all of them
+  -- with a seed, a budget and a folder, in either order, and with all of them
   pub seed_first : (name seed : Text) → is_seed seed ≡ true → Names (name ∷ (codes "--seed=" ++ seed) ∷ codes "--stats" ∷ []) (record DEFAULTS { seed = Number (number_of seed); stats = true })
   pub before_seed : (name seed : Text) → is_seed seed ≡ true → Names (name ∷ codes "--stats" ∷ (codes "--seed=" ++ seed) ∷ []) (record DEFAULTS { seed = Number (number_of seed); stats = true })
   pub budget_first : (name budget : Text) → is_budget budget ≡ true → Names (name ∷ (codes "--budget=" ++ budget) ∷ codes "--stats" ∷ []) (record DEFAULTS { budget = number_of budget; stats = true })
@@ -325,19 +325,19 @@ pub record TakesStats : Type 0 where
   pub before_folder : (name folder : Text) → Names (name ∷ codes "--stats" ∷ (codes "--spill=" ++ folder) ∷ []) (record DEFAULTS { spill = Some folder; stats = true; check = false })
   pub all : (name seed budget folder : Text) → is_seed seed ≡ true → is_budget budget ≡ true → Names (name ∷ (codes "--seed=" ++ seed) ∷ (codes "--budget=" ++ budget) ∷ (codes "--spill=" ++ folder) ∷ codes "--stats" ∷ []) (record DEFAULTS { script = None; seed = Number (number_of seed); budget = number_of budget; spill = Some folder; stats = true; check = false })
 
--- And of `--check`, alike.
+-- `--check` is like `--stats`.
 pub record TakesCheck : Type 0 where
   pub alone : (name : Text) → Names (name ∷ codes "--check" ∷ []) (record DEFAULTS { check = true })
   pub before : (name path : Text) → has_dash path ≡ false → Names (name ∷ codes "--check" ∷ path ∷ []) (record DEFAULTS { script = Some path; check = true })
   pub behind : (name path : Text) → has_dash path ≡ false → Names (name ∷ path ∷ codes "--check" ∷ []) (record DEFAULTS { script = Some path; check = true })
   pub with_value : (name text : Text) (more : List Text) → faults_of (name ∷ (codes "--check=" ++ text) ∷ more) ≡ TooManyValues ∷ []
   pub twice : (name : Text) (more : List Text) → faults_of (name ∷ codes "--check" ∷ codes "--check" ∷ more) ≡ ArgumentConflict ∷ []
-  -- beside the flag for the report, in either order, and beside all others
+  -- with the flag for the report, in either order, and with all others
   pub stats_first : (name : Text) → Names (name ∷ codes "--stats" ∷ codes "--check" ∷ []) (record DEFAULTS { stats = true; check = true })
   pub before_stats : (name : Text) → Names (name ∷ codes "--check" ∷ codes "--stats" ∷ []) (record DEFAULTS { stats = true; check = true })
   pub all : (name seed budget folder : Text) → is_seed seed ≡ true → is_budget budget ≡ true → Names (name ∷ (codes "--seed=" ++ seed) ∷ (codes "--budget=" ++ budget) ∷ (codes "--spill=" ++ folder) ∷ codes "--stats" ∷ codes "--check" ∷ []) (record DEFAULTS { script = None; seed = Number (number_of seed); budget = number_of budget; spill = Some folder; stats = true; check = true })
 
--- And of `--table FILE`, `--table=FILE`, `-t FILE`, `-tFILE` and `-t=FILE`: in the same word any text is the value, but the text after `-t` without `=` is not empty and doesn't begin with `=`; in the next word any text that doesn't begin with a dash, or a dash alone. It may be given several times, and the values keep their order.
+-- `--table FILE`, `--table=FILE`, `-t FILE`, `-tFILE` and `-t=FILE` name a table: in the same word any text is the value, but the text after `-t` without `=` is not empty and doesn't begin with `=`; in the next word any text that doesn't begin with a dash, or a dash alone. They may be repeated, and the values keep their order.
 pub record TakesTables : Type 0 where
   pub alone : (name file : Text) → has_dash file ≡ false → Names (name ∷ codes "--table" ∷ file ∷ []) (record DEFAULTS { tables = file ∷ [] })
   pub short : (name file : Text) → has_dash file ≡ false → Names (name ∷ codes "-t" ∷ file ∷ []) (record DEFAULTS { tables = file ∷ [] })
@@ -355,7 +355,7 @@ pub record TakesTables : Type 0 where
   pub without_value : (name : Text) → faults_of (name ∷ codes "--table" ∷ []) ≡ InvalidValue ∷ []
   pub short_without_value : (name : Text) → faults_of (name ∷ codes "-t" ∷ []) ≡ InvalidValue ∷ []
 
--- And of `--command LINES`, `--command=LINES`, `-c LINES`, `-cLINES` and `-c=LINES`, alike; with a path it is refused.
+-- `--command LINES`, `--command=LINES`, `-c LINES`, `-cLINES` and `-c=LINES` are like `--table`; with a path they are refused.
 pub record TakesCommands : Type 0 where
   pub alone : (name lines : Text) → has_dash lines ≡ false → Names (name ∷ codes "--command" ∷ lines ∷ []) (record DEFAULTS { commands = lines ∷ [] })
   pub short : (name lines : Text) → has_dash lines ≡ false → Names (name ∷ codes "-c" ∷ lines ∷ []) (record DEFAULTS { commands = lines ∷ [] })
@@ -373,7 +373,7 @@ pub record TakesCommands : Type 0 where
   pub without_value : (name : Text) → faults_of (name ∷ codes "--command" ∷ []) ≡ InvalidValue ∷ []
   pub short_without_value : (name : Text) → faults_of (name ∷ codes "-c" ∷ []) ≡ InvalidValue ∷ []
 
--- And of `--output FORMAT`, `--output=FORMAT` and `-o FORMAT`, once, with the name of an output format; with another text it is refused.
+-- `--output FORMAT`, `--output=FORMAT` and `-o FORMAT` are taken once, with the name of an output format; with another text they are refused.
 pub record TakesOutput : Type 0 where
   pub alone : (name text : Text) (output : Output) → output_named text ≡ Some output → Names (name ∷ codes "--output" ∷ text ∷ []) (record DEFAULTS { output = output })
   pub short : (name text : Text) (output : Output) → output_named text ≡ Some output → Names (name ∷ codes "-o" ∷ text ∷ []) (record DEFAULTS { output = output })
@@ -385,7 +385,7 @@ pub record TakesOutput : Type 0 where
   pub without_value : (name : Text) → faults_of (name ∷ codes "--output" ∷ []) ≡ InvalidValue ∷ []
   pub twice : (name one two : Text) → has_dash one ≡ false → has_dash two ≡ false → faults_of (name ∷ codes "-o" ∷ one ∷ codes "--output" ∷ two ∷ []) ≡ ArgumentConflict ∷ []
 
--- And of `--ragged`: it stands alone, before a path or behind it, and is refused the second time and with a value.
+-- `--ragged` is taken alone and before or after a path; it is refused with a value, and the second time.
 pub record TakesRagged : Type 0 where
   pub alone : (name : Text) → Names (name ∷ codes "--ragged" ∷ []) (record DEFAULTS { ragged = true })
   pub before : (name path : Text) → has_dash path ≡ false → Names (name ∷ codes "--ragged" ∷ path ∷ []) (record DEFAULTS { script = Some path; ragged = true })

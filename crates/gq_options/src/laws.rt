@@ -1,30 +1,30 @@
-//! Laws: what the definitions come to. Each is the contract of a function that does nothing.
+//! Laws: what follows from the definitions. Each is the contract of an empty function.
 ghost use Rattle.gq_options.specs.CommandLine.{BudgetsWorked, FoldersWorked, OutputsWorked, SeedsWorked, TablesWorked};
 ghost use Rattle.gq_options.specs.CommandLine.{TakesCheck, TakesCommands, TakesOneBudget, TakesOneFolder, TakesOnePath, TakesOneSeed, TakesOutput, TakesRagged, TakesRandom, TakesStats, TakesTables};
 
-/// The program takes one path, or none, and tells help and the version from mistakes.
+/// The program takes at most one path, and distinguishes help and the version from mistakes.
 pub fn takes_one_path()
     ensures { TakesOnePath }
 {}
 
-/// Besides a path it takes one seed, before or behind it.
+/// Besides a path it takes one seed, before or after it.
 pub fn takes_one_seed()
     ensures vary { TakesOneSeed }
     ensures worked { SeedsWorked }
 {}
 
-/// The word `random` asks for a seed from the system, before a path or behind it.
+/// The word `random` asks for a seed from the system, before a path or after it.
 pub fn takes_random()
     ensures { TakesRandom }
 {}
 
-/// Besides a path and a seed it takes one budget, before or behind them.
+/// Besides a path and a seed it takes one budget, before or after them.
 pub fn takes_one_budget()
     ensures vary { TakesOneBudget }
     ensures worked { BudgetsWorked }
 {}
 
-/// Besides these it takes one folder, before or behind them.
+/// Besides these it takes one folder, before or after them.
 pub fn takes_one_folder()
     ensures vary { TakesOneFolder }
     ensures worked { FoldersWorked }

@@ -1,9 +1,9 @@
 //! What a command line of the program asks for.
 //!
-//! The contract above this crate is that of [`read_words`], in the terms of clap's own definitions:
-//! options come only of words without a fault, and ask for what these ask for; and help, the version,
-//! mistakes and want of memory are told apart. The laws in [`laws`] say the same without clap, of
-//! paths, tables, commands, the output format, the seed, the budget, the folder and the flags.
+//! The contract of [`read_words`] uses clap's own definitions: options are returned only for words
+//! without a fault, and ask for what the words ask for; help, the version, mistakes and out of
+//! memory are different errors. The laws in [`laws`] say the same without clap, for paths, tables,
+//! commands, the output format, the seed, the budget, the folder and the flags.
 #![tactic(auto)]
 
 pub mod laws;

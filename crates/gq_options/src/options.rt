@@ -44,7 +44,7 @@ pub struct Options<'a> {
     pub output: Output,
     /// Whether records of a table's file that have fewer fields than its header are completed.
     pub ragged: bool,
-    /// The seed of the hash by which tables keep their rows. No reply depends on it.
+    /// The seed of the tables' hash. No reply depends on it.
     pub seed: Seed,
     /// How many groups are kept in memory at once: 1 to 1,048,576. No reply depends on it.
     pub budget: u64,
@@ -65,17 +65,16 @@ pub enum BadLine {
     /// The version was asked for; its text, for the standard output.
     #[error("{0}")]
     Version(String),
-    /// The words are not a command line of the program; what is wrong with them, for the standard
-    /// error.
+    /// The words are wrong; the message, for the standard error.
     #[error("{0}")]
     Mistake(String),
-    /// A request for memory was refused.
+    /// An allocation failed.
     #[error("out of memory")]
     Memory,
 }
 
-// The version, and the toolchain by which all is proved, as `rt version` names it; `./test` holds it
-// to that.
+// The version, and the toolchain that proves the program, as `rt version` prints it; `./test`
+// checks that.
 const VERSION: &str = "0.1.0 (rattle-kit-13f logic dac8208d650f15bf)";
 
 const ABOUT: &str =
@@ -190,7 +189,7 @@ fn valued<'a>(alloc: Global, name: &'a str, value: &'a str) -> Arg<'a>
     Arg::new(alloc, name).long(name).value_name(value)
 }
 
-// An option with one value, by its long name and its short one, that may be given several times.
+// An option with one value, by its long name and its short one, that may be repeated.
 fn repeated<'a>(alloc: Global, name: &'a str, letter: char, value: &'a str) -> Arg<'a>
     ensures rule { rule_of result ≡ repeated_named name.entry.now letter }
     ensures local { result.global ≡ false }
@@ -263,7 +262,7 @@ fn seed_in(alloc: Global, matches: &ArgMatches) -> Result<Seed, BadLine>
     }
 }
 
-// The message on a text that names no seed, in the form of clap's own.
+// The message for a text that isn't a seed, in clap's format.
 fn bad_seed(alloc: Global, text: &str, error: &ParseIntError) -> BadLine
     ensures { IsToldAsMistake result }
 {
@@ -272,7 +271,7 @@ fn bad_seed(alloc: Global, text: &str, error: &ParseIntError) -> BadLine
     ))
 }
 
-// A mistake with this message, or out of memory.
+// A mistake with this message, or out of memory if there is none.
 fn mistake(message: Result<String, AllocError>) -> BadLine
     ensures mistake { IsToldAsMistake result }
     ensures kept { IfOk message (λ text. result ≡ BadLine.Mistake text) }
@@ -309,7 +308,7 @@ fn output_in(alloc: Global, matches: &ArgMatches) -> Result<Output, BadLine>
     }
 }
 
-// The message on a text that names no output format, in the form of clap's own.
+// The message for a text that isn't an output format, in clap's format.
 fn bad_output(alloc: Global, text: &str) -> BadLine
     ensures { IsToldAsMistake result }
 {
@@ -318,7 +317,7 @@ fn bad_output(alloc: Global, text: &str) -> BadLine
     ))
 }
 
-// The message on commands given with a script, in the form of clap's own.
+// The message for commands that are given with a script, in clap's format.
 fn bad_script(alloc: Global) -> BadLine
     ensures { IsToldAsMistake result }
 {
@@ -387,7 +386,7 @@ fn options_in<'a>(alloc: Global, matches: &ArgMatches<'a>) -> Result<Options<'a>
     })
 }
 
-// What clap answers in place of matches.
+// Converts clap's error.
 fn bad_line(alloc: Global, error: &Error) -> BadLine
     ensures { IsToldAs (kind_of error.now) result }
 {
