@@ -21,7 +21,7 @@ limit_message why.Limit = codes "Limit: a name has more than 63 bytes, a text mo
 limit_message why.LoadOpen = codes "LoadOpen: no line '\\.' ends the payload"
 limit_message why.PayloadTooLong = codes "Limit: the payload has more than 268435456 bytes"
 
--- the bytes contain no line end
+-- the bytes contain no line feed
 abbrev pub IsOneLine : Bytes → Type 0
 IsOneLine bytes = list_all is_plain bytes ≡ true
 

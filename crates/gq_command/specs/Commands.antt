@@ -36,7 +36,7 @@ abbrev pub exists_words : Option Exists → List Token
 exists_words None = []
 exists_words (Some e) = not_words e.negated ++ (Fixed terminal.Exists ∷ Name e.table ∷ parenthesized (names_words e.theirs) ++ (Fixed terminal.Equal ∷ parenthesized (names_words e.ours)))
 
--- the columns of a `by`, as they are or rolled up
+-- the columns after `by`, with or without `rollup`
 abbrev pub columns_words : Bool → List Bytes → List Token
 columns_words false columns = clause terminal.By terminal.Comma name_words columns
 columns_words true columns = Fixed terminal.By ∷ Fixed terminal.Rollup ∷ parenthesized (names_words columns)
@@ -48,7 +48,7 @@ abbrev pub key_words : List Bytes → List Token
 key_words [] = []
 key_words (n ∷ ns) = Fixed terminal.Comma ∷ Fixed terminal.Key ∷ parenthesized (names_words (n ∷ ns))
 
--- the tokens of a command, where each list has an item that must have one
+-- the tokens of a command, if each list that must have an item has one
 unfoldable pub phrase : Command → List Token
 phrase (Create t columns key) = Fixed terminal.Create ∷ Name t ∷ parenthesized (separated terminal.Comma column_words columns ++ key_words key)
 phrase (Drop t) = Fixed terminal.Drop ∷ Name t ∷ []
@@ -66,19 +66,19 @@ phrase (Distinct t on tests) =
     Fixed terminal.Distinct ∷ Name t ∷ Fixed terminal.On ∷ names_words on
     ++ tests_clause terminal.Where tests
 
--- which commands there are
+-- the commands of the grammar
 
--- both lists of exists have a name
+-- whether both lists of an `exists` have a name
 abbrev pub exists_filled : Option Exists → Bool
 exists_filled None = true
 exists_filled (Some e) = some e.theirs && some e.ours
 
--- a rollup has a column
+-- whether a rollup has a column
 abbrev pub columns_filled : Bool → List Bytes → Bool
 columns_filled false columns = true
 columns_filled true columns = some columns
 
--- the grammar writes the command: each list that must have an item has one, and no literal is a text without case
+-- whether the grammar writes a command: each list that must have an item has one, and no literal is a text without case
 abbrev pub grammatical : Command → Bool
 grammatical (Create t columns key) = some columns
 grammatical (Drop t) = true
@@ -102,7 +102,7 @@ is_open (payload.Bytes bytes) = false
 is_open payload.TooLong = false
 is_open payload.NoMemory = false
 
--- no list names a column twice, no aggregate stands behind where, the two lists of exists are of one length, and a load is told without its payload
+-- whether a command keeps the rules that the grammar doesn't express: no list names a column twice, no aggregate is in a `where`, the two lists of an `exists` have the same length, and a load has no payload yet
 abbrev pub keeps_rules : Command → Bool
 keeps_rules (Create t columns key) = no_repeats bytes_eq (column_names columns) && no_repeats bytes_eq key
 keeps_rules (Drop t) = true
@@ -113,11 +113,11 @@ keeps_rules (Show t) = true
 keeps_rules (Group t by shown tests exists having) = no_repeats bytes_eq by.columns && (list_all is_row_test tests && same_length exists)
 keeps_rules (Distinct t on tests) = no_repeats bytes_eq on && list_all is_row_test tests
 
--- what a line can say
+-- whether a line can say a command
 abbrev pub is_command : Command → Bool
 is_command c = grammatical c && keeps_rules c
 
--- the command as its line says it, which is a load without its payload
+-- the command as its line says it: a load without its payload
 abbrev pub as_said : Command → Command
 as_said (Create t columns key) = Create t columns key
 as_said (Drop t) = Drop t
@@ -139,7 +139,7 @@ abbrev pub exists_names : Option Exists → List Bytes
 exists_names None = []
 exists_names (Some e) = e.table ∷ (e.theirs ++ e.ours)
 
--- each name in a command
+-- the names in a command
 abbrev pub names : Command → List Bytes
 names (Create t columns key) = t ∷ (column_names columns ++ key)
 names (Drop t) = t ∷ []
@@ -150,7 +150,7 @@ names (Show t) = t ∷ []
 names (Group t by shown tests exists having) = t ∷ (by.columns ++ (flat_map aggregate_names shown ++ (flat_map test_names tests ++ (exists_names exists ++ flat_map test_names having))))
 names (Distinct t on tests) = t ∷ (on ++ flat_map test_names tests)
 
--- each text among the literals of a command
+-- the texts among the literals of a command
 abbrev pub texts : Command → List Bytes
 texts (Create t columns key) = []
 texts (Drop t) = []
@@ -161,7 +161,7 @@ texts (Show t) = []
 texts (Group t by shown tests exists having) = flat_map test_texts tests ++ flat_map test_texts having
 texts (Distinct t on tests) = flat_map test_texts tests
 
--- how many columns a command makes
+-- how many columns a command creates
 abbrev pub columns_made : Command → ℕ
 columns_made (Create t columns key) = length columns
 columns_made (Drop t) = 0
@@ -183,11 +183,11 @@ aggregates_shown (Show t) = 0
 aggregates_shown (Group t by shown tests exists having) = length shown
 aggregates_shown (Distinct t on tests) = 0
 
--- the names of exists are of at most so many bytes
+-- whether the names of an `exists` have at most `most` bytes
 abbrev pub exists_fits : ℕ → Option Exists → Bool
 exists_fits most None = true
 exists_fits most (Some e) = is_at_most most e.table && (list_all (is_at_most most) e.theirs && list_all (is_at_most most) e.ours)
 
--- the command is within the limits of a line, the line's own length aside
+-- whether a command is within the limits of a line, apart from the line's own length
 abbrev pub fits : Bounds → Command → Bool
 fits b c = list_all (is_at_most b.name) (names c) && (list_all (is_at_most b.text) (texts c) && (nat_le (columns_made c) b.columns && nat_le (aggregates_shown c) b.aggregates))

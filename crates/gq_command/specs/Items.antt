@@ -1,4 +1,4 @@
--- What a reader of commands answers.
+-- The items that a reader of commands returns.
 use Rattle.std.specs.Prelude.{◌≡◌, ℕ, ◌<◌, ◌≤◌, Bool, true, false, ◌∷◌, length, Option, Some, None, ◌⊎◌, IfSome}
 use Rattle.gq_row.specs.declared.limits.Bounds.{Bounds}
 use Rattle.gq_command.specs.declared.lines.LineRefusal.{LineRefusal}
@@ -16,36 +16,36 @@ use Rattle.gq_script.specs.Numbering.{numbered_left}
 use Rattle.gq_script.specs.Gathering.{Gathers}
 use Rattle.gq_script.specs.declared.gather.OpenLine.{OpenLine}
 
--- what stands for the payload told, which is None where it is open
+-- how a payload is returned: as its bytes within the limit, as `Open` if no line ends it, and as `TooLong` past the limit
 abbrev pub StandsFor : ℕ → Option Bytes → Payload → Type 0
 StandsFor most told (payload.Bytes bytes) = (told ≡ Some bytes) × (length bytes ≤ most)
 StandsFor most told payload.Open = told ≡ None
 StandsFor most told payload.TooLong = (bytes : Bytes) × (told ≡ Some bytes) × (most < length bytes)
 StandsFor most told payload.NoMemory = ⊥
 
--- what stands in for the payload told, where memory may be wanting; an open one wants none
+-- how a payload is returned if an allocation may fail: a payload that a line ends may also be `NoMemory`
 abbrev pub StandsInFor : ℕ → Option Bytes → Payload → Type 0
 StandsInFor most None p = StandsFor most None p
 StandsInFor most (Some bytes) p = StandsFor most (Some bytes) p ⊎ (p ≡ payload.NoMemory)
 
--- the entry is the command, which is within the limits
+-- the entry is this command, which is within the limits
 abbrev pub IsCommandOf : Bounds → Entry → Command → Type 0
 IsCommandOf b (Plain line) c = Says line c × (fits b c ≡ true)
 IsCommandOf b (Loading line told) c = (table : Bytes) × (carried : Payload) × (c ≡ Load table carried) × Says line (Load table payload.Open) × (fits b (Load table payload.Open) ≡ true) × StandsFor b.payload told carried
 
--- the line is refused so: for its length, which comes first; where it says no command; or where it says one past a limit
+-- why a line is refused: for its length, which is checked first; since it isn't a command; or since it is one past a limit
 abbrev pub IsRefusalOf : Bounds → Bytes → LineRefusal → Type 0
 IsRefusalOf b line refusal.LineTooLong = b.line < length line
 IsRefusalOf b line refusal.Syntax = (length line ≤ b.line) × ((c : Command) → Says line c → ⊥)
 IsRefusalOf b line refusal.Limit = (length line ≤ b.line) × ((c : Command) × Says line c × (fits b c ≡ false))
 IsRefusalOf b line refusal.Memory = ⊥
 
--- what the entry is read as where memory isn't wanting
+-- what an entry is read as if no allocation fails
 abbrev pub ReadsAs : Bounds → Entry → Item → Type 0
 ReadsAs b e (item.Command c) = (length (line_of e) ≤ b.line) × IsCommandOf b e c
 ReadsAs b e (item.Refused r) = IsRefusalOf b (line_of e) r
 
--- the entry is read as a load with a payload that ends, for which there was no memory
+-- the entry is read as a load with a payload that a line ends, for which an allocation failed
 pub record LosesPayload (b : Bounds) (e : Entry) (it : Item) : Type 0 where
   pub table : Bytes
   pub carried : Payload
@@ -53,16 +53,16 @@ pub record LosesPayload (b : Bounds) (e : Entry) (it : Item) : Type 0 where
   pub closed : is_open carried ≡ false
   pub is : it ≡ item.Command (Load table payload.NoMemory)
 
--- the entry is read so; want of memory may stand in the place of each item, and of each payload that ends
+-- what an entry is read as: if an allocation fails, `Memory` may replace each item, and `NoMemory` each payload that a line ends
 abbrev pub IsReadAs : Bounds → Entry → Item → Type 0
 IsReadAs b e it = ReadsAs b e it ⊎ ((it ≡ item.Refused refusal.Memory) ⊎ LosesPayload b e it)
 
--- a command of the item is one that a line can say, a load with any payload, and within the limits of a line
+-- a command of an item is within the limits of a line, and is one that a line can say, apart from a load's payload
 abbrev pub IsReady : Bounds → Item → Type 0
 IsReady b (item.Command c) = (is_command (as_said c) ≡ true) × (fits b c ≡ true)
 IsReady b (item.Refused r) = Unit {0}
 
--- of the bytes that were left after n lines the first entry was taken, with the blank lines and comments before it and nothing after it; its line has this number, m lines came in all, this is kept of the line where it is wrong, and this item was read from it
+-- of the bytes that were left after `n` lines the first entry was taken, with the blank lines and comments before it and nothing after it: `number` is the number of its line, `m` lines were taken in all, `wrong` is its line if that is returned as wrong, and this item was read from it
 pub record Gave (b : Bounds) (n : ℕ) (bytes : Bytes) (left : Option Bytes) (m number : ℕ) (wrong : Option OpenLine) (it : Item) : Type 0 where
   pub entry : Entry
   pub rest : Bytes
@@ -73,12 +73,12 @@ pub record Gave (b : Bounds) (n : ℕ) (bytes : Bytes) (left : Option Bytes) (m 
   pub kept : IfSome wrong (λ line. Gathers b.line line (line_of entry))
   pub reads : IsReadAs b entry it
 
--- the item with this payload, where it is a load
+-- the item with this payload, if it is a load
 abbrev pub with_payload : Payload → Item → Item
 with_payload p (item.Command (Load table carried)) = item.Command (Load table p)
 with_payload p it = it
 
--- a reader, by the bytes that it has left, how many it gave, how many lines came, the number of the last item's line, what is kept of it where it is wrong, and whether a read failed
+-- a reader: its remaining bytes, how many it gave, how many lines it took, the number of the last item's line, that line if it is returned as wrong, and whether a read failed
 pub record Pending : Type 0 where
   pub left : Option Bytes
   pub given : ℕ

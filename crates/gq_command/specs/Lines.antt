@@ -1,4 +1,4 @@
--- What lines say.
+-- Lines as commands.
 use Rattle.std.specs.Prelude.{◌≡◌, Option}
 use Rattle.gq_command.specs.declared.command.Command.{Command}
 use Rattle.gq_command.specs.Commands.{Bytes, SaysTokens}
@@ -6,11 +6,11 @@ use Rattle.gq_token.specs.Results.{◌>>=◌}
 use Rattle.gq_command.specs.Reading.{command_of}
 use Rattle.gq_token.specs.Lexing.{tokens}
 
--- the line says the command
+-- the line says the command: its tokens are the command's
 abbrev pub Says : Bytes → Command → Type 0
 Says line c = SaysTokens (tokens line) c
 
--- the command that is read from a line
+-- the command that is parsed from a line
 abbrev pub command_on : Bytes → Option Command
 command_on line = tokens line >>= command_of
 

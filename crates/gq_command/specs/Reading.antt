@@ -1,4 +1,4 @@
--- Reading commands from tokens, from left to right.
+-- Parsing commands from tokens, from left to right.
 use Rattle.std.specs.Prelude.{Bool, true, false, List, [], ◌∷◌, Option, Some, None, if◌then◌else◌}
 use Rattle.gq_token.specs.declared.token.Terminal.{Terminal}
 use Rattle.gq_token.specs.declared.token.Terminal.TheVariants as terminal
@@ -20,7 +20,7 @@ use Rattle.gq_command.specs.declared.command.Payload.TheVariants as payload
 use Rattle.gq_row.specs.declared.value.Value.{Value}
 use Rattle.gq_row.specs.declared.schema.Column.{Column}
 
--- the kind that begins with `text`, behind it
+-- the kind that begins with `text`, given the tokens after it
 unfoldable pub text_behind : List Token → Kind × List Token
 text_behind ts = elim (skip terminal.NoCase ts) [ None ↦ (kind.Text, ts) | Some after ↦ (kind.NoCase, after) ]
 
@@ -40,7 +40,7 @@ column_at ts = do
 abbrev pub columns_at : List Token → Option (List Column × List Token)
 columns_at ts = items_at column_at column_comma ts
 
--- the key behind a comma, or none
+-- the key after a comma, or none
 unfoldable pub key_at : List Token → Option (List Bytes × List Token)
 key_at ts = elim (skip terminal.Comma ts) [ None ↦ Some ([], ts) | Some after ↦ skip terminal.Key after >>= λ rest. in_parentheses names_at rest ]
 
@@ -51,7 +51,7 @@ row_at ts = do
   values ← in_parentheses literals_at table.1
   Some ((table.0, values.0), values.1)
 
--- forms behind their first words
+-- the forms, given the tokens after their first words
 unfoldable pub create_at : List Token → Option (Command × List Token)
 create_at ts = do
   table ← name_at ts
@@ -61,7 +61,7 @@ create_at ts = do
   closed ← skip terminal.Close key.1
   Some (Create table.0 columns.0 key.0, closed)
 
--- what stands behind `exists`
+-- what follows `exists`
 unfoldable pub exists_behind : Bool → List Token → Option (Exists × List Token)
 exists_behind negated ts = do
   table ← name_at ts
@@ -73,25 +73,25 @@ exists_behind negated ts = do
 abbrev pub with_exists : Option (Exists × List Token) → Option (Option Exists × List Token)
 with_exists read = read >>= λ e. Some (Some e.0, e.1)
 
--- `exists` or `not exists`, or none where neither leads
+-- `exists` or `not exists`, or none if neither comes first
 unfoldable pub exists_at : List Token → Option (Option Exists × List Token)
 exists_at ts = elim (skip terminal.Not ts) [
   | None ↦ elim (skip terminal.Exists ts) [ None ↦ Some (None, ts) | Some after ↦ with_exists (exists_behind false after) ]
   | Some after ↦ skip terminal.Exists after >>= λ rest. with_exists (exists_behind true rest)
 ]
 
--- the columns behind `by`, rolled up or not
+-- the columns after `by`, with or without `rollup`
 unfoldable pub by_behind : List Token → Option (By × List Token)
 by_behind ts = elim (skip terminal.Rollup ts) [
   | None ↦ names_at ts >>= λ names. Some (record { columns = names.0; rollup = false }, names.1)
   | Some after ↦ in_parentheses names_at after >>= λ names. Some (record { columns = names.0; rollup = true }, names.1)
 ]
 
--- `by` and its columns, or none where it doesn't lead
+-- `by` and its columns, or none if `by` doesn't come first
 unfoldable pub by_at : List Token → Option (By × List Token)
 by_at ts = elim (skip terminal.By ts) [ None ↦ Some (record { columns = []; rollup = false }, ts) | Some after ↦ by_behind after ]
 
--- the conditions behind what is shown, and with them the whole grouping
+-- the conditions after the aggregates, and with them the whole grouping
 unfoldable pub conditions_behind : Bytes → By → List Aggregate → List Token → Option (Command × List Token)
 conditions_behind table by shown ts = do
   tests ← clause_at terminal.Where tests_at ts
@@ -115,7 +115,7 @@ distinct_at ts = do
   tests ← clause_at terminal.Where tests_at names.1
   Some (Distinct table.0 names.0 tests.0, tests.1)
 
--- the form that begins with the word, behind it
+-- the form that begins with this word, given the tokens after it
 unfoldable pub form_behind : Terminal → List Token → Option (Command × List Token)
 form_behind terminal.Create ts = create_at ts
 form_behind terminal.Drop ts = do
@@ -144,7 +144,7 @@ form_at (Name n ∷ rest) = None
 form_at (Number z ∷ rest) = None
 form_at (Text s ∷ rest) = None
 
--- what was read, where no token is left
+-- what was read, if no token is left
 unfoldable pub ended : {A : Type 0} → A × List Token → Option A
 ended (x, []) = Some x
 ended (x, t ∷ ts) = None

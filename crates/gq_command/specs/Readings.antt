@@ -1,4 +1,4 @@
--- Each item of a script is read as one thing.
+-- Each item of a script is read in only one way.
 use Rattle.std.specs.Prelude.{◌≡◌}
 use Rattle.std.specs.List.{All}
 use Rattle.gq_row.specs.declared.limits.Bounds.{Bounds}
@@ -7,7 +7,7 @@ use Rattle.gq_command.specs.Commands.{Bytes}
 use Rattle.gq_command.specs.Items.{ReadsAs}
 use Rattle.gq_script.specs.Script.{Entry, items}
 
--- the entry is read as something, and as nothing else
+-- the entry is read as one item, and as no other
 pub record HasOneReading (b : Bounds) (e : Entry) : Type 0 where
   pub reading : Item
   pub reads : ReadsAs b e reading

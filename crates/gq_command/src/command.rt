@@ -5,10 +5,10 @@ use gq_row::{Column, Row, Sequence, Text};
 /// `by columns`, or `by rollup (columns)`.
 #[derive(Drop)]
 pub struct By {
-    /// Names of columns, none where there is no `by`.
+    /// Names of columns; none without `by`.
     pub columns: Sequence<Text>,
-    /// Whether rows are grouped by each front of the columns, the empty one first, and not by all of
-    /// them alone.
+    /// Whether rows are grouped by each prefix of the columns, the empty one first, and not only by
+    /// all of them.
     pub rollup: bool,
 }
 
@@ -16,7 +16,7 @@ pub struct By {
 /// table's row, column by column.
 #[derive(Drop)]
 pub struct Exists {
-    /// Whether `not` stands before it.
+    /// Whether `not` comes before it.
     pub negated: bool,
     /// The other table.
     pub table: Text,
@@ -26,26 +26,26 @@ pub struct Exists {
     pub ours: Sequence<Text>,
 }
 
-/// The payload of a load, or the mark in its place.
+/// The payload of a load, or why it has none.
 #[derive(Drop)]
 pub enum Payload {
     Bytes(Sequence<u8>),
-    /// The script ends before the payload does. A line alone always gives this.
+    /// The script ends before the payload does. A line that is parsed alone always has this.
     Open,
-    /// The payload passes the limit on its bytes.
+    /// The payload has more bytes than the limit.
     TooLong,
-    /// There was no memory for the payload.
+    /// An allocation for the payload failed.
     NoMemory,
 }
 
-/// A command. Names and literals are told by their values: quotes undone, keywords gone.
+/// A command. Names and literals are values without their quotes; keywords are left out.
 #[derive(Drop)]
 pub enum Command {
     /// `create table (column kind, .., key (columns))`
     Create {
         table: Text,
         columns: Sequence<Column>,
-        /// Names of key columns, none where the table has no key.
+        /// Names of key columns; none if the table has no key.
         key: Sequence<Text>,
     },
     /// `drop table`

@@ -1,5 +1,5 @@
-//! Laws: what the definitions come to, in the subject's own words. Each is the contract of a
-//! function that does nothing.
+//! Laws: what follows from the definitions, in the field's terms. Each is the contract of an empty
+//! function.
 ghost use Rattle.gq_command.specs.Lines.{SaysOne};
 ghost use Rattle.gq_command.specs.Readings.{ReadsOnce};
 ghost use Rattle.gq_script.specs.Numbering.{NumbersTell};
@@ -12,17 +12,17 @@ pub fn one_command()
     ensures { SaysOne }
 {}
 
-/// The items of lines are the first item, and the items of the lines behind it.
+/// The items of lines are the first item, and then the items of the lines after it.
 pub fn in_order()
     ensures { InOrder }
 {}
 
-/// The items with numbers are the items of the script, each at the line of its number.
+/// The numbered items are the items of the script, and each has the number of its line.
 pub fn numbers_tell()
     ensures { NumbersTell }
 {}
 
-/// Each item of a script is read as a command or refused, and as one thing only.
+/// Each item of a script is read as a command or as refused, and in only one way.
 pub fn reads_once()
     ensures { ReadsOnce }
 {}

@@ -1,4 +1,4 @@
-//! Lines as commands.
+//! Parses lines as commands.
 ghost use Rattle.std.specs.Prelude.{true, false, ◌≡◌, ◌&&◌, ◌↔◌, ◌<◌, IfOk, IsErrOf, length, nat_le};
 ghost use Rattle.std.specs.List.{list_all};
 ghost use Rattle.gq_command.specs.Commands.{aggregate_names, exists_fits, fits, is_at_most, literal_texts, test_fits};
@@ -13,20 +13,20 @@ use gq_token::{ParseError, lex};
 use std::alloc::Global;
 use thiserror::Error;
 
-/// Why a line gives no command.
+/// Why a line is refused.
 #[derive(Debug, Drop, Error)]
 pub enum LineRefusal {
-    /// The line says no command.
+    /// The line isn't a command.
     #[error("the line says no command")]
     Syntax,
-    /// The line has more bytes than a line may have.
+    /// The line has more bytes than the limit.
     #[error("the line is too long")]
     LineTooLong,
-    /// The line says a command with a name or a text that is too long, with too many columns, or
-    /// with too many aggregates.
+    /// The line is a command whose names or texts are too long, or with too many columns or
+    /// aggregates.
     #[error("a name or a text is too long, or there are too many columns or aggregates")]
     Limit,
-    /// There was no memory to read the line.
+    /// An allocation failed while the line was read.
     #[error("no memory to read the line")]
     Memory,
 }
@@ -50,14 +50,14 @@ fn columns_fit(columns: &[Column], most: usize) -> bool
     columns.iter().all(|column| column.name.len() <= most)
 }
 
-/// Whether a table's name and the literals of a row are within the limits of a line.
+/// Whether a table's name and a row's literals are within the limits of a line.
 fn row_fits(table: &Text, row: &Row, bounds: &Bounds) -> bool
     ensures { result ≡ (is_at_most bounds.now.name table.now && list_all (λ v. list_all (is_at_most bounds.now.text) (literal_texts v)) row.now) }
 {
     table.len() <= bounds.name && values_fit(row.cells(), bounds.text)
 }
 
-/// Whether the names of an `exists` have at most so many bytes, where there is one.
+/// Whether the names of an `exists`, if there is one, have at most `most` bytes.
 fn exists_fits(exists: &Option<Exists>, most: usize) -> bool
     ensures { result ≡ exists_fits most exists.now }
 {
@@ -71,8 +71,8 @@ fn exists_fits(exists: &Option<Exists>, most: usize) -> bool
     }
 }
 
-/// Whether the names of a grouping, its conditions aside, and what it shows, are within the limits of
-/// a line.
+/// Whether a grouping's names outside its conditions, and the number of its aggregates, are within
+/// the limits of a line.
 fn groups_fit(
     table: &Text,
     by: &Sequence<Text>,
@@ -157,16 +157,16 @@ fn fits(command: &Command, bounds: &Bounds) -> bool
     }
 }
 
-/// The command that a line says, where a load has an open payload. The line comes without its end.
+/// Parses a line, which comes without its end. A load gets an open payload.
 pub fn parse_line(alloc: Global, line: &[u8], limits: &Limits) -> Result<Command, LineRefusal>
-    // A command comes only where the line says it, and it is within the limits.
+    // A command is returned only if the line says it and it is within the limits.
     ensures said { IfOk result (λ c. Says line.now c) }
     ensures within { IfOk result (λ c. fits limits.now.bounds c ≡ true) }
-    // Syntax comes only where the line says no command.
+    // `Syntax` is returned only if the line isn't a command.
     ensures syntax { IsErrOf result LineRefusal.Syntax → (c : Command) → Says line.now c → ⊥ }
-    // Limit comes only where the line says a command past a limit.
+    // `Limit` is returned only if the line is a command past a limit.
     ensures limit { IsErrOf result LineRefusal.Limit → (c : Command) × Says line.now c × (fits limits.now.bounds c ≡ false) }
-    // The length decides before all else.
+    // The length is checked first.
     ensures too_long { IsErrOf result LineRefusal.LineTooLong ↔ (limits.now.bounds.line < length line.now) }
 {
     if line.len() > limits.bounds.line {
@@ -179,7 +179,7 @@ pub fn parse_line(alloc: Global, line: &[u8], limits: &Limits) -> Result<Command
             if fits(&command, &limits.bounds) {
                 Ok(command)
             } else {
-                // By a call: in place it would be proved here variant by variant.
+                // A call: an inline drop would be proved variant by variant here.
                 drop(command);
                 Err(LineRefusal::Limit)
             }

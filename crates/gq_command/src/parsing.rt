@@ -1,5 +1,5 @@
-//! Tokens as commands: one function for each rule of the grammar, which takes the tokens that it
-//! reads from the front of those that are left.
+//! Parses tokens as commands: one function for each rule of the grammar. Each takes the tokens that
+//! it reads.
 ghost use Rattle.std.specs.Prelude.{◌≡◌, if◌then◌else◌, List, None, IfOk, IfErr, bytes_eq};
 ghost use Rattle.std.specs.List.{list_all};
 ghost use Rattle.gq_row.specs.Repeats.{no_repeats};
@@ -20,7 +20,7 @@ use gq_token::{ParseError, Terminal, Token, Tokens};
 use std::alloc::Global;
 use std::collections::BTreeSet;
 
-/// The kind that begins with `text`, by the tokens behind it.
+/// The kind that begins with `text`, given the tokens after it.
 #[tactic(auto, unfolding(crate::specs::Reading::text_behind))]
 fn text_behind(tokens: &mut Tokens) -> Kind
     ensures { (result, tokens.new) ≡ text_behind tokens.old }
@@ -105,7 +105,7 @@ fn row_of(alloc: Global, tokens: &mut Tokens) -> Result<(Text, Row), ParseError>
     Ok((table, Row::new(values)))
 }
 
-/// What stands behind `exists`.
+/// What follows `exists`.
 #[tactic(auto, unfolding(crate::specs::Reading::exists_behind))]
 fn exists_behind(alloc: Global, negated: bool, tokens: &mut Tokens) -> Result<Exists, ParseError>
     ensures { Gives (λ exists. (exists, tokens.new)) result (exists_behind negated tokens.old) }
@@ -122,7 +122,7 @@ fn exists_behind(alloc: Global, negated: bool, tokens: &mut Tokens) -> Result<Ex
     })
 }
 
-/// `exists` or `not exists`, or none where neither leads.
+/// `exists` or `not exists`; `None` if neither comes first.
 #[tactic(auto, unfolding(crate::specs::Reading::exists_at))]
 fn exists_of(alloc: Global, tokens: &mut Tokens) -> Result<Option<Exists>, ParseError>
     ensures { Gives (λ exists. (exists, tokens.new)) result (exists_at tokens.old) }
@@ -137,7 +137,7 @@ fn exists_of(alloc: Global, tokens: &mut Tokens) -> Result<Option<Exists>, Parse
     Ok(None)
 }
 
-/// The columns behind `by`, rolled up or not.
+/// The columns after `by`, with or without `rollup`.
 #[tactic(auto, unfolding(crate::specs::Reading::by_behind))]
 fn by_behind(alloc: Global, tokens: &mut Tokens) -> Result<By, ParseError>
     ensures { Gives (λ by. (by, tokens.new)) result (by_behind tokens.old) }
@@ -154,7 +154,7 @@ fn by_behind(alloc: Global, tokens: &mut Tokens) -> Result<By, ParseError>
     })
 }
 
-/// `by` and its columns, or none where it doesn't lead.
+/// `by` and its columns; no columns if `by` doesn't come first.
 #[tactic(auto, unfolding(crate::specs::Reading::by_at))]
 fn by_of(alloc: Global, tokens: &mut Tokens) -> Result<By, ParseError>
     ensures { Gives (λ by. (by, tokens.new)) result (by_at tokens.old) }
@@ -168,7 +168,7 @@ fn by_of(alloc: Global, tokens: &mut Tokens) -> Result<By, ParseError>
     })
 }
 
-/// What rows and groups have to meet.
+/// The conditions on rows and on groups.
 #[derive(Drop)]
 struct Conditions {
     tests: Sequence<Test>,
@@ -176,7 +176,7 @@ struct Conditions {
     having: Sequence<Test>,
 }
 
-/// The conditions behind what is shown.
+/// The conditions after the aggregates.
 #[tactic(auto, unfolding(crate::specs::Reading::conditions_behind))]
 fn conditions_of(alloc: Global, tokens: &mut Tokens) -> Result<Conditions, ParseError>
     ensures { (table : Bytes) (by : Columns) (shown : List Asked) →
@@ -230,7 +230,7 @@ fn distinct_of(alloc: Global, tokens: &mut Tokens) -> Result<Command, ParseError
     })
 }
 
-/// The command that begins with this word, by the tokens behind it.
+/// The command that begins with this word, given the tokens after it.
 #[tactic(auto, unfolding(crate::specs::Reading::form_behind))]
 fn form_behind(alloc: Global, first: Terminal, tokens: &mut Tokens) -> Result<Command, ParseError>
     ensures { Gives (λ command. (command, tokens.new)) result (form_behind first tokens.old) }
@@ -271,7 +271,7 @@ fn form_of(alloc: Global, tokens: &mut Tokens) -> Result<Command, ParseError>
     }
 }
 
-/// Whether no name stands twice among these.
+/// Whether no name occurs twice.
 fn names_differ(alloc: Global, names: &[Text]) -> Result<bool, ParseError>
     ensures ok { IfOk result (λ differ. differ ≡ no_repeats bytes_eq names.now) }
     ensures err { IfErr result (λ e. e ≡ Memory) }
@@ -285,7 +285,7 @@ fn names_differ(alloc: Global, names: &[Text]) -> Result<bool, ParseError>
     Ok(true)
 }
 
-/// Whether no two of these columns have one name.
+/// Whether no two columns have the same name.
 fn columns_differ(alloc: Global, columns: &[Column]) -> Result<bool, ParseError>
     ensures ok { IfOk result (λ differ. differ ≡ no_repeats bytes_eq (column_names columns.now)) }
     ensures err { IfErr result (λ e. e ≡ Memory) }
@@ -299,14 +299,14 @@ fn columns_differ(alloc: Global, columns: &[Column]) -> Result<bool, ParseError>
     Ok(true)
 }
 
-/// Whether no aggregate stands in these tests.
+/// Whether these tests contain no aggregate.
 fn are_row_tests(tests: &[Test]) -> bool
     ensures { result ≡ list_all is_row_test tests.now }
 {
     tests.iter().all(|test| test.is_of_row())
 }
 
-/// Whether the two lists of an `exists` are of one length, where there is one.
+/// Whether the two lists of an `exists`, if there is one, have the same length.
 fn same_length(exists: &Option<Exists>) -> bool
     ensures { result ≡ same_length exists.now }
 {
@@ -316,7 +316,7 @@ fn same_length(exists: &Option<Exists>) -> bool
     }
 }
 
-/// Whether a command keeps the rules beside the grammar.
+/// Whether a command keeps the rules that the grammar doesn't express.
 fn keeps_rules(alloc: Global, command: &Command) -> Result<bool, ParseError>
     ensures ok { IfOk result (λ kept. kept ≡ keeps_rules command.now) }
     ensures err { IfErr result (λ e. e ≡ Memory) }
@@ -346,7 +346,7 @@ fn keeps_rules(alloc: Global, command: &Command) -> Result<bool, ParseError>
     }
 }
 
-/// Refuses a command that tokens follow, and one that breaks a rule beside the grammar.
+/// Refuses a command that tokens follow, and one that breaks such a rule.
 #[tactic(auto, unfolding(crate::specs::Reading::ended))]
 fn check_whole(alloc: Global, command: &Command, left: &Tokens) -> Result<(), ParseError>
     ensures { Gives (λ _. command.now) result (if keeps_rules command.now then ended (command.now, left.now) else None) }
@@ -361,7 +361,7 @@ fn check_whole(alloc: Global, command: &Command, left: &Tokens) -> Result<(), Pa
     }
 }
 
-/// The command that all of these tokens say.
+/// Parses all of the tokens as one command.
 #[tactic(auto, unfolding(crate::specs::Reading::command_of, crate::specs::Reading::ended))]
 pub fn command_in(alloc: Global, mut tokens: Tokens) -> Result<Command, ParseError>
     ensures { Gives (λ c. c) result (command_of tokens) }

@@ -1,4 +1,4 @@
-//! The commands of a script.
+//! Reads the commands of a script.
 ghost use Rattle.std.specs.Prelude.{◌≡◌, ◌≤◌, ℕ, [], false, Option, Some, IfOk, IfSome, IfNone, OnOk};
 ghost use Rattle.gq_command.specs.Commands.{Bytes};
 ghost use Rattle.gq_script.specs.Script.{raw_lines, first_entry, items_left, is_skipped, Counts, Plain};
@@ -14,14 +14,15 @@ use std::alloc::Global;
 use std::io::Read;
 use std::marker::Model;
 
-/// What a line of a script gives.
+/// An item of a script: a command, or why its line is refused.
 #[derive(Drop)]
 pub enum Item {
     Command(Command),
     Refused(LineRefusal),
 }
 
-/// What a line gives that is no blank line and no comment. `wrong` becomes the line, if it is no command.
+/// The item of a line that is neither blank nor a comment. `wrong` becomes the line if it isn't a
+/// command.
 fn item_of(alloc: Global, line: OpenLine, wrong: &mut Option<OpenLine>, limits: &Limits) -> Item
     ensures reads { (text : Bytes) → Gathers limits.now.bounds.line line text → is_skipped text ≡ false → IsReadAs limits.now.bounds (Plain text) result }
     ensures ready { IsReady limits.now.bounds result }
@@ -34,7 +35,7 @@ fn item_of(alloc: Global, line: OpenLine, wrong: &mut Option<OpenLine>, limits: 
     if line.lost {
         return Item::Refused(LineRefusal::Memory);
     }
-    // A dash alone is no token.
+    // A lone dash isn't a token.
     if matches!(line.opening, Opening::Dash) {
         *wrong = Some(line);
         return Item::Refused(LineRefusal::Syntax);
@@ -48,7 +49,7 @@ fn item_of(alloc: Global, line: OpenLine, wrong: &mut Option<OpenLine>, limits: 
     }
 }
 
-// A refused line, if it is no command.
+// The refused line, if it isn't a command.
 fn wrong_line(refusal: &LineRefusal, line: OpenLine) -> Option<OpenLine>
     ensures { IfSome result (λ kept. kept ≡ line) }
 {
@@ -58,7 +59,7 @@ fn wrong_line(refusal: &LineRefusal, line: OpenLine) -> Option<OpenLine>
     }
 }
 
-/// The payload of a refused line is passed without memory.
+/// The payload of a refused line is skipped without memory.
 fn kept_for(alloc: Global, item: &Item) -> Kept
     ensures { (most : ℕ) → Holds most result [] }
 {
@@ -68,14 +69,14 @@ fn kept_for(alloc: Global, item: &Item) -> Kept
     }
 }
 
-/// What stands for a payload of which this was kept, or for an open one.
+/// The payload of which this was kept; `None` is an open one.
 fn payload_of(kept: Option<Kept>) -> Payload
     ensures { (most : ℕ) (told : Option Bytes) → KeptTold most told kept → StandsInFor most told result }
 {
     match kept {
         None => Payload::Open,
         Some(Kept::Bytes(bytes)) => {
-            // It grew by doubling, and is held while its rows are taken.
+            // Frees the capacity that isn't used: the bytes are held while their rows are loaded.
             let mut bytes = bytes;
             bytes.shrink_to_fit();
             Payload::Bytes(Sequence::new(bytes))
@@ -85,7 +86,7 @@ fn payload_of(kept: Option<Kept>) -> Payload
     }
 }
 
-/// The item with this payload, where it is a load.
+/// The item with this payload, if it is a load.
 fn with_payload(item: Item, payload: Payload) -> Item
     ensures { result ≡ with_payload payload item }
 {
@@ -97,8 +98,8 @@ fn with_payload(item: Item, payload: Payload) -> Item
     }
 }
 
-/// The first item of what is left, or `None` where there is none. `number` becomes that of its line,
-/// and `wrong` the line, if it is no command.
+/// The first remaining item, or `None` if there is none. `number` becomes the number of its line,
+/// and `wrong` the line if it isn't a command.
 fn next_item<R: Read>(
     alloc: Global,
     source: &mut Source<R>,
@@ -124,7 +125,7 @@ fn next_item<R: Read>(
                 return Ok(Some(item));
             }
             let Ok(kept) = take_payload(kept_for(alloc, &item), source, &limits.bounds) else {
-                // By a call: in place it would be proved here variant by variant.
+                // A call: an inline drop would be proved variant by variant here.
                 drop(item);
                 return Err(ReadFault);
             };
@@ -134,8 +135,8 @@ fn next_item<R: Read>(
     Err(ReadFault)
 }
 
-/// The commands that a reader's bytes say, one after the other, in whatever pieces the bytes come.
-/// It reads ahead into a buffer of fixed size.
+/// Reads the commands of a script, in whatever pieces its bytes come. It reads ahead into a buffer
+/// of fixed size.
 #[derive(Drop)]
 pub struct CommandReader<R: Read> {
     source: Source<R>,
@@ -160,7 +161,7 @@ impl<R: Read> CommandReader<R> {
     /// A reader of a whole script.
     pub fn new(reader: R) -> CommandReader<R>
         ensures left { IfSome (R.remaining reader) (λ bytes. result.left ≡ Some (without_mark bytes)) }
-        // The bytes of a mark are given before all others.
+        // A byte-order mark counts as given from the start.
         ensures given { IfSome (R.remaining reader) (λ bytes. result.given + length (without_mark bytes) ≡ length bytes) }
         ensures lines { result.lines ≡ 0 }
         ensures failed { result.failed ≡ false }
@@ -173,14 +174,14 @@ impl<R: Read> CommandReader<R> {
         }
     }
 
-    /// The number of the line of the item that came last; the first line of a script is 1.
+    /// The number of the last item's line; the first line of a script is 1.
     pub fn line(&self) -> u64
         ensures { result ≡ self.now.line }
     {
         self.line
     }
 
-    /// The line of the item that came last, if it is refused as no command.
+    /// The last item's line, if it was refused since it isn't a command.
     pub fn wrong_line(&self) -> &Option<OpenLine>
         ensures { result.now ≡ self.now.wrong }
     {
@@ -189,17 +190,18 @@ impl<R: Read> CommandReader<R> {
 
     /// The next command or refusal, or `None` at the script's end.
     pub fn next(&mut self, alloc: Global, limits: &Limits) -> Result<Option<Item>, ReadFault>
-        // What it gives is read from the first of the items that are left, and that item's bytes are
-        // consumed, whatever it refuses. The line is that item's.
+        // The result is read from the first remaining item, and that item's bytes are consumed,
+        // even if it is refused. The line is that item's.
         ensures item { IfOk result (λ x. IfSome x (λ item. IfSome self.old.left (λ bytes. Gave limits.now.bounds self.old.lines bytes self.new.left self.new.lines self.new.line self.new.wrong item))) }
-        // A command keeps the grammar, its rules and the limits, also where the bytes aren't known.
+        // A command keeps the grammar, its rules and the limits, even if the reader's bytes aren't
+        // known.
         ensures ready { IfOk result (λ x. IfSome x (λ item. IsReady limits.now.bounds item)) }
-        // None comes only where no item is left.
+        // `None` means that no item is left.
         ensures end { IfOk result (λ x. IfNone x (IfSome self.old.left (λ bytes. (items_left limits.now.bounds bytes ≡ []) × (self.new.left ≡ Some [])))) }
-        // No more bytes were given than the script may have.
+        // No more bytes are given than the script may have.
         ensures counted { OnOk result (IfSome self.old.left (λ xs. IfSome self.new.left (λ ys. self.new.given + length ys ≡ self.old.given + length xs))) }
         ensures within { OnOk result (self.new.given ≤ limits.now.bounds.script) }
-        // After a read fault each call answers it.
+        // After a read fault each call returns it.
         ensures fault { IsErr result → self.new.failed ≡ true }
         ensures sound { OnOk result (self.new.failed ≡ false) }
         ensures failed { self.old.failed ≡ true → IsErr result }

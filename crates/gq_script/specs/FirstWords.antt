@@ -1,4 +1,4 @@
--- What the first word of a line is known by while its bytes come.
+-- The first word of a line, matched byte by byte.
 use Rattle.std.specs.Prelude.{ℕ, ◌==◌, Bool, true, false, [], ◌∷◌, ◌||◌, if◌then◌else◌}
 use Rattle.gq_token.specs.Lexing.{is_blank, is_word_byte}
 use Rattle.gq_script.specs.declared.first_word.FirstWord.{FirstWord}
@@ -8,7 +8,7 @@ use Rattle.gq_token.specs.Texts.{Bytes}
 abbrev pub letter : ℕ → ℕ → ℕ → Bool
 letter small capital b = (b == small) || (b == capital)
 
--- how much of the word load came, once another byte came
+-- how much of the word `load` is matched after another byte
 abbrev pub word_after : FirstWord → ℕ → FirstWord
 word_after first.Blank b = if is_blank b then first.Blank else (if letter 108 76 b then first.L else first.Other)
 word_after first.L b = if letter 111 79 b then first.Lo else first.Other

@@ -1,4 +1,4 @@
--- What a line is known by while its bytes come.
+-- Lines, gathered byte by byte.
 use Rattle.std.specs.Prelude.{◌≡◌, ℕ, ◌+◌, ◌-◌, nat_lt, ◌==◌, Bool, true, false, [], ◌∷◌, ◌++◌, length, take, IfSome, if◌then◌else◌}
 use Rattle.std.specs.Io.BufRead.{ends_with_byte, strip_last}
 use Rattle.gq_row.specs.declared.limits.Bounds.{Bounds}
@@ -11,7 +11,7 @@ use Rattle.gq_script.specs.FirstWords.{word_of}
 use Rattle.gq_token.specs.Lexing.{is_blank}
 use Rattle.gq_script.specs.Script.{Stream, Takes, raw_lines, content}
 
--- what a line begins with, once another byte came
+-- how a line begins, after another byte
 abbrev pub opening_after : Opening → ℕ → Opening
 opening_after opening.Blank b = if is_blank b then opening.Blank else (if b == 45 then opening.Dash else opening.Word)
 opening_after opening.Dash b = if b == 45 then opening.Comment else opening.Word
@@ -28,18 +28,18 @@ is_skippable opening.Dash = false
 is_skippable opening.Comment = true
 is_skippable opening.Word = false
 
--- what is kept at a byte, by what the line began with before and after it
+-- what is kept at a byte, given how the line began before and after it
 abbrev pub kept_at : Opening → Opening → ℕ → Bytes
 kept_at opening.Dash opening.Word byte = 45 ∷ byte ∷ []
 kept_at _ opening.Word byte = byte ∷ []
 kept_at _ _ byte = []
 
--- what is kept of bytes behind such a beginning: none before the line is known to be no blank line and no comment, and no blanks at its front
+-- what is kept of bytes after such a beginning: none before the line is known to be neither blank nor a comment, and no leading blanks
 abbrev pub kept_from : Opening → Bytes → Bytes
 kept_from o [] = []
 kept_from o (b ∷ bs) = kept_at o (opening_after o b) b ++ kept_from (opening_after o b) bs
 
--- these bytes came
+-- the line has gathered these bytes
 pub record Gathers (most : ℕ) (line : OpenLine) (front : Bytes) : Type 0 where
   pub room : line.room ≡ most - length front
   pub too_long : line.too_long ≡ nat_lt most (length front)
@@ -47,7 +47,7 @@ pub record Gathers (most : ℕ) (line : OpenLine) (front : Bytes) : Type 0 where
   pub opening : line.opening ≡ opening_of opening.Blank front
   pub word : line.first_word ≡ word_of first.Blank (take most front)
 
--- these bytes came, and a CR at their end waits
+-- the line has gathered these bytes, but for a CR at their end, which is held back
 pub record GathersRaw (most : ℕ) (line : OpenLine) (behind_cr : Bool) (raw : Bytes) : Type 0 where
   pub front : Gathers most line (strip_last 13 raw)
   pub cr : behind_cr ≡ ends_with_byte 13 raw
@@ -60,7 +60,7 @@ pub record TookLine (b : Bounds) (old new : Stream) (line : OpenLine) : Type 0 w
   pub lines : new.lines ≡ old.lines + 1
   pub gathers : Gathers b.line line (content raw)
 
--- the byte was kept, unless there was no memory
+-- the byte was kept, unless an allocation failed
 pub record Keeps (old new : OpenLine) (byte : ℕ) : Type 0 where
   pub kept : new.lost ≡ false → (old.lost ≡ false) × (new.kept.items ≡ old.kept.items ++ byte ∷ [])
   pub room : new.room ≡ old.room
@@ -68,7 +68,7 @@ pub record Keeps (old new : OpenLine) (byte : ℕ) : Type 0 where
   pub opening : new.opening ≡ old.opening
   pub word : new.first_word ≡ old.first_word
 
--- these bytes were kept, unless there was no memory
+-- these bytes were kept, unless an allocation failed
 pub record KeepsBehind (before : Opening) (old new : OpenLine) (byte : ℕ) : Type 0 where
   pub kept : new.lost ≡ false → (old.lost ≡ false) × (new.kept.items ≡ old.kept.items ++ kept_at before old.opening byte)
   pub room : new.room ≡ old.room

@@ -1,17 +1,17 @@
-//! The first word of a line, while its bytes come.
+//! The first word of a line, matched byte by byte.
 ghost use Rattle.std.specs.Prelude.{◌≡◌};
 ghost use Rattle.gq_script.specs.FirstWords.{word_after, is_load};
 
-/// How much of the word `load` came.
+/// How much of the word `load` was matched.
 #[derive(Clone, Copy)]
 pub enum FirstWord {
-    /// Spaces and tabs alone.
+    /// Only spaces and tabs.
     Blank,
     L,
     Lo,
     Loa,
     Load,
-    /// `load`, and a byte of no word behind it.
+    /// `load`, followed by a byte that isn't part of a word.
     Ended,
     /// Another word, or none.
     Other,

@@ -1,4 +1,4 @@
-//! Lines while their bytes come.
+//! Lines, gathered byte by byte.
 ghost use Rattle.std.specs.Prelude.{◌≡◌, ◌≤◌, ◌<◌, ◌+◌, ℕ, [], ◌∷◌, ◌++◌, IfOk, IfSome, IfNone, OnOk};
 ghost use Rattle.std.specs.Io.KnownBytes.{IsAtEnd};
 ghost use Rattle.gq_row.specs.declared.limits.Bounds.{Bounds};
@@ -12,14 +12,14 @@ use gq_row::Bounds;
 use std::alloc::Global;
 use std::io::Read;
 
-/// What a line begins with, as far as it came.
+/// How a line begins, as far as it was read.
 #[derive(Clone, Copy)]
 pub enum Opening {
-    /// Spaces and tabs alone.
+    /// Only spaces and tabs.
     Blank,
-    /// One dash behind these.
+    /// One dash after these.
     Dash,
-    /// Two dashes behind these.
+    /// Two dashes after these.
     Comment,
     /// Anything else.
     Word,
@@ -47,17 +47,17 @@ impl Opening {
     }
 }
 
-/// A line as far as it came, without its end. What is kept of it are the bytes behind its blanks,
-/// no more than fit, and none before the line is known to be no blank line and no comment.
+/// A line as far as it was read, without its end. `kept` has the bytes after its leading blanks,
+/// within the limit, and none before the line is known to be neither blank nor a comment.
 #[derive(Drop)]
 pub struct OpenLine {
     pub kept: Vec<u8>,
     pub room: usize,
     pub too_long: bool,
-    /// Whether there was no memory for a byte.
+    /// Whether an allocation failed.
     pub lost: bool,
     pub opening: Opening,
-    /// The first word of those bytes that fit.
+    /// The first word among the bytes within the limit.
     pub first_word: FirstWord,
 }
 
@@ -100,8 +100,8 @@ impl OpenLine {
         }
     }
 
-    /// Keeps the byte of a line that is known to be no blank line and no comment, and before it a
-    /// dash that waited for that.
+    /// Keeps a byte if the line is known to be neither blank nor a comment, after the dash that was
+    /// held back until then.
     fn keep_behind(&mut self, before: Opening, byte: u8)
         ensures { KeepsBehind before self.old self.new byte }
     {
@@ -115,8 +115,8 @@ impl OpenLine {
         }
     }
 
-    /// Adds the CR that waited, and then the byte, unless that is a CR: it may belong to the line's
-    /// end. Answers whether one waits.
+    /// Adds the CR that was held back, and then the byte unless it is a CR, which may belong to the
+    /// line's end. Returns whether a CR is held back.
     #[inline]
     fn feed(&mut self, behind_cr: bool, byte: u8) -> bool
         ensures { (most : ℕ) (raw : Bytes) → GathersRaw most self.old behind_cr raw → GathersRaw most self.new result (raw ++ byte ∷ []) }
@@ -131,7 +131,7 @@ impl OpenLine {
         false
     }
 
-    /// Adds the CR that waited, at the end of the script.
+    /// Adds the CR that was held back, at the end of the script.
     fn close(&mut self, behind_cr: bool)
         ensures { (most : ℕ) (raw : Bytes) → GathersRaw most self.old behind_cr raw → Gathers most self.new raw }
     {
@@ -140,14 +140,14 @@ impl OpenLine {
         }
     }
 
-    /// Whether it is a blank line or a comment.
+    /// Whether the line is blank or a comment.
     pub fn is_skipped(&self) -> bool
         ensures { (most : ℕ) (line : Bytes) → Gathers most self.now line → result ≡ is_skipped line }
     {
         self.opening.is_skippable()
     }
 
-    /// Whether the lines behind it are its payload.
+    /// Whether the lines after it are its payload.
     pub fn takes_payload(&self) -> bool
         ensures { (bounds : Bounds) (line : Bytes) → Gathers bounds.line self.now line → result ≡ takes_payload bounds line }
     {
@@ -155,7 +155,7 @@ impl OpenLine {
     }
 }
 
-/// Takes the first line of what is left, to its end, however long it is. `None` comes at the end.
+/// Takes the first remaining line up to its end, however long it is; `None` at the script's end.
 pub fn take_line<R: Read>(
     alloc: Global,
     source: &mut Source<R>,
@@ -174,7 +174,7 @@ pub fn take_line<R: Read>(
     }
 }
 
-// Takes the line, and doesn't count it.
+// Takes the line without counting it.
 fn gather_line<R: Read>(
     alloc: Global,
     source: &mut Source<R>,

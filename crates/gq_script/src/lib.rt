@@ -1,14 +1,15 @@
-//! A script's bytes as lines and payloads, in whatever pieces a reader gives them.
+//! Splits a script into lines and payloads, in whatever pieces a reader returns its bytes.
 //!
-//! A script is cut into lines at LF; one CR before the LF belongs to the line's end. A line of
-//! spaces and tabs, and one whose first bytes behind these are `--`, is nothing. Each other line is
-//! an item. Where its first word is `load`, in any case, the lines behind it up to the first that
-//! is exactly `\.` are its payload; without such a line the payload is open, and the script is at
-//! its end. A byte-order mark at the front of a script belongs to no line, and counts as bytes.
+//! A script is split into lines at LF; one CR before the LF belongs to the line's end. Lines of
+//! spaces and tabs are skipped, and so are comments: lines that begin with `--`, after any spaces
+//! and tabs. Each other line is an item. If its first word is `load`, in any case, the following
+//! lines up to the first that is exactly `\.` are its payload; without such a line the payload is
+//! open, and takes the rest of the script. A byte-order mark at the start of a script belongs to no
+//! line, but counts as bytes.
 //!
-//! The one contract above this crate: [`take_line`] takes the first line of what a [`Source`] has
-//! left, and [`take_payload`] the payload at its front; each says which bytes it took, and what it
-//! kept of them. What is longer than a limit, and what nobody asks for, is passed without memory.
+//! The contracts: [`take_line`] takes the first line of the remaining bytes of a [`Source`], and
+//! [`take_payload`] the payload at their start. Each says which bytes were taken, and what was kept
+//! of them. Bytes past a limit, and bytes that aren't needed, are skipped without memory.
 #![tactic(auto)]
 
 mod first_word;

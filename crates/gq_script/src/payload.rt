@@ -1,4 +1,4 @@
-//! Payloads while their bytes come.
+//! Payloads, read piece by piece.
 ghost use Rattle.std.specs.Prelude.{◌≡◌, ◌≤◌, ◌<◌, ℕ, ◌++◌, [], true, false, length, take, IfOk, IfSome, IfNone, OnOk, slice_index};
 ghost use Rattle.gq_token.specs.Texts.{Bytes};
 ghost use Rattle.gq_script.specs.Script.{with_lines};
@@ -10,7 +10,7 @@ use memchr::memchr;
 use std::alloc::Global;
 use std::io::Read;
 
-/// How much came of a line that may end a payload: `\.`, and then its end.
+/// How much was matched of a line that may end a payload: `\.`, and then its end.
 #[derive(Clone, Copy)]
 pub enum EndMark {
     /// Nothing yet.
@@ -56,7 +56,7 @@ impl EndMark {
         matches!(self, EndMark::Dot | EndMark::Ended)
     }
 
-    /// After more bytes of the line, of which it looks at the first few alone.
+    /// After more bytes of the line, of which only the first few are looked at.
     fn behind(self, piece: &[u8]) -> EndMark
         ensures { result ≡ mark_of self piece.now }
     {
@@ -70,7 +70,7 @@ impl EndMark {
         mark
     }
 
-    /// The bytes that came, while they may be the mark's.
+    /// The bytes matched so far, while they may be the mark.
     fn held(self) -> &'static [u8]
         ensures { result.now ≡ held self }
     {
@@ -83,13 +83,13 @@ impl EndMark {
     }
 }
 
-/// What is kept of a payload, as far as it came.
+/// What is kept of a payload, as far as it was read.
 #[derive(Drop)]
 pub enum Kept {
     Bytes(Vec<u8>),
-    /// More bytes came than a payload may have. None of them is kept.
+    /// The payload has more bytes than the limit. None of them is kept.
     TooLong,
-    /// There was no memory for all bytes, or nobody asks for them. None of them is kept.
+    /// An allocation failed, or the bytes aren't needed. None of them is kept.
     Nothing,
 }
 
@@ -136,8 +136,8 @@ fn line_piece(bytes: &[u8]) -> (usize, bool)
     }
 }
 
-/// Takes a line of a payload, and tells whether it ends that. `None` comes where the script ends before
-/// a line does.
+/// Takes a line of a payload, and returns whether it ends the payload; `None` if the script ends
+/// before a line does.
 pub fn take_payload_line<R: Read>(
     source: &mut Source<R>,
     kept: &mut Kept,
@@ -156,7 +156,7 @@ pub fn take_payload_line<R: Read>(
     }
 }
 
-// Takes the line, and doesn't count it.
+// Takes the line without counting it.
 fn gather_payload_line<R: Read>(
     source: &mut Source<R>,
     kept: &mut Kept,
@@ -184,8 +184,8 @@ fn gather_payload_line<R: Read>(
     Err(ReadFault)
 }
 
-/// The length of the whole lines at the front of these bytes of which none begins with `\`, so that
-/// none ends a payload; and the number of these lines.
+/// The length and the number of the whole lines at the start of these bytes, up to the first that
+/// begins with `\`. None of them ends a payload.
 fn lines_len(bytes: &[u8]) -> (usize, u64)
     ensures within { result.0 ≤ length bytes.now }
     ensures lines { GoesOn (take result.0 bytes.now) }
@@ -204,7 +204,7 @@ fn lines_len(bytes: &[u8]) -> (usize, u64)
     (len, count)
 }
 
-/// Takes such lines of those bytes that wait.
+/// Takes such lines of the bytes that were read ahead.
 fn take_lines<R: Read>(
     source: &mut Source<R>,
     kept: &mut Kept,
@@ -220,8 +220,8 @@ fn take_lines<R: Read>(
     Ok(())
 }
 
-/// Takes a payload and the line that ends it, and answers what was kept of it; or all that is left,
-/// and `None`, where no line ends it. `kept` says whether its bytes are kept.
+/// Takes a payload and the line that ends it, and returns what was kept of it; or takes all that is
+/// left and returns `None` if no line ends it. `kept` says whether bytes are kept.
 pub fn take_payload<R: Read>(
     mut kept: Kept,
     source: &mut Source<R>,

@@ -1,4 +1,4 @@
-//! Bytes of a reader, one after the other.
+//! The bytes of a reader, in order.
 ghost use Rattle.std.specs.Prelude.{◌≡◌, ◌≤◌, ◌<◌, [], ◌∷◌, IfOk, slice_range, length, take, if◌then◌else◌, true};
 ghost use Rattle.std.specs.Io.KnownBytes.{Keeps, Consumes, IsAtEnd};
 ghost use Rattle.std.specs.Str.{bytes_eq};
@@ -8,12 +8,12 @@ use std::io::Read;
 use std::marker::Model;
 use thiserror::Error;
 
-/// A read that failed, or a script that is longer than the limit on its bytes.
+/// A read failed, or the script has more bytes than the limit.
 #[derive(Clone, Copy, Debug, PartialEq, Eq, Error)]
 #[error("a read failed, or the script is too long")]
 pub struct ReadFault;
 
-/// Reads four bytes at least, so that a byte-order mark is whole, unless the end comes before.
+/// Reads at least four bytes, so that a byte-order mark is whole, unless the end comes first.
 fn read_front<R: Read>(reader: &mut R, buffer: &mut [u8]) -> Result<usize, ReadFault>
     requires { 4 ≤ length buffer.old }
     ensures within { IfOk result (λ n. n ≤ length buffer.new) }
@@ -31,7 +31,7 @@ fn read_front<R: Read>(reader: &mut R, buffer: &mut [u8]) -> Result<usize, ReadF
     Ok(len)
 }
 
-/// How long the byte-order mark at the front is.
+/// The length of the byte-order mark at the start; 0 without one.
 fn mark_len(bytes: &[u8]) -> usize
     ensures value { result ≡ mark_length bytes.now }
     ensures within { result ≤ length bytes.now }
@@ -42,7 +42,7 @@ fn mark_len(bytes: &[u8]) -> usize
     }
 }
 
-/// Reads into the buffer, and answers where the bytes of the script begin and end there.
+/// Reads into the buffer, and returns where the script's bytes begin and end in it.
 fn refill<R: Read>(
     reader: &mut R,
     buffer: &mut [u8],
@@ -65,8 +65,8 @@ fn refill<R: Read>(
     }
 }
 
-/// The bytes that a reader gives, read ahead into a fixed buffer, without a byte-order mark.
-/// `given` counts the bytes from the first on, the mark among them.
+/// The bytes of a reader without a byte-order mark, read ahead into a fixed buffer. `given` counts
+/// the bytes that were given, including the mark.
 #[derive(Drop)]
 pub struct Source<R: Read> {
     reader: R,
@@ -110,14 +110,14 @@ impl<R: Read> Source<R> {
         }
     }
 
-    /// The number of lines taken so far, those of payloads included.
+    /// The number of lines taken so far, including those of payloads.
     pub fn lines(&self) -> u64
         ensures { result ≡ self.now.lines }
     {
         self.lines
     }
 
-    /// Counts lines that were taken. 2^64 lines are a fault.
+    /// Counts lines that were taken. Fails at 2^64 lines.
     pub fn count_lines(&mut self, lines: u64) -> Result<(), ReadFault>
         ensures { OnOk result (self.new ≡ with_lines self.old lines) }
     {
@@ -128,9 +128,9 @@ impl<R: Read> Source<R> {
         Ok(())
     }
 
-    /// Reads, where no byte waits that was read ahead. Answers whether one waits then; where none
-    /// does, the script is at its end. Where the mark alone is longer than `most`, that is a fault.
-    /// Where one waits nothing is read, and nothing but that limit is a fault.
+    /// Reads if no byte is waiting, and returns whether one is waiting then; if not, the script is
+    /// at its end. Fails if a read fails, or if more than `most` bytes were given; only the latter
+    /// if one waited.
     #[inline]
     pub fn fill(&mut self, most: u64) -> Result<bool, ReadFault>
         ensures same { OnOk result (Takes self.old self.new []) }
@@ -142,7 +142,7 @@ impl<R: Read> Source<R> {
     {
         if self.start == self.end {
             let (start, end) = refill(&mut self.reader, &mut self.buffer, self.behind_mark)?;
-            // What lies before the start is the mark.
+            // The bytes before the start are the mark.
             self.given += start as u64;
             self.start = start;
             self.end = end;
@@ -154,7 +154,7 @@ impl<R: Read> Source<R> {
         Ok(self.start < self.end)
     }
 
-    /// The bytes that were read ahead and wait.
+    /// The bytes that were read ahead and are waiting.
     #[inline]
     pub fn ahead(&self) -> &[u8]
         ensures { result.now ≡ self.now.ahead }
@@ -163,8 +163,8 @@ impl<R: Read> Source<R> {
         &buffer[self.start..self.end]
     }
 
-    /// Takes the first `len` of the bytes that wait. A byte past the first `most` of the script, a mark
-    /// among them, is a fault, and nothing else is. Lines are not counted.
+    /// Takes the first `len` of the bytes that are waiting, without counting lines. Fails only if that
+    /// exceeds `most` bytes of the script, including the mark.
     #[inline]
     pub fn pass(&mut self, len: usize, most: u64) -> Result<(), ReadFault>
         requires { len ≤ length self.old.ahead }
@@ -181,7 +181,7 @@ impl<R: Read> Source<R> {
         Ok(())
     }
 
-    /// The next byte, or `None` at the end. Lines are not counted.
+    /// The next byte, or `None` at the end. Lines aren't counted.
     #[inline]
     pub fn next_byte(&mut self, most: u64) -> Result<Option<u8>, ReadFault>
         ensures some { IfOk result (λ b. IfSome b (λ b. Takes self.old self.new (b ∷ []))) }
