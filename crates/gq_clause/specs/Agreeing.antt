@@ -1,4 +1,4 @@
--- Reading and writing agree.
+-- Parsing and writing agree.
 use Rattle.std.specs.Prelude.{◌≡◌, Bool, true, List, ◌++◌, Option, Some, None}
 use Rattle.gq_token.specs.declared.token.Terminal.{Terminal}
 use Rattle.gq_token.specs.declared.token.Terminal.TheVariants as terminal
@@ -10,7 +10,7 @@ use Rattle.gq_clause.specs.declared.condition.Test.{Test}
 use Rattle.gq_clause.specs.Words.{Bytes, some, are_literals, are_tests, names_words, literals_words, aggregates_words, tests_words}
 use Rattle.gq_clause.specs.Reading.{names_at, literals_at, aggregates_at, tests_at}
 
--- what is read is a valid list, and was written so; a valid list is read again as it is written, whatever follows it but a separator
+-- a list that is read is valid, and was written so; a valid list that is written is read again, whatever follows it but a separator
 pub record Agree (A : Type 0) (valid : List A → Bool) (read : List Token → Option (List A × List Token)) (write : List A → List Token) (separator : Terminal) : Type 0 where
   pub written : (ts : List Token) (xs : List A) (rest : List Token) → read ts ≡ Some (xs, rest) → (ts ≡ write xs ++ rest) × (valid xs ≡ true)
   pub again : (xs : List A) (rest : List Token) → valid xs ≡ true → skip separator rest ≡ None → read (write xs ++ rest) ≡ Some (xs, rest)

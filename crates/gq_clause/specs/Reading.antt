@@ -1,4 +1,4 @@
--- Reading clauses from tokens, from left to right.
+-- Parsing clauses from tokens, from left to right.
 use Rattle.std.specs.Prelude.{ℕ, zero, suc, List, [], ◌∷◌, length, Option, Some, None, if◌then◌else◌}
 use Rattle.gq_token.specs.declared.token.Terminal.{Terminal}
 use Rattle.gq_token.specs.declared.token.Terminal.TheVariants as terminal
@@ -33,7 +33,7 @@ literal_at (Name n ∷ rest) = None
 literal_at (Number z ∷ rest) = Some (value.Int z, rest)
 literal_at (Text s ∷ rest) = Some (value.Text s, rest)
 
--- items with separators between them, as far as they go, at most n
+-- at most `n` items with separators between them, until no separator follows
 unfoldable pub items_within : {A : Type 0} → (List Token → Option (A × List Token)) → (List Token → Option (List Token)) → ℕ → List Token → Option (List A × List Token)
 items_within item next zero ts = None
 items_within item next (suc n) ts = item ts >>= λ x. elim (next x.1) [ None ↦ Some (x.0 ∷ [], x.1) | Some after ↦ items_within item next n after >>= λ y. Some (x.0 ∷ y.0, y.1) ]
@@ -54,11 +54,11 @@ in_parentheses inner ts = do
   closed ← skip terminal.Close x.1
   Some (x.0, closed)
 
--- the items behind a word, or none where it doesn't lead
+-- the items after a word, or none if it doesn't come first
 unfoldable pub clause_at : {A : Type 0} → Terminal → (List Token → Option (List A × List Token)) → List Token → Option (List A × List Token)
 clause_at starter items ts = elim (skip starter ts) [ None ↦ Some ([], ts) | Some after ↦ items after ]
 
--- what stands in the parentheses behind `count`
+-- what is in the parentheses after `count`
 unfoldable pub counted_at : List Token → Option (Aggregate × List Token)
 counted_at (Fixed terminal.Star ∷ rest) = Some (CountAll, rest)
 counted_at (Fixed terminal.Distinct ∷ rest) = do
@@ -67,7 +67,7 @@ counted_at (Fixed terminal.Distinct ∷ rest) = do
 counted_at (Name n ∷ rest) = Some (Count n, rest)
 counted_at _ = None
 
--- what stands in the parentheses behind the word of an aggregate
+-- what is in the parentheses after the word of an aggregate
 unfoldable pub aggregate_within : Terminal → List Token → Option (Aggregate × List Token)
 aggregate_within terminal.Count ts = counted_at ts
 aggregate_within terminal.Sum ts = do
@@ -81,7 +81,7 @@ aggregate_within terminal.Max ts = do
   Some (Max column.0, column.1)
 aggregate_within _ ts = None
 
--- the aggregate that begins with the word, behind it
+-- the aggregate that begins with the word, given the tokens after it
 unfoldable pub aggregate_behind : Terminal → List Token → Option (Aggregate × List Token)
 aggregate_behind word ts = in_parentheses (aggregate_within word) ts
 
@@ -111,18 +111,18 @@ comparison_at (Fixed terminal.Greater ∷ rest) = Some (comparison.Greater, rest
 comparison_at (Fixed terminal.GreaterEqual ∷ rest) = Some (comparison.GreaterEqual, rest)
 comparison_at _ = None
 
--- the test that begins with the operand and `is`, behind them
+-- the test that begins with the operand and `is`, given the tokens after them
 unfoldable pub null_test_behind : Operand → List Token → Option (Test × List Token)
 null_test_behind a ts = elim (skip terminal.Not ts) [
   | None ↦ skip terminal.Null ts >>= λ rest. Some (IsNull a, rest)
   | Some after ↦ skip terminal.Null after >>= λ rest. Some (IsNotNull a, rest)
 ]
 
--- a sign, and what stands to the right of it
+-- a sign, and the operand to its right
 abbrev pub right_at : List Token → Option ((Comparison × Operand) × List Token)
 right_at ts = comparison_at ts >>= λ sign. operand_at sign.1 >>= λ b. Some ((sign.0, b.0), b.1)
 
--- the test that begins with the operand and a sign, behind the operand
+-- the test that begins with the operand and a sign, given the tokens after the operand
 abbrev pub compared_at : Operand → List Token → Option (Test × List Token)
 compared_at a ts = right_at ts >>= λ right. Some (Compare a right.0.0 right.0.1, right.1)
 

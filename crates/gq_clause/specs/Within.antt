@@ -12,7 +12,7 @@ use Rattle.gq_clause.specs.declared.condition.Test.{Test}
 use Rattle.gq_clause.specs.declared.condition.Test.TheVariants.{Compare, IsNull, IsNotNull}
 use Rattle.gq_clause.specs.Words.{Bytes}
 
--- each name in an aggregate, an operand, a test
+-- the names in an aggregate, an operand, a test
 abbrev pub aggregate_names : Aggregate → List Bytes
 aggregate_names CountAll = []
 aggregate_names (Count n) = n ∷ []
@@ -31,7 +31,7 @@ test_names (Compare a o b) = operand_names a ++ operand_names b
 test_names (IsNull a) = operand_names a
 test_names (IsNotNull a) = operand_names a
 
--- each text in a literal, an operand, a test
+-- the texts in a literal, an operand, a test
 abbrev pub literal_texts : Value → List Bytes
 literal_texts value.Null = []
 literal_texts (value.Int z) = []
@@ -51,7 +51,7 @@ test_texts (IsNotNull a) = operand_texts a
 abbrev pub is_at_most : ℕ → Bytes → Bool
 is_at_most most bytes = nat_le (length bytes) most
 
--- the names and the texts are within their limits
+-- whether the names and the texts are within their limits
 abbrev pub operand_fits : Bounds → Operand → Bool
 operand_fits b a = list_all (is_at_most b.name) (operand_names a) && list_all (is_at_most b.text) (operand_texts a)
 

@@ -23,7 +23,7 @@ separated separator write [] = []
 separated separator write (x ∷ []) = write x
 separated separator write (x ∷ y ∷ rest) = write x ++ (Fixed separator ∷ separated separator write (y ∷ rest))
 
--- the items behind a word, or nothing where there is none
+-- the items after a word, or nothing if there are none
 abbrev pub clause : {A : Type 0} → Terminal → Terminal → (A → List Token) → List A → List Token
 clause starter separator write [] = []
 clause starter separator write (x ∷ rest) = Fixed starter ∷ separated separator write (x ∷ rest)
@@ -78,11 +78,11 @@ test_words (IsNotNull a) = operand_words a ++ (Fixed terminal.Is ∷ Fixed termi
 abbrev pub tests_words : List Test → List Token
 tests_words tests = separated terminal.And test_words tests
 
--- the tests behind a word, or nothing where there is none
+-- the tests after a word, or nothing if there are none
 abbrev pub tests_clause : Terminal → List Test → List Token
 tests_clause starter tests = clause starter terminal.And test_words tests
 
--- which literals, operands and tests there are: a string is a text, so a text without case is no literal
+-- the valid literals, operands and tests: a string is a text, so a text without case isn't a literal
 
 abbrev pub is_literal : Value → Bool
 is_literal value.Null = true
@@ -100,21 +100,21 @@ is_test (Compare a o b) = is_operand a && is_operand b
 is_test (IsNull a) = is_operand a
 is_test (IsNotNull a) = is_operand a
 
--- at least one, and each is a literal
+-- whether there is at least one, and each is a literal
 abbrev pub are_literals : List Value → Bool
 are_literals vs = some vs && list_all is_literal vs
 
--- at least one, and each is a test
+-- whether there is at least one, and each is a test
 abbrev pub are_tests : List Test → Bool
 are_tests tests = some tests && list_all is_test tests
 
--- what a row of a table has, which is all but aggregates
+-- whether a row of a table has the operand: it isn't an aggregate
 abbrev pub is_of_row : Operand → Bool
 is_of_row (operand.Column n) = true
 is_of_row (operand.Literal v) = true
 is_of_row (operand.Aggregate a) = false
 
--- no aggregate stands in the test
+-- whether the test contains no aggregate
 abbrev pub is_row_test : Test → Bool
 is_row_test (Compare a o b) = is_of_row a && is_of_row b
 is_row_test (IsNull a) = is_of_row a

@@ -25,7 +25,7 @@ pub enum Test {
 }
 
 impl Operand {
-    /// Whether a row of a table has it: it is no aggregate.
+    /// Whether a row of a table has it: it isn't an aggregate.
     pub fn is_of_row(&self) -> bool
         ensures { result ≡ is_of_row self.now }
     {
@@ -34,7 +34,7 @@ impl Operand {
 }
 
 impl Test {
-    /// Whether no aggregate stands in it, so that a row of a table can be tested by it.
+    /// Whether it contains no aggregate, so that it can test a row of a table.
     pub fn is_of_row(&self) -> bool
         ensures { result ≡ is_row_test self.now }
     {

@@ -1,7 +1,6 @@
-//! Laws: reading and writing agree. What is read of a list was written as its items are, and items
-//! are read again as they are written, whatever follows them but what stands between two of them.
-//! A text without case is no literal: what a string says is a text. Each law is the contract of a
-//! function that does nothing.
+//! Laws: parsing and writing agree. A list that is parsed is valid, and was written by the grammar;
+//! a valid list that is written is parsed again, whatever follows it but a separator. A text
+//! without case isn't a literal: a string is a text. Each law is the contract of an empty function.
 ghost use Rattle.gq_clause.specs.Agreeing.{AggregatesAgree, LiteralsAgree, NamesAgree, TestsAgree};
 
 pub fn names_agree()

@@ -1,12 +1,12 @@
-//! Clauses of commands: names, literals, aggregates and tests, as data and as they are read from
-//! tokens. They follow the rules `names`, `literal`, `agg` and `tests` of the grammar in
+//! Clauses of commands, names, literals, aggregates and tests, as data and as parsers from tokens.
+//! They follow the rules `names`, `literal`, `agg` and `tests` of the grammar in
 //! `docs/LANGUAGE.md`.
 //!
-//! The one contract above this crate: each function that reads takes the first tokens, which its
-//! rule of the grammar reads, and no more, or returns [`ParseError::Syntax`] if the rule reads
-//! nothing; the items of a list are read in one pass. That what is read was written so, and that what
-//! is written is read again, holds of each rule: `specs/Words.antt` says how it is written, [`laws`]
-//! that both agree. [`names_fit`] and its like say whether each name and each text is within its limit.
+//! The contract of each parser: it takes the tokens that its rule of the grammar reads, and no
+//! more, or returns [`ParseError::Syntax`] if the rule reads none. Lists are parsed in one pass.
+//! `specs/Words.antt` defines how each clause is written, and the laws in [`laws`] say that parsing
+//! and writing agree. [`names_fit`] and its like say whether each name and each text is within its
+//! limit.
 //!
 //! [`ParseError::Syntax`]: gq_token::ParseError::Syntax
 #![tactic(auto)]

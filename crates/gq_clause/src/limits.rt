@@ -7,7 +7,7 @@ use crate::aggregate::Aggregate;
 use crate::condition::{Operand, Test};
 use gq_row::{Bounds, Text, Value};
 
-/// Whether each of these names has at most so many bytes.
+/// Whether each of these names has at most `most` bytes.
 pub fn names_fit(names: &[Text], most: usize) -> bool
     ensures { result ≡ list_all (is_at_most most) names.now }
 {
@@ -27,7 +27,7 @@ fn aggregate_fits(aggregate: &Aggregate, most: usize) -> bool
     }
 }
 
-/// Whether each name in these aggregates has at most so many bytes.
+/// Whether each name in these aggregates has at most `most` bytes.
 pub fn aggregates_fit(aggregates: &[Aggregate], most: usize) -> bool
     ensures { result ≡ list_all (λ a. list_all (is_at_most most) (aggregate_names a)) aggregates.now }
 {
@@ -45,7 +45,7 @@ fn value_fits(value: &Value, most: usize) -> bool
     }
 }
 
-/// Whether each text among these literals has at most so many bytes.
+/// Whether each text among these literals has at most `most` bytes.
 pub fn values_fit(values: &[Value], most: usize) -> bool
     ensures { result ≡ list_all (λ v. list_all (is_at_most most) (literal_texts v)) values.now }
 {

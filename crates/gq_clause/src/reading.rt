@@ -1,5 +1,5 @@
-//! Tokens as clauses: one function for each rule of the grammar, which takes the tokens that it reads
-//! from the front of those that are left.
+//! Parses tokens as clauses: one function for each rule of the grammar. Each takes the tokens that
+//! it reads.
 ghost use Rattle.std.specs.Prelude.{◌∷◌, List};
 ghost use Rattle.gq_token.specs.Results.{Gives};
 ghost use Rattle.gq_token.specs.Queue.{skip};
@@ -13,7 +13,7 @@ use gq_row::{Comparison, Text, Value};
 use gq_token::{ParseError, Terminal, Token, Tokens};
 use std::alloc::Global;
 
-/// Passes this word or sign, which must be the first token.
+/// Takes this word or sign, which must be the first token.
 pub fn expect(tokens: &mut Tokens, terminal: Terminal) -> Result<(), ParseError>
     ensures { Gives (λ _. tokens.new) result (skip terminal tokens.old) }
 {
@@ -98,7 +98,7 @@ pub fn enclosed_literals(alloc: Global, tokens: &mut Tokens) -> Result<Vec<Value
     Ok(values)
 }
 
-/// What stands in the parentheses behind `count`.
+/// What is in the parentheses after `count`.
 #[tactic(auto, unfolding(crate::specs::Reading::counted_at))]
 fn counted_of(tokens: &mut Tokens) -> Result<Aggregate, ParseError>
     ensures { Gives (λ aggregate. (aggregate, tokens.new)) result (counted_at tokens.old) }
@@ -111,7 +111,7 @@ fn counted_of(tokens: &mut Tokens) -> Result<Aggregate, ParseError>
     }
 }
 
-/// What stands in the parentheses behind the word of an aggregate.
+/// What is in the parentheses after the word of an aggregate.
 #[tactic(auto, unfolding(crate::specs::Reading::aggregate_within))]
 fn aggregate_within(word: Terminal, tokens: &mut Tokens) -> Result<Aggregate, ParseError>
     ensures { Gives (λ aggregate. (aggregate, tokens.new)) result (aggregate_within word tokens.old) }
@@ -125,7 +125,7 @@ fn aggregate_within(word: Terminal, tokens: &mut Tokens) -> Result<Aggregate, Pa
     }
 }
 
-/// The aggregate that begins with this word, by the tokens behind it.
+/// The aggregate that begins with this word, given the tokens after it.
 #[tactic(auto, unfolding(crate::specs::Reading::aggregate_behind, crate::specs::Reading::in_parentheses))]
 fn aggregate_behind(word: Terminal, tokens: &mut Tokens) -> Result<Aggregate, ParseError>
     ensures { Gives (λ aggregate. (aggregate, tokens.new)) result (aggregate_behind word tokens.old) }
@@ -175,7 +175,7 @@ fn operand_of(tokens: &mut Tokens) -> Result<Operand, ParseError>
     }
 }
 
-/// The comparison that a sign says.
+/// The comparison of a sign.
 #[tactic(auto, unfolding(crate::specs::Reading::comparison_at))]
 fn comparison_by(sign: Terminal) -> Result<Comparison, ParseError>
     ensures { (rest : List Item) → Gives (λ comparison. (comparison, rest)) result (comparison_at (Fixed sign ∷ rest)) }
@@ -201,13 +201,13 @@ fn comparison_of(tokens: &mut Tokens) -> Result<Comparison, ParseError>
     }
 }
 
-/// The test that begins with this operand and `is`, by the tokens behind it.
+/// The test that begins with this operand and `is`, given the tokens after them.
 #[tactic(auto, unfolding(crate::specs::Reading::null_test_behind))]
 fn null_test_behind(operand: Operand, tokens: &mut Tokens) -> Result<Test, ParseError>
     ensures { Gives (λ test. (test, tokens.new)) result (null_test_behind operand tokens.old) }
 {
     let negated = tokens.skip(Terminal::Not);
-    // One way out: each writes out the drop of the operand.
+    // A single exit path, since each of them writes out the drop of the operand.
     expect(tokens, Terminal::Null)?;
     if negated {
         Ok(Test::IsNotNull(operand))
@@ -216,7 +216,7 @@ fn null_test_behind(operand: Operand, tokens: &mut Tokens) -> Result<Test, Parse
     }
 }
 
-/// A sign, and what stands to the right of it.
+/// A sign, and the operand to its right.
 fn right_of(tokens: &mut Tokens) -> Result<(Comparison, Operand), ParseError>
     ensures { Gives (λ right. (right, tokens.new)) result (right_at tokens.old) }
 {
@@ -251,7 +251,7 @@ fn tests_of(alloc: Global, tokens: &mut Tokens) -> Result<Vec<Test>, ParseError>
     Err(ParseError::Syntax)
 }
 
-/// The tests behind this word, or none where it doesn't lead.
+/// The tests after this word, or none if it doesn't come first.
 #[tactic(auto, unfolding(crate::specs::Reading::clause_at))]
 pub fn tests_behind(
     alloc: Global,
@@ -266,7 +266,7 @@ pub fn tests_behind(
     tests_of(alloc, tokens)
 }
 
-/// The names behind this word, or none where it doesn't lead.
+/// The names after this word, or none if it doesn't come first.
 #[tactic(auto, unfolding(crate::specs::Reading::clause_at))]
 pub fn names_behind(
     alloc: Global,

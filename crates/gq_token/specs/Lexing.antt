@@ -1,4 +1,4 @@
--- The tokens of a line: the longest token each time, with spaces and tabs between tokens.
+-- The tokens of a line, by longest match, with spaces and tabs between tokens.
 use Rattle.std.specs.Prelude.{ℕ, ℤ, pos, neg_ℤ, zero, suc, ◌^◌, ◌==◌, nat_lt, nat_le, Bool, true, false, List, [], ◌∷◌, length, take, drop, Option, Some, None, if◌then◌else◌, ◌&&◌, ◌||◌, map, codes}
 use Rattle.std.specs.Char.{is_ascii_digit, is_ascii_alphabetic, to_ascii_lowercase}
 use Rattle.std.specs.List.{prefix_len}
@@ -14,7 +14,7 @@ use Rattle.gq_token.specs.Results.{◌>>=◌}
 abbrev pub is_blank : ℕ → Bool
 is_blank b = (b == 32) || (b == 9)
 
--- a letter or an underscore
+-- whether a byte begins a word: a letter or an underscore
 abbrev pub starts_word : ℕ → Bool
 starts_word b = is_ascii_alphabetic b || (b == 95)
 
@@ -24,11 +24,11 @@ is_word_byte b = starts_word b || is_ascii_digit b
 abbrev pub skip_blanks : Bytes → Bytes
 skip_blanks bs = drop (prefix_len is_blank bs) bs
 
--- the first word of a line: behind its blanks, the longest run of letters, digits and underscores
+-- the first word of a line: after its blanks, the longest run of letters, digits and underscores
 abbrev pub first_word : Bytes → Bytes
 first_word line = let bs = skip_blanks line in take (prefix_len is_word_byte bs) bs
 
--- what stands before the closing quote, with each doubled quote as one, and what follows it
+-- the text before the closing quote, in which doubled quotes are undone, and what follows that quote
 abbrev pub with_byte : ℕ → Option (Bytes × Bytes) → Option (Bytes × Bytes)
 with_byte b read = read >>= λ x. Some (b ∷ x.0, x.1)
 
@@ -37,7 +37,7 @@ quoted q [] = None
 quoted q (b ∷ []) = if b == q then Some ([], []) else None
 quoted q (b ∷ c ∷ rest) = if b == q then (if c == q then with_byte q (quoted q rest) else Some ([], c ∷ rest)) else with_byte b (quoted q (c ∷ rest))
 
--- the terminal that is written so
+-- the terminal with this spelling
 abbrev pub lookup_word : List (Bytes × Terminal) → Bytes → Option Terminal
 lookup_word [] w = None
 lookup_word (e ∷ es) w = if bytes_eq w e.0 then Some e.1 else lookup_word es w
@@ -78,7 +78,7 @@ lower w = map to_ascii_lowercase w
 unfoldable pub word : Bytes → Token
 word w = elim (lookup_word reserved_words (lower w)) [ Some t ↦ Fixed t | None ↦ Name w ]
 
--- a number that fits 64 bits
+-- the number with this sign, if it fits 64 bits
 abbrev pub signed : Bool → ℕ → Option ℤ
 signed negative n = if negative then (if nat_le n (2 ^ 63) then Some (neg_ℤ (pos n)) else None) else (if nat_lt n (2 ^ 63) then Some (pos n) else None)
 
@@ -86,13 +86,13 @@ abbrev pub begins : (ℕ → Bool) → Bytes → Bool
 begins test [] = false
 begins test (b ∷ bs) = test b
 
--- the digits at the front, with no letter, digit or underscore behind them
+-- the number of the leading digits, if no letter, digit or underscore follows them
 unfoldable pub digits_at : Bool → Bytes → Option (Token × Bytes)
 digits_at negative bs =
     let n = prefix_len is_ascii_digit bs in
     if (n == 0) || begins is_word_byte (drop n bs) then None else (signed negative (digits_value 10 (take n bs)) >>= λ z. Some (Number z, drop n bs))
 
--- a sign of two bytes before a sign of one
+-- the first sign, of two bytes if it can be
 unfoldable pub sign_at : Bytes → Option (Token × Bytes)
 sign_at [] = None
 sign_at (b ∷ rest) =
@@ -117,7 +117,7 @@ name_in_quotes bs = quoted 34 bs >>= λ x. if some x.0 then Some (Name x.0, x.1)
 unfoldable pub text_in_quotes : Bytes → Option (Token × Bytes)
 text_in_quotes bs = quoted 39 bs >>= λ x. Some (Text x.0, x.1)
 
--- the token at the front
+-- the first token
 unfoldable pub token_at : Bytes → Option (Token × Bytes)
 token_at [] = None
 token_at (b ∷ rest) =
@@ -129,7 +129,7 @@ token_at (b ∷ rest) =
     else (if b == 39 then text_in_quotes rest
     else sign_at (b ∷ rest))))))
 
--- the tokens of bytes that begin with no blank, at most n
+-- the tokens of bytes without leading blanks, at most `n`
 unfoldable pub tokens_within : ℕ → Bytes → Option (List Token)
 tokens_within n [] = Some []
 tokens_within zero (b ∷ rest) = None
@@ -141,6 +141,6 @@ tokens_within (suc n) (b ∷ rest) = do
 unfoldable pub lexed : Bytes → Option (List Token)
 lexed bs = tokens_within (length bs) (skip_blanks bs)
 
--- the tokens of a line, or none where it isn't text or can't be cut into tokens
+-- the tokens of a line, or none if it isn't UTF-8 or can't be split into tokens
 unfoldable pub tokens : Bytes → Option (List Token)
 tokens line = if is_utf8 line then lexed line else None

@@ -1,4 +1,4 @@
--- The front of the tokens that are left.
+-- The first of the remaining tokens.
 use Rattle.std.specs.Prelude.{◌≡◌, Bool, true, false, List, [], ◌∷◌, Option, Some, None, if◌then◌else◌}
 use Rattle.gq_token.specs.declared.token.Terminal.{Terminal}
 use Rattle.gq_token.specs.declared.token.Terminal.TheVariants as terminal
@@ -22,11 +22,11 @@ leads t (Name n ∷ rest) = false
 leads t (Number z ∷ rest) = false
 leads t (Text s ∷ rest) = false
 
--- what a function that passes a token told, and the tokens that it left
+-- what a function that takes a token returned, and the tokens that it left
 abbrev pub Skips : Option (List Token) → Bool → List Token → List Token → Type 0
 Skips read true old new = read ≡ Some new
 Skips read false old new = (read ≡ None) × (new ≡ old)
 
--- a comma that leads to another column, and not to the key
+-- a comma before another column, and not before the key
 unfoldable pub column_comma : List Token → Option (List Token)
 column_comma ts = skip terminal.Comma ts >>= λ after. elim (skip terminal.Key after) [ None ↦ Some after | Some rest ↦ None ]

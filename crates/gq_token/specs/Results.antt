@@ -1,4 +1,4 @@
--- What a function that reads gives.
+-- What a parser returns.
 use Rattle.std.specs.Prelude.{◌≡◌, Option, Some, None, Result, Ok, Err}
 use Rattle.gq_token.specs.declared.parse_error.ParseError.{ParseError}
 use Rattle.gq_token.specs.declared.parse_error.ParseError.TheVariants as error
@@ -8,7 +8,7 @@ abbrev pub ◌>>=◌ : {A B : Type 0} → Option A → (A → Option B) → Opti
 (Some x) >>= f = f x
 None >>= f = None
 
--- what a function returned, seen by view, is what reading gives, unless memory ran out
+-- a function's result, seen through `view`, is what parsing gives, unless an allocation failed
 abbrev pub Fails : {Y : Type 0} → ParseError → Option Y → Type 0
 Fails error.Memory read = Unit {0}
 Fails error.Syntax read = read ≡ None

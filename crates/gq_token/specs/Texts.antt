@@ -5,7 +5,7 @@ use Rattle.std.specs.Prelude.{ℕ, Bool, true, false, List, [], ◌∷◌}
 abbrev pub Bytes : Type 0
 Bytes = List ℕ
 
--- whether there is an item
+-- whether a list has an item
 abbrev pub some : {A : Type 0} → List A → Bool
 some [] = false
 some (x ∷ xs) = true

@@ -3,7 +3,7 @@ use Rattle.std.specs.Prelude.{ℕ, ◌==◌, Bool}
 use Rattle.gq_token.specs.declared.token.Terminal.{Terminal}
 use Rattle.gq_token.specs.declared.token.Terminal.TheVariants as terminal
 
--- a number for each terminal, its own
+-- a number for each terminal, no two the same
 abbrev pub place_of : Terminal → ℕ
 place_of terminal.Create = 0
 place_of terminal.Drop = 1

@@ -1,14 +1,14 @@
-//! Laws: what cutting a line into tokens comes to, in the subject's own words. Each is the contract
-//! of a function that does nothing.
+//! Laws of splitting a line into tokens, in the field's terms. Each is the contract of an empty
+//! function.
 ghost use Rattle.gq_token.specs.Spelling.{CutsAll, TakesLongest};
 
-/// A line is cut into tokens to its end: behind its blanks there is nothing, or one token and the
-/// tokens of the rest.
+/// A line is split into tokens up to its end: after its blanks there is nothing, or one token and
+/// the tokens of the rest.
 pub fn cuts_all()
     ensures { CutsAll }
 {}
 
-/// The token that is cut off is spelled by the longest piece at the front that spells one.
+/// A token is spelled by the longest prefix that spells one.
 pub fn takes_longest()
     ensures { TakesLongest }
 {}

@@ -1,4 +1,4 @@
-//! Bytes as tokens: the longest token each time, with spaces and tabs between tokens.
+//! Splits bytes into tokens by longest match, with spaces and tabs between tokens.
 ghost use Rattle.std.specs.Prelude.{◌≡◌, ◌≤◌, ◌<◌, ◌-◌, IfOk, IfErr, string_bytes, length, take, drop, slice_index, map, true};
 ghost use Rattle.std.specs.Char.{is_ascii_digit};
 ghost use Rattle.std.specs.List.{prefix_len};
@@ -59,7 +59,7 @@ fn digits_len(bytes: &[u8]) -> usize
     bytes.iter().take_while(|b| b.is_ascii_digit()).count()
 }
 
-/// Cuts a text behind its first `len` bytes, which are ASCII.
+/// Splits a text after its first `len` bytes, which are ASCII.
 fn split_ascii(text: &str, len: usize) -> (&str, &str)
     requires within { len ≤ length text.now }
     requires ascii { 0 < len → slice_index text.now (len - 1) < 128 }
@@ -69,7 +69,7 @@ fn split_ascii(text: &str, len: usize) -> (&str, &str)
     text.split_at(len)
 }
 
-/// What stands before the closing quote, each doubled quote in it as one, and the text behind that
+/// The text before the closing quote, in which doubled quotes are undone, and the text after that
 /// quote.
 fn quoted(alloc: Global, quote: char, text: &str) -> Result<(String, &str), ParseError>
     requires { quote < 128 }
@@ -120,7 +120,7 @@ const RESERVED: [(&[u8], Terminal); 26] = [
     (b"rollup", Terminal::Rollup),
 ];
 
-/// What the table has for a word, in any case.
+/// The terminal that the table has for a word, in any case.
 fn lookup(table: &[(&[u8], Terminal)], word: &[u8]) -> Option<Terminal>
     ensures { result ≡ lookup_word (map (λ e. (lower e.0.now, e.1)) table.now) (lower word.now) }
 {
@@ -132,7 +132,7 @@ fn lookup(table: &[(&[u8], Terminal)], word: &[u8]) -> Option<Terminal>
     None
 }
 
-/// The reserved word that is spelled so, in any case.
+/// The reserved word with this spelling, in any case.
 fn reserved(word: &str) -> Option<Terminal>
     ensures { result ≡ lookup_word reserved_words (lower word.now) }
 {
@@ -158,7 +158,7 @@ fn word_of(alloc: Global, text: &str) -> Result<(Token, &str), ParseError>
     Ok((word_token(alloc, word)?, rest))
 }
 
-/// The number of these digits behind its sign, within 64 bits.
+/// The number with this sign and these digits, if it fits 64 bits.
 fn signed(negative: bool, digits: &str) -> Option<i64>
     requires { (0 < length digits.now) × (all_ascii_digits digits.now ≡ true) }
     ensures { result ≡ signed negative (digits_value 10 digits.now) }
@@ -216,7 +216,7 @@ fn quoted_text(alloc: Global, text: &str) -> Result<(Token, &str), ParseError>
     Ok((Token::Text(Text::from_string(alloc, value)?), rest))
 }
 
-/// Without the spaces and tabs at its front.
+/// The text without leading spaces and tabs.
 fn trimmed(text: &str) -> &str
     ensures { result.now ≡ skip_blanks text.now }
 {
@@ -247,7 +247,7 @@ fn begins_word(text: &str) -> bool
     }
 }
 
-/// Behind the first byte, which is ASCII.
+/// The text after its first byte, which is ASCII.
 fn behind_first(text: &str) -> &str
     requires { (0 < length text.now) × (slice_index text.now 0 < 128) }
     ensures { result.now ≡ drop 1 text.now }

@@ -1,17 +1,17 @@
-//! Why a line says nothing.
+//! Why a line can't be parsed.
 ghost use Rattle.std.specs.Prelude.{◌≡◌};
 ghost use Rattle.gq_token.specs.declared.parse_error.ParseError.TheVariants.{Memory};
 
 use std::alloc::{AllocError, AllocFailed};
 use thiserror::Error;
 
-/// Why a text could not be read.
+/// Why a text can't be parsed.
 #[derive(Debug, Drop, Error)]
 pub enum ParseError {
-    /// There was no memory to read it.
+    /// An allocation failed.
     #[error("no memory to read the line")]
     Memory,
-    /// It can't be cut into tokens, or its tokens are no command's.
+    /// It can't be split into tokens, or its tokens aren't a command.
     #[error("the line says no command")]
     Syntax,
 }

@@ -1,4 +1,4 @@
-//! The tokens of a line that are left.
+//! The remaining tokens of a line.
 ghost use Rattle.std.specs.Prelude.{◌≡◌, ◌==◌, ◌++◌, [], ◌∷◌, length, drop, IfNone, OnOk, option_to_list};
 ghost use Rattle.gq_token.specs.Queue.{Skips, skip, leads, column_comma};
 ghost use Rattle.gq_token.specs.declared.token.Terminal.TheVariants as terminal;
@@ -8,7 +8,7 @@ use std::alloc::{AllocFailed, Global};
 use std::collections::VecDeque;
 use std::marker::Model;
 
-/// Tokens from left to right, seen as their list. The first leaves it by value, without a copy.
+/// Tokens from left to right; the model is their list. The first is taken by value, without a copy.
 #[derive(Drop)]
 pub struct Tokens {
     tokens: VecDeque<Token>,
@@ -32,7 +32,7 @@ impl Tokens {
         }
     }
 
-    /// Adds a token at the end.
+    /// Appends a token.
     pub fn push(&mut self, token: Token) -> Result<(), AllocFailed<Token>>
         ensures { OnOk result (self.new ≡ self.old ++ token ∷ []) }
     {
@@ -51,7 +51,7 @@ impl Tokens {
         self.tokens.is_empty()
     }
 
-    /// The first token, which leaves.
+    /// Takes the first token.
     pub fn take(&mut self) -> Option<Token>
         ensures some { self.old ≡ option_to_list result ++ self.new }
         ensures none { IfNone result (self.old ≡ []) }
@@ -69,7 +69,7 @@ impl Tokens {
         }
     }
 
-    /// Passes this word or sign, if it is the first token.
+    /// Takes this word or sign if it is the first token, and returns whether it is.
     pub fn skip(&mut self, terminal: Terminal) -> bool
         ensures { Skips (skip terminal self.old) result self.old self.new }
     {
@@ -81,7 +81,8 @@ impl Tokens {
         }
     }
 
-    /// Passes a comma, if it is the first token and no `key` follows it.
+    /// Takes a comma if it is the first token and `key` doesn't follow, and returns whether it
+    /// does.
     #[tactic(auto, unfolding(crate::specs::Queue::column_comma))]
     pub fn skip_to_column(&mut self) -> bool
         ensures { Skips (column_comma self.old) result self.old self.new }

@@ -1,10 +1,10 @@
-//! Tokens: what a line is cut into.
+//! Tokens: the parts of a line.
 ghost use Rattle.std.specs.Prelude.{◌≡◌};
 ghost use Rattle.gq_token.specs.Tokens.{same};
 
 use gq_row::Text;
 
-/// A reserved word or a sign: what the grammar fixes.
+/// A reserved word or a sign.
 #[derive(Clone, Copy, Debug, PartialEq, Eq)]
 pub enum Terminal {
     Create,
@@ -45,15 +45,15 @@ pub enum Terminal {
     GreaterEqual,
 }
 
-/// A token by its value.
+/// A token, as a value.
 #[derive(Debug, Drop)]
 pub enum Token {
     /// A reserved word, in any case, or a sign.
     Fixed(Terminal),
-    /// A bare or quoted name, with its quotes undone.
+    /// A bare or quoted name, without its quotes.
     Name(Text),
     Number(i64),
-    /// A string, with its quotes undone.
+    /// A string, without its quotes.
     Text(Text),
 }
 
