@@ -6,12 +6,12 @@ use Rattle.gq_row.specs.Rows.{cell}
 use Rattle.gq_format.specs.Columns.{Column, columns_of}
 use Rattle.gq_format.specs.Shown.{shown, shown_text, terminal_width}
 
--- a text in a column of a width, at its right end or at its left, with a space on both sides
+-- a text in a column of this width, at its right or left end, with a space on both sides
 abbrev pub aligned : Bool → ℕ → List ℕ → List ℕ
 aligned true width text = 32 ∷ replicate (width - terminal_width text) 32 ++ text ++ 32 ∷ []
 aligned false width text = 32 ∷ text ++ replicate (width - terminal_width text) 32 ++ 32 ∷ []
 
--- numbers stand at the right end of their column, and so does null in a column of numbers
+-- whether a value is at the right end of its column, as numbers are, and null in a column of numbers
 abbrev pub is_right : Column → Value → Bool
 is_right column Null = column.is_numeric
 is_right column (Int n) = true
@@ -33,7 +33,7 @@ abbrev pub line : ℕ → ℕ → ℕ → (Column → List ℕ) → List Column 
 line left between right part [] = right ∷ []
 line left between right part (column ∷ columns) = left ∷ part column ++ line between between right part columns
 
--- the three rules, in which U+2500 are the bars, and lines of names and of values between U+2502
+-- the lines of a box: three rules with bars of U+2500, and lines of names and of values between U+2502
 abbrev pub lines_of : List Column → List (List Value) → List (List ℕ)
 lines_of columns rows =
     line 0x250C 0x252C 0x2510 bars columns

@@ -6,7 +6,7 @@ use Rattle.gq_row.specs.declared.value.Value.TheVariants.{Null, Int, Text, NoCas
 use Rattle.gq_row.specs.Rows.{cell}
 use Rattle.gq_format.specs.Shown.{shown, shown_text, terminal_width}
 
--- a column: its name, its place in a row, the width of its widest text, and whether it holds some number
+-- a column: its name, its position in a row, the width of its widest text, and whether it holds a number
 pub record Column : Type 0 where
   pub name : List ℕ
   pub place : ℕ
@@ -22,7 +22,7 @@ is_number (NoCase t) = false
 abbrev pub cells_at : ℕ → List (List Value) → List Value
 cells_at place rows = map (λ row. cell row place) rows
 
--- the greatest width among texts: this one, and those of values
+-- the largest width among texts: `most`, and those of values
 abbrev pub widest : ℕ → List Value → ℕ
 widest most values = fold (λ most value. max most (terminal_width (shown value))) most values
 

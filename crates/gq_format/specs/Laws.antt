@@ -17,11 +17,11 @@ use Rattle.gq_format.specs.Names.{distinct_names}
 use Rattle.gq_format.specs.Tokens.{object_tokens}
 use Rattle.gq_format.specs.Shown.{terminal_width}
 
--- a CSV reader gives the header and the fields of each row; a record of no field reads back as one empty field
+-- a CSV reader returns the header and the fields of each row; a record without fields reads back as one empty field
 abbrev pub CsvReadsBack : Type 0
 CsvReadsBack = (header : List (List ℕ)) (rows : List (List Value)) → records default_config (result_text format.Csv header rows) ≡ map read_back (header ∷ map (map cell_text) rows)
 
--- what a value is where it is a number: one of 64 bits
+-- a value that is a number has 64 bits
 abbrev pub IsNumberOf64Bits : Value → Type 0
 IsNumberOf64Bits Null = Unit {0}
 IsNumberOf64Bits (Int n) = mag n < 2 ^ 63
@@ -32,17 +32,17 @@ IsNumberOf64Bits (NoCase t) = Unit {0}
 abbrev pub JsonReadsBack : Type 0
 JsonReadsBack = (names : List (List ℕ)) (row : List Value) → All IsNumberOf64Bits row → tokens (object_text names row) ≡ object_tokens names row
 
--- each column gets a name, no two the same, and names that differ stay as they are
+-- each column gets a name, no two have the same, and distinct names stay the same
 pub record NamesColumns : Type 0 where
   pub each : (header : List (List ℕ)) → length (distinct_names header) ≡ length header
   pub differ : (header : List (List ℕ)) → length header < 2 ^ 62 → IsDistinct bytes_eq (distinct_names header)
   pub kept : (header : List (List ℕ)) → IsDistinct bytes_eq header → distinct_names header ≡ header
 
--- how wide a box is: each column with a space on both sides and a mark, and the last mark
+-- the width of a box: each column with a space on both sides and a mark, and the last mark
 abbrev pub box_width : List Column → ℕ
 box_width [] = 1
 box_width (column ∷ columns) = column.width + 3 + box_width columns
 
--- a terminal shows all lines of a box as wide
+-- all lines of a box have the same width in a terminal
 abbrev pub LinesAlign : Type 0
 LinesAlign = (header : List (List ℕ)) (rows : List (List Value)) → All (λ line. terminal_width line ≡ box_width (columns_of header rows)) (box_lines header rows)

@@ -1,4 +1,4 @@
--- Column names, each once.
+-- Column names without repetitions.
 use Rattle.std.specs.Prelude.{ℕ, ◌+◌, Bool, not, List, [], ◌∷◌, ◌++◌, length, map, fold, find, codes, decimal, bytes_eq, unwrap_or, if◌then◌else◌}
 use Rattle.std.specs.List.{list_any, range_with_len}
 
@@ -8,11 +8,11 @@ is_taken taken name = list_any (bytes_eq name) taken
 abbrev pub numbered : List ℕ → ℕ → List ℕ
 numbered name n = name ++ codes "_" ++ decimal n
 
--- the first of name_2, name_3 and so on that is not taken; one more of them is tried than there are names taken
+-- the first of name_2, name_3 and so on that isn't taken; one more of them is tried than names are taken
 abbrev pub free_name : List (List ℕ) → List ℕ → List ℕ
 free_name taken name = unwrap_or (find (λ own. not (is_taken taken own)) (map (numbered name) (range_with_len 2 (length taken + 1)))) name
 
--- the name of a column after those that are given: its own, or one that neither the header nor a column before it has
+-- the name of a column, given those before it: its own, or one that neither the header nor a column before it has
 abbrev pub own_name : List (List ℕ) → List (List ℕ) → List ℕ → List ℕ
 own_name header given name = if is_taken given name then free_name (header ++ given) name else name
 

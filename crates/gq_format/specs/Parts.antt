@@ -1,4 +1,4 @@
--- Which part a line has in each column.
+-- The part of a line in each column.
 use Rattle.std.specs.Prelude.{ℕ, List}
 use Rattle.gq_format.specs.Boxes.{bars, name_part, value_part}
 use Rattle.gq_format.specs.Columns.{Column}

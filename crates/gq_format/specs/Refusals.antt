@@ -11,6 +11,6 @@ refusal_lead line why number = codes "groupsh: line " ++ decimal line ++ codes "
 abbrev pub refusal_text : ℕ → Refusal → Option ℕ → List ℕ → List ℕ
 refusal_text line why number words = refusal_lead line why number ++ words ++ codes "\n"
 
--- the words on a line that is no command: a column, and what is said of it
+-- the words on a line that isn't a command: a column, and the message
 abbrev pub diagnosis : ℕ → List ℕ → List ℕ
 diagnosis column message = codes "column " ++ decimal column ++ codes ": " ++ message

@@ -6,11 +6,11 @@ use Rattle.unicode_width.specs.Width.{str_width}
 use Rattle.gq_row.specs.declared.value.Value.{Value}
 use Rattle.gq_row.specs.declared.value.Value.TheVariants.{Null, Int, Text, NoCase}
 
--- how many columns of a terminal characters take
+-- the width of characters in a terminal, in columns
 abbrev pub terminal_width : List ℕ → ℕ
 terminal_width text = str_width false text
 
--- a character, where line ends and other control characters are escaped
+-- a character as it is shown: line ends and other control characters are escaped
 abbrev pub shown_char : ℕ → List ℕ
 shown_char c =
     if c == 10 then codes "\\n"

@@ -19,7 +19,7 @@ pub(crate) enum Part<'a> {
     Cell(&'a RowRef<'a>),
 }
 
-// What stands before the first column of a line, between two columns, and behind the last.
+// The marks of a line: before its first column, between two columns, and after its last.
 #[derive(Clone, Copy)]
 struct Marks {
     left: char,
@@ -149,7 +149,7 @@ fn is_right(column: &Column<'_>, cell: CellRef<'_>) -> bool
     }
 }
 
-// Appends what a buffer holds, in a column of a width.
+// Appends the buffer's text in a column of this width.
 fn push_aligned(
     text: &mut String,
     buffer: &String,

@@ -68,7 +68,7 @@ fn column_of<'a>(
     })
 }
 
-// The value in the column at a place. A row that is too short has null there.
+// The value at a position of a row. A row that is too short has null there.
 pub(crate) fn cell_at<'a>(row: &RowRef<'a>, place: usize) -> CellRef<'a>
     ensures { value_of result ≡ cell row.now place }
 {

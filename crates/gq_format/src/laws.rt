@@ -1,5 +1,5 @@
-//! Laws: what the definitions come to, in the subject's own words. Each is the contract of a
-//! function that does nothing.
+//! Laws: what follows from the definitions, in the field's terms. Each is the contract of an empty
+//! function.
 ghost use Rattle.gq_format.specs.Laws.{CsvReadsBack, JsonReadsBack, LinesAlign, NamesColumns};
 
 /// A result as CSV reads back as its header and the fields of its rows.
@@ -7,17 +7,17 @@ pub fn csv_reads_back()
     ensures { CsvReadsBack }
 {}
 
-/// An object of JSON reads back as its names and values.
+/// A JSON object reads back as its names and values.
 pub fn json_reads_back()
     ensures { JsonReadsBack }
 {}
 
-/// Columns have different names in JSON.
+/// Columns have distinct names in JSON.
 pub fn names_columns()
     ensures { NamesColumns }
 {}
 
-/// A terminal shows all lines of a box as wide.
+/// All lines of a box have the same width in a terminal.
 pub fn lines_align()
     ensures { LinesAlign }
 {}

@@ -1,4 +1,4 @@
-//! Column names, each once.
+//! Column names without repetitions.
 ghost use Rattle.std.specs.Prelude.{◌≡◌, ◌++◌, IfOk, not};
 ghost use Rattle.gq_format.specs.Names.{distinct_names, free_name, is_taken, numbered, own_name};
 
@@ -6,7 +6,7 @@ use gq_row::Text;
 use itoa::Buffer;
 use std::alloc::{AllocError, Global};
 
-// The names of the columns of a header, where a repeated name gets a number.
+// The names of a header's columns; a repeated name gets a number.
 pub(crate) fn distinct_names(alloc: Global, header: &[Text]) -> Result<Vec<Text>, AllocError>
     ensures { IfOk result (λ names. names.items ≡ distinct_names header.now) }
 {
@@ -45,7 +45,7 @@ fn free_name(
     name.copy(alloc)
 }
 
-// Whether neither the header nor a column before has a name.
+// Whether neither the header nor an earlier column has this name.
 fn is_free(header: &[Text], given: &[Text], name: &Text) -> bool
     ensures { result ≡ not (is_taken (header.now ++ given.now) name.now) }
 {

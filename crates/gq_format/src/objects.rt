@@ -12,8 +12,8 @@ use gq_row::{Sequence, Text};
 use json::Writer;
 use std::alloc::{AllocError, Global};
 
-// An object for each row, on a line of its own. Each line is made in a buffer that is used again, since a writer
-// initializes up to 16 KiB after the text that it is given.
+// An object for each row, on a line of its own. Lines are made in a buffer that is reused, since a
+// writer initializes up to 16 KiB after the text that it is given.
 pub(crate) fn json_text(
     alloc: Global,
     header: &Sequence<Text>,
@@ -59,7 +59,7 @@ fn write_key(object: &mut Writer, name: &Text) -> Result<(), AllocError>
     object.key(name.as_str())
 }
 
-// The text of an object that is closed now, and the end of its line.
+// Closes an object, and returns its text with the end of its line.
 fn finish(object: Writer) -> Result<Vec<u8>, AllocError>
     ensures { IfOk result (λ line. line.items ≡ object.before ++ print (object.tokens ++ end_object ∷ []) ++ 10 ∷ []) }
 {

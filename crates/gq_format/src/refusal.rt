@@ -10,7 +10,7 @@ use gq_reply::Refusal;
 use itoa::Buffer;
 use std::alloc::{AllocError, Global};
 
-/// Two short lines, made without memory.
+/// Two short lines, made without allocation.
 pub type RefusalText = ArrayString<256>;
 
 /// The refusal of the command on a line of a script: the line's number, its reply, and what it means.
@@ -23,7 +23,7 @@ pub fn refusal_text(line: u64, code: Refusal, number: Option<u64>) -> RefusalTex
     text
 }
 
-/// The same with a diagnosis of the line in place of the words.
+/// The same with a diagnosis of the line instead of the words.
 pub fn diagnosis_text(
     alloc: Global,
     line: u64,
@@ -45,7 +45,7 @@ pub fn diagnosis_text(
     Ok(text)
 }
 
-// The line's number and the reply, and what comes before the words.
+// The line's number and the reply, up to where the words begin.
 fn lead_of(line: u64, code: Refusal, number: Option<u64>) -> RefusalText
     ensures bytes { result.bytes ≡ refusal_lead line code number }
     ensures short { array_string_len result ≤ 97 }

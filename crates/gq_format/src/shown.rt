@@ -11,7 +11,7 @@ use itoa::Buffer;
 use std::alloc::AllocError;
 use unicode_width::UnicodeWidthStr;
 
-// Writes what is shown of a value, in place of what the buffer held.
+// Replaces the buffer's contents by what a box shows of a value.
 pub(crate) fn show(buffer: &mut String, cell: CellRef<'_>) -> Result<(), AllocError>
     ensures { OnOk result (string_bytes buffer.new ≡ encode_utf8_all (shown (value_of cell.entry))) }
 {
@@ -34,7 +34,7 @@ fn show_number(buffer: &mut String, n: i64) -> Result<(), AllocError>
     Ok(())
 }
 
-// Writes what is shown of a text, in place of what the buffer held.
+// Replaces the buffer's contents by what a box shows of a text.
 pub(crate) fn show_text(buffer: &mut String, text: &Text) -> Result<(), AllocError>
     ensures { OnOk result (string_bytes buffer.new ≡ encode_utf8_all (shown_text text.now)) }
 {
@@ -90,7 +90,7 @@ fn digit(n: u8) -> char
     }
 }
 
-// How many columns of a terminal a text takes.
+// The width of a text in a terminal, in columns.
 pub(crate) fn width_of(buffer: &String) -> usize
     ensures { (text : List ℕ) → string_bytes buffer.now ≡ encode_utf8_all text → result ≡ terminal_width text }
 {

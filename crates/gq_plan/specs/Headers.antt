@@ -5,7 +5,7 @@ use Rattle.gq_command.specs.declared.command.By.{By}
 use Rattle.gq_clause.specs.declared.aggregate.Aggregate.{Aggregate}
 use Rattle.gq_clause.specs.declared.aggregate.Aggregate.TheVariants.{CountAll, Count, CountDistinct, Sum, Min, Max}
 
--- a word of the grammar with a name in parentheses behind it
+-- a word of the grammar, a name, and a closing parenthesis
 abbrev pub called : Bytes → Bytes → Bytes
 called word name = word ++ name ++ codes ")"
 
@@ -18,11 +18,11 @@ text_of (Sum name) = called (codes "sum(") name
 text_of (Min name) = called (codes "min(") name
 text_of (Max name) = called (codes "max(") name
 
--- the column of a rollup's levels
+-- the header of a rollup's levels
 abbrev pub level_header : Bool → List Bytes
 level_header false = []
 level_header true = codes "level" ∷ []
 
--- the header: the names of the columns, behind that of the level where they are rolled up, and then the texts of the aggregates
+-- the header: `level` for a rollup, the names of the `by` columns, and then the texts of the aggregates
 abbrev pub group_header : By → List Aggregate → List Bytes
 group_header by aggregates = level_header by.rollup ++ (by.columns ++ map text_of aggregates)

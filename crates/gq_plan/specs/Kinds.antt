@@ -1,4 +1,4 @@
--- Which kinds go together.
+-- Which kinds are compatible.
 use Rattle.std.specs.Prelude.{ℕ, Bool, true, false, not, List, ◌++◌, map, slice_get, Option, Some, None}
 use Rattle.std.specs.List.{list_all}
 use Rattle.std.specs.Cmp.Lexicographic.{pointwise}
@@ -28,13 +28,13 @@ same_kind NoCase Int = false
 same_kind NoCase Text = false
 same_kind NoCase NoCase = true
 
--- texts, with case or without
+-- whether a kind is that of texts, with case or without
 abbrev pub is_text : Kind → Bool
 is_text Int = false
 is_text Text = true
 is_text NoCase = true
 
--- numbers are compared with numbers, and texts with texts, whether with case or without
+-- whether two kinds are compatible: numbers with numbers, and texts with texts, with case or without
 abbrev pub goes_with : Kind → Kind → Bool
 goes_with Int b = not (is_text b)
 goes_with Text b = is_text b
@@ -52,13 +52,13 @@ abbrev pub operand_kind : List Kind → Operand → Option Kind
 operand_kind kinds (Column place) = slice_get kinds place
 operand_kind kinds (Literal v) = kind_of v
 
--- what has no kind goes with both
+-- whether two operands have compatible kinds: one without a kind is compatible with both
 abbrev pub agrees : Option Kind → Option Kind → Bool
 agrees None b = true
 agrees (Some a) None = true
 agrees (Some a) (Some b) = goes_with a b
 
--- what a test compares agrees in kind
+-- whether the operands of a test have compatible kinds
 abbrev pub test_fits : List Kind → Test → Bool
 test_fits kinds (Compare a comparison b) = agrees (operand_kind kinds a) (operand_kind kinds b)
 test_fits kinds (IsNull a) = true
@@ -71,7 +71,7 @@ tests_fit kinds tests = list_all (test_fits kinds) tests
 abbrev pub kinds_of : List TableColumn → List Kind
 kinds_of columns = map (λ (c : TableColumn). c.kind) columns
 
--- the kind of what is shown: a least and a greatest value are of their column's kind, counts and sums are numbers
+-- the kind of a shown column: a minimum and a maximum have their column's kind, counts and sums are numbers
 abbrev pub shown_kind : List TableColumn → OutputColumn → Kind
 shown_kind columns (Aggregate CountAll column) = Int
 shown_kind columns (Aggregate Count column) = Int
@@ -80,11 +80,11 @@ shown_kind columns (Aggregate Min column) = kind_at columns column
 shown_kind columns (Aggregate Max column) = kind_at columns column
 shown_kind columns (CountDistinct column) = Int
 
--- the kinds of a result row: those of the `by` columns, and then of what is shown
+-- the kinds of a result row: those of the `by` columns, and then those of the shown columns
 abbrev pub result_kinds : List TableColumn → List ℕ → List OutputColumn → List Kind
 result_kinds columns by shown = map (kind_at columns) by ++ map (shown_kind columns) shown
 
--- the columns of an `exists` are of the same kinds, one by one
+-- whether the columns of an `exists` have the same kinds, pair by pair
 abbrev pub matching_fits : List TableColumn → List TableColumn → Option Matching → Bool
 matching_fits columns others None = true
 matching_fits columns others (Some m) = pointwise same_kind (map (kind_at others) m.theirs) (map (kind_at columns) m.ours)

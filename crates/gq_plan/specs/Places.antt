@@ -1,4 +1,4 @@
--- Names in a command, as places in rows.
+-- Names in a command, as positions in rows.
 use Rattle.std.specs.Prelude.{◌+◌, Bool, true, false, List, length, map, position, bytes_eq, Option, Some, None, option_map, option_and_then}
 use Rattle.gq_row.specs.declared.schema.Column.{Column as TableColumn}
 use Rattle.gq_row.specs.Schemas.{position_of}
@@ -18,7 +18,7 @@ use Rattle.gq_clause.specs.declared.condition.Operand.TheVariants as named
 use Rattle.gq_clause.specs.declared.condition.Test.{Test as NamedTest}
 use Rattle.gq_clause.specs.declared.condition.Test.TheVariants as test
 
--- an aggregate, by the position of its column; none where its name is no column's
+-- an aggregate with the position of its column; none if its name isn't a column's
 abbrev pub shown_of : List TableColumn → Aggregate → Option OutputColumn
 shown_of columns CountAll = Some (shown.Aggregate kind.CountAll 0)
 shown_of columns (Count name) = option_map (shown.Aggregate kind.Count) (position_of columns name)
@@ -27,11 +27,11 @@ shown_of columns (Sum name) = option_map (shown.Aggregate kind.Sum) (position_of
 shown_of columns (Min name) = option_map (shown.Aggregate kind.Min) (position_of columns name)
 shown_of columns (Max name) = option_map (shown.Aggregate kind.Max) (position_of columns name)
 
--- several, or none where one of them has a name that is no column's
+-- several aggregates, or none if a name of one isn't a column's
 abbrev pub all_shown : List TableColumn → List Aggregate → Option (List OutputColumn)
 all_shown columns aggregates = all_of (map (shown_of columns) aggregates)
 
--- whether two aggregates are the same: of one kind, and of columns of one name; each kind has its two cases, so that a new one can't be left out
+-- whether two aggregates are the same: of one kind, and over columns of one name; each kind has two cases, so that a new one can't be left out
 abbrev pub same_aggregate : Aggregate → Aggregate → Bool
 same_aggregate CountAll CountAll = true
 same_aggregate CountAll other = false
@@ -46,24 +46,24 @@ same_aggregate (Min a) other = false
 same_aggregate (Max a) (Max b) = bytes_eq a b
 same_aggregate (Max a) other = false
 
--- the place of an operand in a row of the table: none for a name that is no column's, and for an aggregate
+-- the position of an operand in a row of the table; none for a name that isn't a column's, and for an aggregate
 abbrev pub in_row : List TableColumn → NamedOperand → Option Operand
 in_row columns (named.Column name) = option_map Column (position_of columns name)
 in_row columns (named.Literal value) = Some (Literal value)
 in_row columns (named.Aggregate aggregate) = None
 
--- its place in a result row, where the values of the `by` columns stand before what is shown: none for a name that isn't behind `by`, and for an aggregate that isn't shown; the first of those shown counts
+-- the position of an operand in a result row, which has the values of the `by` columns and then the shown ones; none for a name that isn't after `by`, and for an aggregate that isn't shown; of equal ones the first counts
 abbrev pub in_result : List Bytes → List Aggregate → NamedOperand → Option Operand
 in_result by aggregates (named.Column name) = option_map Column (position (λ other. bytes_eq other name) by)
 in_result by aggregates (named.Literal value) = Some (Literal value)
 in_result by aggregates (named.Aggregate aggregate) = option_map (λ place. Column (length by + place)) (position (λ other. same_aggregate other aggregate) aggregates)
 
--- a test by the places of its operands; none where one has none
+-- a test with the positions of its operands; none if an operand has none
 abbrev pub placed : (NamedOperand → Option Operand) → NamedTest → Option Test
 placed place (test.Compare a comparison b) = option_and_then (λ left. option_map (λ right. Compare left comparison right) (place b)) (place a)
 placed place (test.IsNull a) = option_map IsNull (place a)
 placed place (test.IsNotNull a) = option_map IsNotNull (place a)
 
--- several, or none where an operand has no place
+-- several tests, or none if an operand has no position
 abbrev pub all_placed : (NamedOperand → Option Operand) → List NamedTest → Option (List Test)
 all_placed place tests = all_of (map (placed place) tests)

@@ -1,4 +1,4 @@
--- What a query asks of its table, by positions. The names are looked up first, then the kinds are compared: so that a name is no column's is told before all that is wrong with kinds.
+-- Plans of queries, by positions. Names are looked up before kinds are compared, so an unknown column is reported before any mismatch of kinds.
 use Rattle.std.specs.Prelude.{◌<◌, ◌&&◌, Bool, IsTrue, List, length, All, Option, Some, None, Result, Ok, Err}
 use Rattle.std.specs.List.{list_all}
 use Rattle.std.specs.declared.alloc.AllocError.{AllocError}
@@ -19,7 +19,7 @@ use Rattle.gq_plan.specs.declared.plan.DistinctPlan.{DistinctPlan}
 use Rattle.gq_plan.specs.Kinds.{kinds_of, result_kinds, tests_fit, matching_fits}
 use Rattle.gq_plan.specs.Places.{all_shown, in_row, in_result, all_placed}
 
--- what was found for names, or the refusal where one is no column's; or that for want of memory
+-- the result of a lookup, or the refusal if a name isn't a column's or an allocation failed
 abbrev pub or_no_column : {A : Type 0} → Result (Option A) AllocError → Result A Refused
 or_no_column (Ok found) = some_or NoColumn found
 or_no_column (Err e) = Err (unnumbered Memory)
@@ -32,7 +32,7 @@ matching_named columns others (Some exists) = do
   ours ← some_or NoColumn (positions_of columns exists.ours)
   Ok (Some (record { negated = exists.negated; theirs = theirs; ours = ours }))
 
--- the positions for the names of a `group`: those behind `having` name the `by` columns and what is shown, all others columns
+-- the positions of the names of a `group`: after `having` they name the `by` columns and the shown aggregates, elsewhere columns
 abbrev pub group_named : List Column → List Column → GroupClauses → Result GroupPlan Refused
 group_named columns others clauses = do
   by ← some_or NoColumn (positions_of columns clauses.by.columns)
@@ -42,18 +42,18 @@ group_named columns others clauses = do
   having ← some_or NoColumn (all_placed (in_result clauses.by.columns clauses.shown) clauses.having)
   Ok (record { by = by; rollup = clauses.by.rollup; shown = shown; condition = record { tests = tests }; matching = matching; having = record { tests = having } })
 
--- the kinds go together: no texts are summed, and no number is compared with a text
+-- whether the kinds are compatible: no texts are summed, no number is compared with a text, and the columns of an `exists` have the same kinds
 abbrev pub group_fits : List Column → List Column → GroupPlan → Bool
 group_fits columns others plan = list_all (is_valid_for columns) plan.shown && (tests_fit (kinds_of columns) plan.condition.tests && (matching_fits columns others plan.matching && tests_fit (result_kinds columns plan.by plan.shown) plan.having.tests))
 
--- the plan of a `group` on a table with these columns, where the table of its `exists` has the others
+-- the plan of a `group` on a table with these columns, if the table of its `exists` has the others
 abbrev pub group_plan : List Column → List Column → GroupClauses → Result GroupPlan Refused
 group_plan columns others clauses = do
   plan ← group_named columns others clauses
   fitting ← true_or TypeMismatch (group_fits columns others plan)
   Ok plan
 
--- the positions for the names of a `distinct`
+-- the positions of the names of a `distinct`
 abbrev pub distinct_named : List Column → List Bytes → List NamedTest → Result DistinctPlan Refused
 distinct_named columns names tests = do
   on ← some_or NoColumn (positions_of columns names)
@@ -67,7 +67,7 @@ distinct_plan columns names tests = do
   fitting ← true_or TypeMismatch (tests_fit (kinds_of columns) plan.condition.tests)
   Ok plan
 
--- the positions of a plan are those of columns, and of these no texts are summed
+-- the positions of a plan are those of columns, and no texts are summed
 pub record IsWithin (columns others : List Column) (plan : GroupPlan) : Type 0 where
   pub by : All (λ column. column < length columns) plan.by
   pub shown : IsTrue (list_all (is_valid_for columns) plan.shown)

@@ -9,17 +9,17 @@ use Rattle.gq_plan.specs.declared.places.Scope.{Scope}
 use Rattle.gq_plan.specs.declared.places.Scope.TheVariants.{Rows, Groups}
 use Rattle.gq_plan.specs.Places.{in_row, in_result, same_aggregate}
 
--- the place of an operand in the rows of a scope
+-- the position of an operand in the rows of a scope
 abbrev pub place_in : Scope → NamedOperand → Option Operand
 place_in (Rows schema) = in_row schema.now.columns
 place_in (Groups by shown) = in_result by.now shown.now
 
--- the place of what has a name
+-- the position of a name
 abbrev pub name_in : Scope → Bytes → Option ℕ
 name_in (Rows schema) name = position_of schema.now.columns name
 name_in (Groups by shown) name = position (λ other. bytes_eq other name) by.now
 
--- the place of an aggregate
+-- the position of an aggregate
 abbrev pub aggregate_in : Scope → Aggregate → Option ℕ
 aggregate_in (Rows schema) aggregate = None
 aggregate_in (Groups by shown) aggregate = option_map (λ place. length by.now + place) (position (λ other. same_aggregate other aggregate) shown.now)

@@ -3,7 +3,7 @@ use gq_clause::{Aggregate, Test};
 use gq_command::{By, Exists};
 use gq_row::Sequence;
 
-/// The clauses of a `group`, as its line says them.
+/// The clauses of a `group`, as parsed from its line.
 #[derive(Drop)]
 pub struct GroupClauses {
     pub by: By,

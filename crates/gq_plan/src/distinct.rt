@@ -14,10 +14,10 @@ use gq_row::{Schema, Text, find_positions};
 use gq_select::Condition;
 use std::alloc::Global;
 
-/// The plan of a `distinct` on a table of this schema, each name looked up once.
+/// The plan of a `distinct` on a table of this schema; each name is looked up once.
 ///
-/// Refused with `NoColumn` where a name is no column's, else with `TypeMismatch` where a number is
-/// compared with a text.
+/// Fails with `NoColumn` if a name isn't a column's, else with `TypeMismatch` if a number is
+/// compared with a text; and with `Memory`.
 pub fn plan_distinct(
     alloc: Global,
     schema: &Schema,
@@ -40,7 +40,7 @@ pub fn plan_distinct(
     Ok(plan)
 }
 
-// The positions for its names.
+// Looks up the positions of its names.
 fn find_distinct(
     alloc: Global,
     schema: &Schema,

@@ -17,12 +17,12 @@ use gq_row::{Column, Schema, find_positions};
 use gq_select::Condition;
 use std::alloc::{AllocError, Global};
 
-/// The plan of a `group` on a table of this schema, each name looked up once. The others are the
-/// columns of the table that its `exists` names; without one there are none.
+/// The plan of a `group` on a table of this schema; each name is looked up once. `others` are the
+/// columns of the table of its `exists`; without one there are none.
 ///
-/// Refused with `NoColumn` where a name is no column's, or behind `having` neither a `by` column's
-/// nor an aggregate shown; else with `TypeMismatch` where texts are summed, a number is compared
-/// with a text, or the columns of an `exists` are of different kinds.
+/// Fails with `NoColumn` if a name isn't a column's, or after `having` neither a `by` column's nor
+/// a shown aggregate; else with `TypeMismatch` if texts are summed, a number is compared with a
+/// text, or the columns of an `exists` have different kinds; and with `Memory`.
 pub fn plan_group(
     alloc: Global,
     schema: &Schema,
@@ -42,7 +42,7 @@ pub fn plan_group(
     Ok(plan)
 }
 
-// The positions for its names.
+// Looks up the positions of its names.
 fn find_group(
     alloc: Global,
     schema: &Schema,
@@ -76,7 +76,7 @@ fn find_group(
     })
 }
 
-// Whether the kinds go together.
+// Whether the kinds are compatible.
 fn fits_group(
     alloc: Global,
     columns: &[Column],

@@ -19,8 +19,8 @@ pub fn names_of(alloc: Global, columns: &[Column]) -> Result<Sequence<Text>, All
     Ok(Sequence::new(names))
 }
 
-/// The names of the `by` columns, behind `level` where they are rolled up, and then the texts of the
-/// aggregates.
+/// The header of a `group`: `level` for a rollup, the names of the `by` columns, and the texts of
+/// the aggregates.
 pub fn header_of(
     alloc: Global,
     by: &By,
@@ -39,7 +39,7 @@ pub fn header_of(
     Ok(Sequence::new(names))
 }
 
-// Puts copies of names behind others.
+// Appends copies of names.
 fn push_copies(alloc: Global, names: &mut Vec<Text>, more: &[Text]) -> Result<(), AllocError>
     ensures { OnOk result (names.new.items ≡ names.old.items ++ more.now) }
 {
@@ -62,7 +62,7 @@ fn text_of(alloc: Global, aggregate: &Aggregate) -> Result<Text, AllocError>
     }
 }
 
-// A word with a column's name in parentheses behind it.
+// A word, a column's name, and a closing parenthesis.
 fn called(alloc: Global, word: &str, column: &Text) -> Result<Text, AllocError>
     ensures { IfOk result (λ text. text ≡ called word.now column.now) }
 {

@@ -1,4 +1,4 @@
-//! Which kinds go together.
+//! Which kinds are compatible.
 ghost use Rattle.std.specs.Prelude.{◌≡◌, IfOk, map};
 ghost use Rattle.std.specs.Cmp.Lexicographic.{pointwise};
 ghost use Rattle.std.specs.List.{list_all};
@@ -10,7 +10,7 @@ use gq_row::{Column, Kind, Value};
 use gq_select::{Matching, Operand, OutputColumn, Test};
 use std::alloc::{AllocError, Global};
 
-/// Whether each of them can be had of rows that fit these columns.
+/// Whether each of them can be computed from rows with these columns.
 pub fn are_valid_for(columns: &[Column], shown: &[OutputColumn]) -> bool
     ensures { result ≡ list_all (is_valid_for columns.now) shown.now }
 {
@@ -28,7 +28,7 @@ pub fn kinds_of(alloc: Global, columns: &[Column]) -> Result<Vec<Kind>, AllocErr
     Ok(kinds)
 }
 
-/// The kinds of result rows: of the values in the `by` columns, and then of what is shown.
+/// The kinds of result rows: those of the `by` columns, and then those of the shown columns.
 pub fn result_kinds(
     alloc: Global,
     columns: &[Column],
@@ -64,7 +64,7 @@ fn kind_at(columns: &[Column], position: usize) -> Kind
     }
 }
 
-// A least and a greatest value are of their column's kind, counts and sums are numbers.
+// Minimums and maximums have their column's kind, counts and sums are numbers.
 fn shown_kind(columns: &[Column], shown: &OutputColumn) -> Kind
     ensures { result ≡ shown_kind columns.now shown.now }
 {
@@ -75,7 +75,7 @@ fn shown_kind(columns: &[Column], shown: &OutputColumn) -> Kind
     }
 }
 
-/// Whether what each test compares agrees in kind, in rows whose values have these kinds.
+/// Whether the operands of each test have compatible kinds, in rows with these kinds.
 pub fn tests_fit(kinds: &[Kind], tests: &[Test]) -> bool
     ensures { result ≡ tests_fit kinds.now tests.now }
 {
@@ -93,7 +93,7 @@ fn test_fits(kinds: &[Kind], test: &Test) -> bool
     }
 }
 
-// None of null.
+// Null has no kind.
 fn operand_kind(kinds: &[Kind], operand: &Operand) -> Option<Kind>
     ensures { result ≡ operand_kind kinds.now operand.now }
 {
@@ -114,7 +114,7 @@ fn kind_of(value: &Value) -> Option<Kind>
     }
 }
 
-// What has no kind goes with both.
+// An operand without a kind is compatible with both.
 fn agree(one: Option<Kind>, other: Option<Kind>) -> bool
     ensures { result ≡ agrees one other }
 {
@@ -124,7 +124,7 @@ fn agree(one: Option<Kind>, other: Option<Kind>) -> bool
     }
 }
 
-// Texts without case go with texts.
+// Texts without case are compatible with texts.
 fn goes_with(one: Kind, other: Kind) -> bool
     ensures { result ≡ goes_with one other }
 {
@@ -146,7 +146,7 @@ fn is_same(one: Kind, other: Kind) -> bool
     one == other
 }
 
-/// Whether the columns of an `exists`, if there is one, are of the same kinds, one by one.
+/// Whether the columns of an `exists`, if there is one, have the same kinds, pair by pair.
 pub fn matching_fits(columns: &[Column], others: &[Column], matching: &Option<Matching>) -> bool
     ensures { result ≡ matching_fits columns.now others.now matching.now }
 {
@@ -159,7 +159,7 @@ pub fn matching_fits(columns: &[Column], others: &[Column], matching: &Option<Ma
     }
 }
 
-// Whether the columns at these positions of the others are of the kinds of ours, one by one.
+// Whether the columns at these positions have the same kinds in both tables, pair by pair.
 fn kinds_agree(columns: &[Column], others: &[Column], theirs: &[usize], ours: &[usize]) -> bool
     ensures { result ≡ pointwise same_kind (map (kind_at others.now) theirs.now)
         (map (kind_at columns.now) ours.now) }

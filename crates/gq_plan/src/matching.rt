@@ -12,8 +12,8 @@ use gq_row::{Column, find_positions};
 use gq_select::Matching;
 use std::alloc::Global;
 
-/// The positions for the names of an `exists`, if there is one: NoColumn where one is no column's of
-/// its table.
+/// The positions for the names of an `exists`, if there is one; `NoColumn` if a name isn't a
+/// column's of its table.
 pub fn find_matching(
     alloc: Global,
     columns: &[Column],

@@ -1,4 +1,4 @@
-//! Where the operands of tests stand in rows.
+//! The positions of operands in rows.
 ghost use Rattle.std.specs.Prelude.{◌≡◌, ◌+◌, IfOk, length, option_map, position, bytes_eq};
 ghost use Rattle.gq_plan.specs.Places.{all_placed, placed, same_aggregate};
 ghost use Rattle.gq_plan.specs.Scopes.{place_in, name_in, aggregate_in};
@@ -8,18 +8,18 @@ use gq_row::{Schema, Sequence, Text};
 use gq_select::{Operand, Test};
 use std::alloc::{AllocError, Global};
 
-/// The rows that tests are asked of.
+/// The rows that tests apply to.
 #[derive(Drop)]
 pub enum Scope<'a> {
     /// Rows of a table of this schema.
     Rows(&'a Schema),
-    /// Result rows of groups: the values of the columns of these names, and then of these
+    /// Result rows of groups: the values of the columns with these names, and then of these
     /// aggregates.
     Groups(&'a [Text], &'a [Aggregate]),
 }
 
 impl<'a> Scope<'a> {
-    // The place of what has a name.
+    // The position of a name.
     fn find_name(&self, name: &Text) -> Option<usize>
         ensures { result ≡ name_in self.now name.now }
     {
@@ -29,7 +29,7 @@ impl<'a> Scope<'a> {
         }
     }
 
-    // The place of an aggregate.
+    // The position of an aggregate.
     fn find_aggregate(&self, aggregate: &Aggregate) -> Option<usize>
         ensures { result ≡ aggregate_in self.now aggregate.now }
     {
@@ -46,7 +46,7 @@ fn find_text(texts: &[Text], text: &Text) -> Option<usize>
     texts.iter().position(|other| other == text)
 }
 
-// The place of an aggregate behind some values.
+// The position of an aggregate after the `by` columns.
 fn find_behind(by: &[Text], shown: &[Aggregate], aggregate: &Aggregate) -> Option<usize>
     ensures { result ≡ option_map (λ place. length by.now + place)
         (position (λ other. same_aggregate other aggregate.now) shown.now) }
@@ -71,7 +71,7 @@ fn is_same(one: &Aggregate, other: &Aggregate) -> bool
         (Aggregate::Sum(a), Aggregate::Sum(b)) => a == b,
         (Aggregate::Min(a), Aggregate::Min(b)) => a == b,
         (Aggregate::Max(a), Aggregate::Max(b)) => a == b,
-        // Each kind is named once more, so that a new one can't be left out above.
+        // Each kind is named again, so that a new one can't be left out above.
         (Aggregate::CountAll | Aggregate::Count(_) | Aggregate::CountDistinct(_), _) => false,
         (Aggregate::Sum(_) | Aggregate::Min(_) | Aggregate::Max(_), _) => false,
     }
@@ -115,7 +115,8 @@ fn place_test(
     }
 }
 
-/// The tests by the places of their operands: None where an operand has no place in such rows.
+/// The tests with the positions of their operands; `None` if an operand has no position in such
+/// rows.
 pub fn place_tests(
     alloc: Global,
     scope: &Scope<'_>,

@@ -1,4 +1,4 @@
-//! What is shown of groups, by the names of columns.
+//! Shown aggregates, by the names of columns.
 ghost use Rattle.std.specs.Prelude.{◌≡◌, IfOk};
 ghost use Rattle.gq_plan.specs.Places.{all_shown, shown_of};
 
@@ -8,7 +8,7 @@ use gq_row::{Schema, Sequence};
 use gq_select::OutputColumn;
 use std::alloc::{AllocError, Global};
 
-/// What the aggregates are of the columns: None where a name is no column's.
+/// The aggregates with the positions of their columns; `None` if a name isn't a column's.
 pub fn find_shown(
     alloc: Global,
     schema: &Schema,

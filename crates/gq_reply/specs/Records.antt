@@ -4,7 +4,7 @@ use Rattle.std.specs.Global.{Global}
 use Rattle.csv.specs.Writing.{default_writer, fields_written, has_written, text_written, writer_setup}
 use Rattle.csv.specs.declared.writer.Writer.{Writer}
 
--- a default writer stands between two records, and these bytes are what it wrote
+-- a default writer is between two records, and has written these bytes
 pub record HasWritten (writer : Writer (Vec ℕ Global)) (bytes : List ℕ) : Type 0 where
   pub setup : writer_setup writer ≡ default_writer
   pub fields : fields_written writer ≡ 0

@@ -1,4 +1,4 @@
--- Refusals and the replies that tell them.
+-- Refusals and their replies.
 use Rattle.std.specs.Prelude.{List, ℕ, codes, None}
 use Rattle.gq_reply.specs.declared.refusal.Refusal.{Refusal}
 use Rattle.gq_reply.specs.declared.refusal.Refusal.TheVariants as refusal
@@ -10,14 +10,14 @@ use Rattle.gq_reply.specs.declared.reply.Reply.TheVariants as reply
 abbrev pub unnumbered : Refusal → Refused
 unnumbered why = record { why = why; number = None }
 
--- the reply that tells a refusal
+-- the reply for a refusal
 abbrev pub told : Refused → Reply
 told refused = reply.Refused refused.why refused.number
 
 abbrev pub refused : Refusal → Reply
 refused why = told (unnumbered why)
 
--- what a refusal means, in plain words
+-- what a refusal means, in a few words
 abbrev pub words_of : Refusal → List ℕ
 words_of refusal.Syntax = codes "the line is not a command"
 words_of refusal.LineTooLong = codes "the line is too long"

@@ -56,11 +56,11 @@ cell_text (Int n) = signed_decimal n
 cell_text (Text t) = t
 cell_text (NoCase t) = t
 
--- a record as the CSV writer spells it
+-- a record as the CSV writer writes it
 abbrev pub record_text : List (List ℕ) → List ℕ
 record_text fields = row_text default_writer fields
 
--- the header and the rows, a record each
+-- the header and the rows, one record each
 abbrev pub records_text : List (List ℕ) → List (List Value) → List ℕ
 records_text header rows = record_text header ++ flat_map (λ row. record_text (map cell_text row)) rows
 
@@ -76,7 +76,7 @@ text (reply.Done n) = accepted n
 text (reply.Rows header rows) = accepted (length rows) ++ record_text header ++ flat_map (λ row. record_text (map cell_text row)) rows
 text (reply.Refused why number) = codes "err " ++ decimal (code_of why) ++ codes " " ++ name_of why ++ record_number number ++ codes "\n"
 
--- a reply of one line, which is written without memory
+-- a reply of one line, which is written without allocation
 abbrev pub IsLine : Reply → Type 0
 IsLine (reply.Done n) = Unit {0}
 IsLine (reply.Rows header rows) = ⊥

@@ -1,7 +1,8 @@
-//! Rows whose fields call for no quotes, written straight into the text of a reply.
+//! Writes rows whose fields need no quotes directly into the text of a reply.
 //!
-//! The rows of an answer in order stand anywhere among its cells, so that a processor waits for each. Here it looks at
-//! the ends of many rows before it reads all of the first: looks at so little don't wait for one another.
+//! The rows of a sorted answer are anywhere among its cells, so reading a row waits for memory.
+//! Here the ends of a block of rows are read before its first row is written: such short reads
+//! don't wait for one another.
 ghost use Rattle.std.specs.Prelude.{◌≡◌, ◌≤◌, ◌<◌, ◌+◌, ◌%◌, ◌++◌, ◌∷◌, ◌==◌, [], List, ℕ, IfOk, OnOk, false, true, length, take};
 ghost use Rattle.std.specs.Fmt.{decimal, signed_decimal};
 ghost use Rattle.csv.specs.Writing.{default_writer, field_text, needs_byte, needs_quotes};
@@ -17,7 +18,7 @@ use std::alloc::AllocError;
 // How many rows are looked at before the first of them is written.
 const AHEAD: usize = 64;
 
-// Where the rows end that are looked at together.
+// Where the block of rows ends that begins at `start`.
 pub(crate) fn block_end(start: usize, rows: usize) -> usize
     requires { start < rows }
     ensures more { start < result }
@@ -30,7 +31,7 @@ pub(crate) fn block_end(start: usize, rows: usize) -> usize
     }
 }
 
-// Whether each row from the one position up to the other, which it leaves out, has a cell, and plain fields alone.
+// Whether each row from `start` up to `end` has a cell, and only fields that need no quotes.
 pub(crate) fn are_bare(rows: &Rows, start: usize, end: usize) -> bool
     requires { end ≤ length rows.now }
     ensures bare { result ≡ true → AreBare rows.now start end }
@@ -50,9 +51,9 @@ pub(crate) fn are_bare(rows: &Rows, start: usize, end: usize) -> bool
     true
 }
 
-// A first look, at the last value of each row, and at the first too where both ends are asked for: false only where a row is
-// not bare. Only speed rests on it. Texts may stand apart from the numbers behind them, which tell where: so rows that begin with
-// texts are looked at twice, at their last values first.
+// False only if a row isn't bare, by its last value and with `both_ends` by its first. Only speed
+// depends on it: texts may be out of line, so rows that begin with texts are checked twice, by
+// their last values first.
 #[inline(always)]
 fn may_be_bare(rows: &Rows, start: usize, end: usize, both_ends: bool) -> bool
     requires { end ≤ length rows.now }
@@ -73,7 +74,7 @@ fn may_be_bare(rows: &Rows, start: usize, end: usize, both_ends: bool) -> bool
     true
 }
 
-// Whether the first of these rows begins with a number, as then most others do.
+// Whether the first of these rows begins with a number; then most others do, too.
 #[inline(always)]
 fn begins_with_number(rows: &Rows, start: usize, end: usize) -> bool
     requires { end ≤ length rows.now }
@@ -85,20 +86,20 @@ fn begins_with_number(rows: &Rows, start: usize, end: usize) -> bool
     !row.is_empty() && matches!(row.cell(0), CellRef::Int(_))
 }
 
-// False only where a cell is not bare, by the last byte of a text.
+// False only if a cell isn't bare; of a text only the last byte is checked.
 #[inline(always)]
 fn cell_may_be_bare(cell: CellRef<'_>) -> bool
     ensures { result ≡ false → is_bare (value_of cell.entry) ≡ false }
 {
     match cell {
         CellRef::Null => true,
-        // Each number is looked at: the least is left to the CSV writer.
+        // The comparison reads the number. The minimum is left to the CSV writer.
         CellRef::Int(n) => n != i64::MIN,
         CellRef::Text(text) | CellRef::NoCase(text) => ends_plainly(text.as_str().as_bytes()),
     }
 }
 
-// Whether a field has a last byte, which calls for no quotes.
+// Whether a field has a last byte, and that byte needs no quotes.
 #[inline(always)]
 fn ends_plainly(field: &[u8]) -> bool
     ensures { result ≡ false → is_plain field.now ≡ false }
@@ -133,7 +134,7 @@ fn is_bare(cell: CellRef<'_>) -> bool
     }
 }
 
-// Whether a field has a byte, and none that calls for quotes.
+// Whether a field has bytes, and none of them needs quotes.
 #[inline]
 fn is_plain(field: &[u8]) -> bool
     ensures { result ≡ is_plain field.now }
@@ -148,7 +149,7 @@ fn needs_quotes(field: &[u8]) -> bool
     field.iter().any(|byte| needs_byte(*byte))
 }
 
-// Whether a byte calls for quotes. Letters and digits stand behind all of these, and take one comparison.
+// Whether a byte needs quotes. Letters and digits are above all of these, and take one comparison.
 #[inline]
 fn needs_byte(byte: u8) -> bool
     ensures { result ≡ needs_byte default_writer byte }
@@ -156,7 +157,7 @@ fn needs_byte(byte: u8) -> bool
     byte <= b',' && matches!(byte, b',' | b'"' | b'\n' | b'\r')
 }
 
-// Writes the records of the rows from the one position up to the other.
+// Writes the records of the rows from `start` up to `end`.
 pub(crate) fn write_block(
     text: &mut Vec<u8>,
     rows: &Rows,
@@ -188,7 +189,7 @@ fn write_row(text: &mut Vec<u8>, row: &RowRef<'_>) -> Result<(), AllocError>
     write_cell(text, row.cell(last), b'\n')
 }
 
-// Writes the field of a cell, and the byte behind it.
+// Writes the field of a cell, and the byte after it.
 #[inline(always)]
 fn write_cell(text: &mut Vec<u8>, cell: CellRef<'_>, end: u8) -> Result<(), AllocError>
     requires { is_bare (value_of cell) ≡ true }
@@ -211,7 +212,8 @@ fn write_text(text: &mut Vec<u8>, field: &Text, end: u8) -> Result<(), AllocErro
     Ok(())
 }
 
-// Writes a number. Counts, sums and keys mostly have few digits, which take less time than a buffer for the longest number.
+// Writes a number. Counts, sums and keys mostly have few digits, which are written faster without
+// the buffer for the longest number.
 #[inline(always)]
 fn write_number(text: &mut Vec<u8>, n: i64, end: u8) -> Result<(), AllocError>
     ensures { OnOk result (text.new.items ≡ text.old.items ++ signed_decimal n ++ end ∷ []) }
@@ -223,7 +225,7 @@ fn write_number(text: &mut Vec<u8>, n: i64, end: u8) -> Result<(), AllocError>
     }
 }
 
-// Writes up to three digits. The length of each array is known before the program runs, so that no call copies it.
+// Writes up to three digits. The length of each array is a constant, so no call copies it.
 #[inline(always)]
 fn write_small(text: &mut Vec<u8>, n: u16, end: u8) -> Result<(), AllocError>
     requires { n < 1000 }
@@ -240,7 +242,8 @@ fn write_small(text: &mut Vec<u8>, n: u16, end: u8) -> Result<(), AllocError>
     text.extend_from_slice(&[last_digit(n / 100), tens, ones, end])
 }
 
-// Writes four to six digits. Arrays of two bytes and of four are stored at once, which one of three is not.
+// Writes four to six digits. Arrays of two and of four bytes are stored at once, arrays of three
+// are not.
 #[inline(always)]
 fn write_thousands(text: &mut Vec<u8>, n: u32, end: u8) -> Result<(), AllocError>
     requires low { 1000 ≤ n }
@@ -264,7 +267,7 @@ fn last_digit(n: u16) -> u8
     b'0' + (n % 10) as u8
 }
 
-// Stands by itself, so that the loop over the cells makes no room for the buffer.
+// Not inlined, so that the loop over the cells reserves no space for the buffer.
 #[inline(never)]
 fn write_long(text: &mut Vec<u8>, n: i64, end: u8) -> Result<(), AllocError>
     ensures { OnOk result (text.new.items ≡ text.old.items ++ signed_decimal n ++ end ∷ []) }

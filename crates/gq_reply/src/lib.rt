@@ -1,15 +1,15 @@
-//! Replies to commands: what there is to answer, the refusals with their numbers and names, and
-//! the bytes of each reply.
+//! Replies to commands: their results, the refusals with their numbers and names, and the bytes of
+//! each reply.
 //!
-//! [`Reply`] is what a command comes to, [`Refusal`] why it was refused, and [`reply_text`] the
-//! bytes that are written: a line `ok` or `err`, and behind `ok` the rows of a query as CSV
-//! records under their header. Replies of one line are made without memory ([`line_of`]).
+//! [`Reply`] is the result of a command, [`Refusal`] is why it was refused, and [`reply_text`]
+//! returns the bytes that are written: a line `ok` or `err`, and after `ok` the rows of a query as
+//! CSV records under their header. Replies of one line are made without allocation ([`line_of`]).
 //!
-//! # The contract above this crate
+//! # The contract
 //!
-//! [`reply_text`] gives the text of the reply as `specs/Replies.antt` spells it, or there was no
-//! memory for it: `ok` and the number of rows, then the records of the CSV writer, null as `\N`;
-//! or `err`, the number and the name of the refusal, and the number of a payload's record where
+//! [`reply_text`] returns the text of the reply as `specs/Replies.antt` defines it, or an
+//! allocation failed: `ok` and the number of rows, then the records of the CSV writer, null as
+//! `\N`; or `err`, the number and the name of the refusal, and the number of a payload's record if
 //! there is one.
 #![tactic(auto)]
 

@@ -11,7 +11,7 @@ use std::fmt;
 /// Why a command was refused. Refused commands change no table.
 #[derive(Clone, Copy, Debug, PartialEq, Eq)]
 pub enum Refusal {
-    /// The line is no command.
+    /// The line isn't a command.
     Syntax,
     /// The line is longer than the limit.
     LineTooLong,
@@ -21,7 +21,7 @@ pub enum Refusal {
     TableExists,
     /// The table has no column of that name.
     NoColumn,
-    /// A value is of another kind than its column, or there are too many or too few.
+    /// A value's kind isn't its column's, or there are too many or too few values.
     TypeMismatch,
     /// The table has no key.
     NoKey,
@@ -31,15 +31,15 @@ pub enum Refusal {
     Header,
     /// A record has more or fewer fields than the header.
     FieldCount,
-    /// A field is no whole number of 64 bits.
+    /// A field isn't a whole number of 64 bits.
     BadInt,
-    /// A field is not UTF-8.
+    /// A field isn't UTF-8.
     BadText,
-    /// A sum is no whole number of 64 bits.
+    /// A sum doesn't fit 64 bits.
     SumRange,
-    /// Something is past a limit.
+    /// Something exceeds a limit.
     Limit,
-    /// A request for memory was refused.
+    /// An allocation failed.
     Memory,
     /// The run store failed.
     StoreFault,
@@ -50,7 +50,7 @@ pub enum Refusal {
 }
 
 impl Refusal {
-    /// Its number, which stays the same from version to version.
+    /// Its number, which is the same in all versions.
     pub fn code(self) -> u8
         ensures { result ≡ code_of self }
     {
@@ -103,7 +103,7 @@ impl Refusal {
         }
     }
 
-    /// What it means, in plain words.
+    /// What it means, in a few words.
     pub fn words(self) -> &'static str
         ensures words { result.now ≡ words_of self }
         ensures short { length result.now ≤ 80 }
@@ -146,11 +146,11 @@ impl fmt::Display for Refusal {
 
 impl Error for Refusal {}
 
-/// Why a command was refused, and the number of the faulty record where a payload has one.
+/// Why a command was refused, and the number of a payload's faulty record if there is one.
 #[derive(Clone, Copy, Debug, PartialEq, Eq)]
 pub struct Refused {
     pub why: Refusal,
-    /// 1 is the record behind the header.
+    /// 1 is the record after the header.
     pub number: Option<u64>,
 }
 

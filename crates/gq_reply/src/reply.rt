@@ -10,11 +10,11 @@ use gq_row::{Sequence, Text};
 /// The reply to a command.
 #[derive(Drop)]
 pub enum Reply {
-    /// Carried out; the number of rows that it put, or 0 for a new table.
+    /// Carried out; the number of rows that were put or deleted.
     Done(u64),
     /// The rows of a query, under the names of their columns.
     Rows { header: Sequence<Text>, rows: Rows },
-    /// Refused, and no table changed; `number` is that of the faulty record of a payload.
+    /// Refused, and no table changed; `number` is that of a payload's faulty record.
     Refused { code: Refusal, number: Option<u64> },
 }
 
@@ -26,7 +26,7 @@ impl Reply {
         Reply::told(Refused::from(why))
     }
 
-    /// The reply that tells a refusal.
+    /// The reply for a refusal.
     pub fn told(refused: Refused) -> Reply
         ensures { result ≡ told refused }
     {

@@ -1,4 +1,4 @@
-//! Replies of one line, made without memory.
+//! Replies of one line, made without allocation.
 ghost use Rattle.std.specs.Prelude.{◌≡◌, ◌∷◌, ◌++◌, ◌+◌, ◌≤◌, [], length};
 ghost use Rattle.gq_reply.specs.Replies.{text, accepted, IsLine};
 
@@ -6,7 +6,7 @@ use crate::reply::Reply;
 use itoa::Buffer;
 use std::marker::Model;
 
-/// Up to 96 bytes, seen as their list.
+/// Up to 96 bytes; the model is their list.
 #[derive(Drop)]
 pub struct ReplyLine {
     bytes: [u8; 96],

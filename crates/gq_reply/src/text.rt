@@ -15,7 +15,7 @@ use gq_row::{Sequence, Text};
 use itoa::Buffer;
 use std::alloc::{AllocError, Global};
 
-/// The bytes of a reply, each of its lines ended by LF.
+/// The bytes of a reply; each line ends with LF.
 pub fn reply_text(alloc: Global, reply: &Reply) -> Result<Vec<u8>, AllocError>
     ensures { IfOk result (λ bytes. bytes.items ≡ text reply.now) }
 {
@@ -84,7 +84,7 @@ fn with_header(
     whole_text(writer)
 }
 
-// A text with the records of the rows behind it that stand from the one position up to the other.
+// Appends the records of the rows from `from` up to `to`.
 fn with_rows(
     alloc: Global,
     text: Vec<u8>,
@@ -105,7 +105,7 @@ fn with_rows(
     Ok(text)
 }
 
-// Likewise, by the writer that knows which fields call for quotes.
+// The same with the CSV writer, which knows which fields need quotes.
 fn with_records(
     alloc: Global,
     text: Vec<u8>,
@@ -127,7 +127,7 @@ fn with_records(
     whole_text(writer)
 }
 
-// What a writer wrote.
+// The bytes that a writer wrote.
 fn whole_text(writer: Writer<Vec<u8>>) -> Result<Vec<u8>, AllocError>
     ensures { (bytes : List ℕ) → HasWritten writer bytes → IfOk result (λ text. text.items ≡ bytes) }
 {
@@ -137,7 +137,7 @@ fn whole_text(writer: Writer<Vec<u8>>) -> Result<Vec<u8>, AllocError>
     }
 }
 
-// Puts names into a record, in place of what it held.
+// Replaces the fields of a record by names.
 fn fill_header(line: &mut ByteRecord, names: &[Text]) -> Result<(), AllocError>
     ensures { OnOk result (fields_of line.new ≡ names.now) }
 {
@@ -148,7 +148,7 @@ fn fill_header(line: &mut ByteRecord, names: &[Text]) -> Result<(), AllocError>
     Ok(())
 }
 
-// Puts the cells of a row into a record, in place of what it held.
+// Replaces the fields of a record by the cells of a row.
 fn fill_row(line: &mut ByteRecord, row: &RowRef<'_>) -> Result<(), AllocError>
     ensures { OnOk result (fields_of line.new ≡ map cell_text row.now) }
 {
