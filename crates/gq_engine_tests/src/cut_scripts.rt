@@ -1,5 +1,5 @@
-//! Scripts with payloads, cut after each of their bytes, and over readers and writers that fail at each
-//! of their calls. What is due then was written by hand.
+//! Scripts with payloads, cut after each of their bytes, and over readers and writers that fail at
+//! each of their calls. The expected replies are written by hand.
 use crate::devices::{Fussy, Pieces, Trouble};
 use crate::engines::{engine, written_to};
 use gq_engine::{Fault, Summary};
@@ -9,8 +9,8 @@ use std::io::ErrorKind;
 use std::process::Abort;
 use std::test::Fail;
 
-/// A part of a script, what is answered where the script ends at one of its bytes, and whether that
-/// stays the answer where more follows.
+/// A part of a script, the reply if the script ends within it, and whether that stays the reply if
+/// more bytes follow.
 type Part<'a> = (&'a [u8], &'a [u8], bool);
 
 const SYNTAX: &[u8] = b"err 1 Syntax\n";
@@ -73,7 +73,7 @@ fn script_of(alloc: Global, parts: &[Part]) -> Result<Vec<u8>, AllocError> {
     Ok(script)
 }
 
-/// What so many of the first bytes of the script must be answered.
+/// The replies to the first `count` bytes of the script.
 fn replies_to_front(alloc: Global, parts: &[Part], count: usize) -> Result<Vec<u8>, AllocError> {
     let mut replies = Vec::new(alloc);
     let mut left = count;
@@ -103,7 +103,7 @@ fn run_into(alloc: Global, script: &[u8], writer: &mut Fussy) -> Result<Summary,
     engine.run(script, writer)
 }
 
-/// Asserts that the script is answered as is due wherever it is cut, at once and a byte at a time.
+/// Asserts the replies to the script cut at each byte, read at once and one byte at a time.
 fn assert_cut(rt: &impl Abort, alloc: Global, parts: &[Part]) -> Result<(), Fail> {
     let whole = script_of(alloc, parts)?;
     for count in 0..whole.len().saturating_add(1) {
@@ -128,14 +128,14 @@ fn a_refused_payload_is_cut(rt: HostRuntime) -> Result<(), Fail> {
     assert_cut(&rt, rt.alloc(), &REFUSED)
 }
 
-/// What `show` gives behind a script.
+/// The reply to `show` after a script.
 fn shown_after(alloc: Global, script: &[u8]) -> Vec<u8> {
     let mut engine = engine(alloc, Limits::greatest());
     let _ = written_to(alloc, &mut engine, script);
     written_to(alloc, &mut engine, b"show s\n")
 }
 
-/// The table stands after the payload without an end as before it.
+/// The payload without an end leaves the table as it was.
 #[test]
 fn an_open_payload_is_cut(rt: HostRuntime) -> Result<(), Fail> {
     assert_cut(&rt, rt.alloc(), &LEFT_OPEN)?;
@@ -145,8 +145,8 @@ fn an_open_payload_is_cut(rt: HostRuntime) -> Result<(), Fail> {
     Ok(())
 }
 
-/// Asserts that a fault is told at each read of one byte that fails, in turn, and that what was written
-/// is a front of what is due of the whole script.
+/// Asserts that each read of one byte, if it fails, ends the run in a fault, and that what was
+/// written is a prefix of the whole script's replies.
 fn assert_reads_fail(rt: &impl Abort, alloc: Global, parts: &[Part]) -> Result<(), Fail> {
     let whole = script_of(alloc, parts)?;
     let due = replies_to_front(alloc, parts, whole.len())?;
@@ -174,8 +174,8 @@ fn reads_fail_within_payloads(rt: HostRuntime) -> Result<(), Fail> {
     assert_reads_fail(&rt, rt.alloc(), &LEFT_OPEN)
 }
 
-/// Asserts that a fault is told at each write that has some trouble, in turn, of a writer that takes a
-/// byte at a time, and that the bytes before it were written.
+/// Asserts that each write of one byte, if it has this trouble, ends the run in a fault, and that
+/// the bytes before it were written.
 fn assert_writes_fail(
     rt: &impl Abort,
     alloc: Global,

@@ -1,9 +1,9 @@
-//! Readers and writers as bad as they come.
+//! Readers and writers that misbehave.
 use std::alloc::Global;
 use std::io::{self, ErrorKind, Read, Write};
 
-/// Gives its bytes in pieces of at most a size, and fails at one call, counted from 1. It fails
-/// once, and would go on after that.
+/// Returns its bytes in pieces of at most `size`, and fails once, at call `fails_at`, counted from
+/// 1. Later calls succeed.
 #[derive(Drop)]
 pub struct Pieces<'a> {
     pub bytes: &'a [u8],
@@ -23,7 +23,7 @@ impl<'a> Pieces<'a> {
         }
     }
 
-    /// Pieces of one byte, of which a read fails.
+    /// Pieces of one byte; one read fails.
     pub fn failing(bytes: &'a [u8], fails_at: usize, error: ErrorKind) -> Pieces<'a> {
         Pieces {
             bytes,
@@ -48,7 +48,7 @@ impl<'a> Read for Pieces<'a> {
     }
 }
 
-/// Gives two bytes, again and again, and has no end.
+/// Returns two bytes over and over, without an end.
 #[derive(Drop)]
 pub struct Endless {
     pub bytes: [u8; 2],
@@ -74,16 +74,16 @@ impl Read for Endless {
 /// What goes wrong with a writer.
 #[derive(Clone, Copy, Debug, PartialEq, Eq)]
 pub enum Trouble {
-    /// A write answers this error and takes nothing.
+    /// A write fails with this error and takes nothing.
     Write(ErrorKind),
     /// A write takes nothing.
     Full,
-    /// A flush answers this error.
+    /// A flush fails with this error.
     Flush(ErrorKind),
 }
 
-/// Takes a few bytes at each write, and has trouble at one of its calls, counted from 1: writes and
-/// flushes are counted apart. It has trouble once, and would go on after that.
+/// Takes at most `most` bytes at each write, and has trouble once, at its k-th write or flush; the
+/// two are counted separately, from 1. Later calls succeed.
 #[derive(Drop)]
 pub struct Fussy {
     pub written: Vec<u8>,

@@ -1,4 +1,4 @@
-//! Engines to try.
+//! Engines to test.
 use gq_engine::{Budget, Engine, Fault, MemStore, RunStore, Summary};
 use gq_row::{Key, Limits};
 use std::alloc::{AllocError, Global};
@@ -18,13 +18,12 @@ pub fn engine_with<H: KeyHash<Key> + Copy>(
     }
 }
 
-/// The same, under FNV-1a.
+/// The same with FNV-1a.
 pub fn engine(alloc: Global, limits: Limits) -> Engine<Fnv1a, MemStore> {
     engine_with(alloc, Fnv1a { seed: 0 }, limits)
 }
 
-/// An engine without tables at the greatest limits, over a run store and within a budget of so many
-/// groups.
+/// An engine without tables, with the largest limits, this run store, and a budget of `groups`.
 pub fn engine_over<H: KeyHash<Key> + Copy, S: RunStore + Drop>(
     alloc: Global,
     hasher: H,
@@ -37,7 +36,7 @@ pub fn engine_over<H: KeyHash<Key> + Copy, S: RunStore + Drop>(
     Ok(Engine::new(alloc, hasher, store, budget, Limits::greatest()))
 }
 
-/// Runs a script. Nothing is said of what comes of it, which a proof of a test has no use for.
+/// Runs a script. It has no contract, as the proofs of tests need none.
 pub fn run<H: KeyHash<Key> + Copy, S: RunStore, R: Read + Drop, W: Write>(
     engine: &mut Engine<H, S>,
     reader: R,
@@ -46,7 +45,7 @@ pub fn run<H: KeyHash<Key> + Copy, S: RunStore, R: Read + Drop, W: Write>(
     engine.run(reader, writer)
 }
 
-/// What an engine writes to a script.
+/// What an engine writes for a script.
 pub fn written_to<H: KeyHash<Key> + Copy, S: RunStore>(
     alloc: Global,
     engine: &mut Engine<H, S>,
@@ -57,7 +56,7 @@ pub fn written_to<H: KeyHash<Key> + Copy, S: RunStore>(
     written
 }
 
-/// What an engine answers to a script, without a fault.
+/// What an engine writes for a script, which must run without a fault.
 pub fn answers<H: KeyHash<Key> + Copy, S: RunStore>(
     alloc: Global,
     engine: &mut Engine<H, S>,
@@ -70,7 +69,7 @@ pub fn answers<H: KeyHash<Key> + Copy, S: RunStore>(
     }
 }
 
-/// What an engine without tables writes to a script under limits, and how the run ends.
+/// What an engine without tables writes for a script under limits, and how the run ends.
 pub fn run_alone<R: Read + Drop>(
     alloc: Global,
     limits: Limits,

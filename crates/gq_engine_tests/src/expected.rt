@@ -1,13 +1,13 @@
-//! What was found, beside what is due.
+//! Compares what was found with what is due.
 use std::fmt::Debug;
 use std::process::Abort;
 
-/// Expects that what was found is what is due.
+/// Expects `found` to equal `due`.
 pub fn expect<T: PartialEq + Debug + Copy>(rt: &impl Abort, found: T, due: T) {
     assert_eq!(rt; found, due);
 }
 
-/// Expects it of a case.
+/// The same for one case of several.
 pub fn expect_at<C: Debug + Copy, T: PartialEq + Debug + Copy>(
     rt: &impl Abort,
     case: C,

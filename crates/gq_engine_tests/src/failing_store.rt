@@ -1,5 +1,5 @@
-//! Queries of four rows one group at a time, over a store of which each call fails in turn: one query is
-//! answered that the store failed, and the others as they must be.
+//! Queries of four rows, one group at a time, over a store of which each call fails in turn: one
+//! query is answered `StoreFault`, and the others as expected.
 use crate::engines::{engine_over, written_to};
 use gq_engine::MemStore;
 use gq_row::Key;
@@ -42,8 +42,7 @@ fn script_of(alloc: Global, queries: &[(&[u8], &[u8])]) -> Result<Vec<u8>, Alloc
     Ok(script)
 }
 
-/// How many of the queries were answered that the store failed, where each other was answered as it
-/// must be.
+/// How many of the queries are answered `StoreFault`; `None` if another answer is wrong.
 fn failed_of(queries: &[(&[u8], &[u8])], answers: &[u8]) -> Option<usize> {
     let mut left = answers;
     let mut failed = 0usize;
@@ -59,7 +58,7 @@ fn failed_of(queries: &[(&[u8], &[u8])], answers: &[u8]) -> Option<usize> {
     if left.is_empty() { Some(failed) } else { None }
 }
 
-/// How many of the queries were answered that the store failed, of which a call of a number does.
+/// How many of the queries are answered `StoreFault` if this call of the store fails.
 fn failed_at<H: KeyHash<Key> + Copy>(
     rt: &impl Abort,
     alloc: Global,
@@ -76,7 +75,7 @@ fn failed_at<H: KeyHash<Key> + Copy>(
     Ok(failed_of(&QUERIES, answers.as_slice()))
 }
 
-/// Lets each call fail in turn until none does; how many did.
+/// Lets each call fail in turn until none does, and returns how many did.
 fn failing<H: KeyHash<Key> + Copy>(rt: &impl Abort, alloc: Global, hasher: H) -> Result<u64, Fail> {
     for call in 1..1_000u64 {
         match failed_at(rt, alloc, hasher, call)? {
@@ -88,7 +87,7 @@ fn failing<H: KeyHash<Key> + Copy>(rt: &impl Abort, alloc: Global, hasher: H) ->
     Err(Fail::new("calls failed to the end"))
 }
 
-/// Each query makes a run, writes to it and reads it, or more.
+/// Each query makes at least one run, writes to it and reads it.
 #[test]
 fn each_call_fails_in_turn(rt: HostRuntime) -> Result<(), Fail> {
     let spread = failing(&rt, rt.alloc(), Fnv1a { seed: 0 })?;

@@ -1,4 +1,4 @@
-//! Readers and writers that fail: what was written then, and what the tables are.
+//! Readers and writers that fail: what was written by then, and what the tables hold.
 use crate::devices::{Endless, Fussy, Pieces, Trouble};
 use crate::engines::{answers, engine, run, run_alone};
 use crate::expected::expect_at;
@@ -19,7 +19,7 @@ fn replies_to(alloc: Global, lines: usize) -> Result<Vec<u8>, AllocError> {
     Ok(replies)
 }
 
-/// What a count by city gives after the first commands of the script, from one on.
+/// The answer of a count by city after the first `commands` of the script.
 fn cities_after(commands: usize) -> &'static [u8] {
     match commands {
         0 => b"err 3 NoTable\n",
@@ -30,8 +30,8 @@ fn cities_after(commands: usize) -> &'static [u8] {
     }
 }
 
-/// Runs a script over no tables, and expects that it ends in a fault, and that the tables are then
-/// those after the first commands of the script.
+/// Runs a script without tables, and expects that it ends in this fault, and that the tables are
+/// then those after the first `commands` of the script.
 fn expect_fault<R: Read + Drop, W: Write>(
     rt: &impl Abort,
     alloc: Global,
@@ -48,7 +48,7 @@ fn expect_fault<R: Read + Drop, W: Write>(
     Ok(())
 }
 
-/// How many lines are whole within the first bytes of a script.
+/// How many lines end within the first bytes of a script.
 fn lines_within(script: &[u8], bytes: usize) -> usize {
     script
         .iter()
@@ -73,8 +73,8 @@ fn expect_read_fault(
     Ok(())
 }
 
-/// A read that fails at each call in turn: the lines that came whole are answered, and then the
-/// fault comes.
+/// A read fails at each call in turn: the lines that were read whole are answered, then the run
+/// ends.
 #[test]
 fn each_read_fails(rt: HostRuntime) -> Result<(), Fail> {
     let whole = script(rt.alloc())?;
@@ -86,7 +86,7 @@ fn each_read_fails(rt: HostRuntime) -> Result<(), Fail> {
     Ok(())
 }
 
-/// So many lines that say no command are answered, and then the limit is met.
+/// This many lines that aren't commands are answered before the script reaches its limit.
 fn expect_no_end(
     rt: &impl Abort,
     alloc: Global,
@@ -104,7 +104,7 @@ fn expect_no_end(
     Ok(())
 }
 
-/// A script without an end meets the limit on its bytes.
+/// A script without an end reaches the limit on its bytes.
 #[test]
 fn a_reader_without_an_end(rt: HostRuntime) -> Result<(), Fail> {
     let Some(limits) = Limits::new(Bounds {
@@ -113,7 +113,7 @@ fn a_reader_without_an_end(rt: HostRuntime) -> Result<(), Fail> {
     }) else {
         return Err(Fail::new("no limits"));
     };
-    // Blank lines, one line without an end, and lines of one letter: of these the fifty that are
+    // Blank lines, a line without an end, and lines of one letter, of which the fifty that are
     // whole within the limit are answered.
     let cases: [([u8; 2], usize); 4] = [(*b"\n\n", 0), (*b"xx", 0), (*b"  ", 0), (*b"x\n", 50)];
     for (bytes, lines) in cases {
@@ -122,8 +122,8 @@ fn a_reader_without_an_end(rt: HostRuntime) -> Result<(), Fail> {
     Ok(())
 }
 
-/// A writer that takes a byte at a time has trouble at its k-th write: a front of what is due was
-/// written, and the tables are as after the command whose reply was being written.
+/// A writer that takes one byte at a time has trouble at its k-th write: only the bytes before it
+/// were written, and the tables are those after the command whose reply was being written.
 fn expect_write_fault(
     rt: &impl Abort,
     alloc: Global,

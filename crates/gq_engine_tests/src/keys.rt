@@ -1,5 +1,5 @@
-//! Keys hashed and compared, owned and borrowed, with ample memory. The hashes were computed by
-//! another program from the bytes that stand here.
+//! Keys hashed and compared, owned and borrowed, with ample memory. Another program computed the
+//! expected hashes from the bytes that are given here.
 use crate::expected::{expect, expect_at};
 use crate::plain::{Plain, are, row_of, values_of};
 use gq_row::{Key, KeyCells, KeyRef, Row, Value};
@@ -20,7 +20,7 @@ fn expect_hash<Q: Names<Key>>(rt: &impl Abort, seed: u64, key: &Q, due: u64) {
     expect_at(rt, seed, hash, due);
 }
 
-/// The whole row as a key of its own and as cells.
+/// The hash of the whole row, as an owned key and as cells.
 fn expect_whole(rt: &impl Abort, alloc: Global, row: &Row) -> Result<(), AllocError> {
     assert!(rt; row.len() == 3);
     let key = Key::of(alloc, row.cells(), &[0, 1, 2])?;
@@ -30,8 +30,8 @@ fn expect_whole(rt: &impl Abort, alloc: Global, row: &Row) -> Result<(), AllocEr
     Ok(())
 }
 
-/// Columns of the row, borrowed: all; over 02 00000004 4f736c6f, 00, since they have an order of their
-/// own; and over no bytes.
+/// Hashes of borrowed columns of the row: of all; of two in another order, over 02 00000004
+/// 4f736c6f, 00; and of none.
 fn expect_borrowed(rt: &impl Abort, row: &Row) {
     assert!(rt; row.len() == 3);
     expect_hash(rt, 0, &KeyRef::new(row.cells(), &[0, 1, 2]), WHOLE);
@@ -55,7 +55,7 @@ fn expect_cells(
     Ok(())
 }
 
-/// Beside those of the row over 00, and over 02 00000000.
+/// The hashes of the row, and those over 00 and over 02 00000000.
 #[test]
 fn worked_hashes(rt: HostRuntime) -> Result<(), Fail> {
     let row = row_of(rt.alloc(), &WORKED)?;
@@ -69,7 +69,7 @@ fn worked_hashes(rt: HostRuntime) -> Result<(), Fail> {
 /// FNV-1a over 03 00000004 6f736c6f, 02 00000004 4f736c6f: a text without case, and one with it.
 const FOLDED: u64 = 0x4745_8fb2_1ffb_f272;
 
-/// A row of both, in each form.
+/// The hash of a row of both, in each form.
 fn expect_folded(rt: &impl Abort, alloc: Global, row: &Row) -> Result<(), AllocError> {
     assert!(rt; row.len() == 2);
     expect_hash(rt, 0, &Key::of(alloc, row.cells(), &[0, 1])?, FOLDED);
@@ -78,7 +78,7 @@ fn expect_folded(rt: &impl Abort, alloc: Global, row: &Row) -> Result<(), AllocE
     Ok(())
 }
 
-/// Each spelling, and then over 03 00000000, 03 00000002 c389 and 03 00000002 c3a9.
+/// The hash of each spelling, and those over 03 00000000, 03 00000002 c389 and 03 00000002 c3a9.
 #[test]
 fn hashes_without_case(rt: HostRuntime) -> Result<(), Fail> {
     let alloc = rt.alloc();
@@ -106,7 +106,7 @@ fn expect_same<Q: Names<Key>>(rt: &impl Abort, asked: &Q, key: &Key, due: bool) 
     expect(rt, asked.same(key), due);
 }
 
-/// The key is of the row's last column and the one before it.
+/// The key is the row's last column and the one before it.
 fn expect_turned(rt: &impl Abort, row: &Row, key: &Key) {
     assert!(rt; row.len() == 3);
     expect_same(rt, &KeyRef::new(row.cells(), &[2, 1]), key, true);
@@ -128,7 +128,7 @@ fn same_in_each_form(rt: HostRuntime) -> Result<(), Fail> {
     Ok(())
 }
 
-/// Whether a row's one value is the key's, in each form.
+/// Whether a row's only value equals the key, in each form.
 fn expect_spelled(
     rt: &impl Abort,
     alloc: Global,
@@ -163,7 +163,7 @@ fn spellings_are_one_key(rt: HostRuntime) -> Result<(), Fail> {
     Ok(())
 }
 
-/// A key of two columns stands in its slot whole.
+/// A key of two columns is stored whole in its slot.
 #[test]
 fn sizes(rt: HostRuntime) {
     expect(&rt, size_of::<Value>(), 32);

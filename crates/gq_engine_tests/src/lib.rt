@@ -1,9 +1,9 @@
-//! Tests of the engine and of the crates that it stands on, from the values up to whole runs.
+//! Tests of the engine and of the crates that it uses, from values up to whole runs.
 //!
-//! They try what no contract says: that calls succeed where memory is ample, and answer what the
-//! language's rules say, written here by hand; what a run does at each limit and one past it;
-//! readers, writers and run stores that fail, and stores that lie; and scripts while memory runs out.
-//! They stand here so that the crates below are proved without them.
+//! They test what no contract covers: that calls succeed if memory is ample, and return what the
+//! language's rules say, which is written here by hand; what a run does at each limit and one past
+//! it; readers, writers and run stores that fail, and stores that lie; and scripts while memory
+//! runs out. They are a crate of their own, so that the crates below are proved without them.
 #![tactic(auto)]
 
 #[cfg(test)]

@@ -7,7 +7,7 @@ use std::alloc::Global;
 use std::process::Abort;
 use std::test::Fail;
 
-/// The greatest bounds, and a field's place among them.
+/// The largest bounds, by the names of their fields.
 const FIELDS: [(&str, u64); 9] = [
     ("tables", 64),
     ("columns", 128),
@@ -20,7 +20,7 @@ const FIELDS: [(&str, u64); 9] = [
     ("script", 1_099_511_627_776),
 ];
 
-/// The greatest bounds with another value in one field.
+/// The largest bounds, with another value in one field.
 fn with(field: &str, value: u64) -> Bounds {
     let mut bounds = Limits::greatest().bounds;
     let size = value as usize;
@@ -38,7 +38,7 @@ fn with(field: &str, value: u64) -> Bounds {
     bounds
 }
 
-/// Expects that a field takes a value, which it has then.
+/// Expects that a field accepts a value.
 fn expect_taken(rt: &impl Abort, field: &str, value: u64) {
     let made = Limits::new(with(field, value));
     let taken = made.is_some_and(|limits| limits.bounds == with(field, value));
@@ -50,7 +50,7 @@ fn expect_refused(rt: &impl Abort, field: &str, value: u64) {
     expect_at(rt, (field, value), refused, true);
 }
 
-/// Asserts that each field takes values from one to its greatest, and no others.
+/// Asserts that each field accepts values from one to its maximum, and no others.
 fn assert_fields(rt: &impl Abort, fields: &[(&str, u64)]) {
     for (field, greatest) in fields {
         for value in [1, *greatest] {
@@ -69,7 +69,7 @@ fn limits_from_one_to_the_greatest(rt: HostRuntime) {
     assert_fields(&rt, &FIELDS);
 }
 
-/// A field, its value, a script, and what it must write then.
+/// A field, its value, a script, and what the script must write under that limit.
 const CASES: [(&str, u64, &[u8], &[u8]); 17] = [
     (
         "tables",
@@ -83,7 +83,7 @@ const CASES: [(&str, u64, &[u8], &[u8]); 17] = [
         b"create a (x int, y int)\ncreate b (x int, y int, z int)\n",
         b"ok 0\nerr 14 Limit\n",
     ),
-    // The limit on columns is on `create` alone.
+    // The limit on columns applies only to `create`.
     (
         "columns",
         1,
@@ -108,7 +108,7 @@ const CASES: [(&str, u64, &[u8], &[u8]); 17] = [
         b"create a (x text)\nupsert a ('1234')\nupsert a ('12345')\nupsert a ('123''')\n",
         b"ok 0\nok 1\nerr 14 Limit\nok 1\n",
     ),
-    // Lines of 16 and of 17 bytes, the LF or CR LF behind them not counted.
+    // Lines of 16 and of 17 bytes, not counting the LF or CR LF after them.
     (
         "line",
         16,
@@ -135,8 +135,8 @@ const CASES: [(&str, u64, &[u8], &[u8]); 17] = [
         b"create a (x int, y int, key (x))\nupsert a (1, 1)\nupsert a (1, 2)\nupsert a (2, 2)\ngroup a by y show count(*)\n",
         b"ok 0\nok 1\nok 1\nerr 14 Limit\nok 1\ny,count(*)\n2,1\n",
     ),
-    // A load is refused by the rows that there would be, of one key one; and by its records, equal keys
-    // among them.
+    // A load is refused for the number of rows after it, where equal keys count once, and for the
+    // number of its records, equal keys included.
     (
         "rows",
         3,
@@ -149,7 +149,7 @@ const CASES: [(&str, u64, &[u8], &[u8]); 17] = [
         b"create s (id int, key (id))\nload s\nid\n1\n1\n1\n\\.\nload s\nid\n1\n1\n\\.\nshow s\n",
         b"ok 0\nerr 14 Limit\nok 2\nok 1\nid\n1\n",
     ),
-    // Payloads of four and of five bytes; of the longer one the header is not looked at.
+    // Payloads of four and of five bytes; the header of the longer one isn't looked at.
     (
         "payload",
         4,
@@ -162,7 +162,7 @@ const CASES: [(&str, u64, &[u8], &[u8]); 17] = [
     ("script", 3, b"\xEF\xBB\xBF", b""),
 ];
 
-/// Expects what a script writes under a limit, and whether a read fault ends it.
+/// Expects what a script writes under a limit, and whether it ends in a read fault.
 fn expect_case(
     rt: &impl Abort,
     alloc: Global,
@@ -181,7 +181,7 @@ fn expect_case(
     Ok(())
 }
 
-/// Asserts that each script writes what stands beside it, and ends in a read fault or does not.
+/// Asserts what each script writes, and whether it ends in a read fault.
 fn assert_cases(
     rt: &impl Abort,
     alloc: Global,
@@ -199,8 +199,8 @@ fn each_limit_and_one_past_it(rt: HostRuntime) -> Result<(), Fail> {
     assert_cases(&rt, rt.alloc(), &CASES, false)
 }
 
-/// Scripts of one byte more than their limit: the lines that are whole within the limit are answered,
-/// and then a read fault comes.
+/// Scripts of one byte more than their limit: the lines that are whole within the limit are
+/// answered before the read fault.
 const PAST: [(&str, u64, &[u8], &[u8]); 5] = [
     ("script", 16, b"create a (x int)\n", b""),
     ("script", 17, b"create a (x int)\n\n", b"ok 0\n"),

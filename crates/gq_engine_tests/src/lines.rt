@@ -1,5 +1,5 @@
-//! Lines and scripts, as users write them. Expected answers are the language's rules, written by
-//! hand.
+//! Lines and scripts, as users write them. The expected results are written by hand, from the
+//! language's rules.
 use crate::devices::Pieces;
 use crate::expected::{expect, expect_at};
 use crate::plain::{Plain, are};
@@ -13,7 +13,7 @@ use std::io::{ErrorKind, Read};
 use std::process::Abort;
 use std::test::Fail;
 
-/// Limits of a line and a script that a test can reach.
+/// Limits of a line and of a script that a test can reach.
 pub fn small(line: usize, script: u64) -> Option<Limits> {
     Limits::new(Bounds {
         tables: 2,
@@ -28,7 +28,7 @@ pub fn small(line: usize, script: u64) -> Option<Limits> {
     })
 }
 
-/// A command's form in one letter, a load's by its payload.
+/// A letter for a command's form; for a load by its payload.
 fn letter_of_command(command: &Command) -> char {
     match command {
         Command::Create { .. } => 'c',
@@ -47,7 +47,7 @@ fn letter_of_command(command: &Command) -> char {
     }
 }
 
-/// A refusal in one letter.
+/// A letter for a refusal.
 fn letter_of_refusal(refusal: &LineRefusal) -> char {
     match refusal {
         LineRefusal::Syntax => 'S',
@@ -64,13 +64,13 @@ fn letter_of_said(said: &Result<Command, LineRefusal>) -> char {
     }
 }
 
-/// What a line gives, in one letter.
+/// The letter for the result of a line.
 fn letter(alloc: Global, line: &[u8], limits: &Limits) -> char {
     let said = parse_line(alloc, line, limits);
     letter_of_said(&said)
 }
 
-/// Lines, each with what it gives at the greatest limits.
+/// Lines, each with its letter at the largest limits.
 const LINES: [(&[u8], char); 101] = [
     (b"create s (id int, city text, key (id))", 'c'),
     (b"CREATE s(id INT,city Text,KEY(id))", 'c'),
@@ -184,7 +184,7 @@ const LINES: [(&[u8], char); 101] = [
     (b"upsert s (1)\r", 'S'),
 ];
 
-/// Asserts that each line gives what stands beside it.
+/// Asserts the letter of each line.
 fn assert_letters(rt: &impl Abort, alloc: Global, limits: &Limits, lines: &[(&[u8], char)]) {
     for (line, want) in lines {
         expect_at(rt, *line, letter(alloc, line, limits), *want);
@@ -200,7 +200,7 @@ fn no_such_command() -> Fail {
     Fail::new("no such command")
 }
 
-/// The command that a line says at the greatest limits, alone in a list.
+/// The command of a line at the largest limits, as a list of one.
 fn said(alloc: Global, line: &[u8]) -> Result<Vec<Command>, Fail> {
     let mut said = Vec::new(alloc);
     match parse_line(alloc, line, &Limits::greatest()) {
@@ -222,7 +222,7 @@ fn expect_columns(rt: &impl Abort, columns: &[Column], due: &[(&str, Kind)]) {
     }
 }
 
-/// Expects one name alone.
+/// Expects exactly one name.
 fn expect_name(rt: &impl Abort, names: &[Text], due: &str) {
     expect(rt, names.len(), 1);
     assert!(rt; names.iter().all(|name| name.as_str() == due));
@@ -384,7 +384,7 @@ fn limits_of_a_line(rt: HostRuntime) -> Result<(), Fail> {
     Ok(())
 }
 
-/// A line of 40 bytes and one of 41; the length comes before all else.
+/// A line of 40 bytes and one of 41; the length is checked first.
 #[test]
 fn length_of_a_line(rt: HostRuntime) -> Result<(), Fail> {
     let Some(limits) = small(40, 1000) else {
@@ -396,7 +396,8 @@ fn length_of_a_line(rt: HostRuntime) -> Result<(), Fail> {
     Ok(())
 }
 
-/// What a `next` of a reader gave: a command's form, a refusal, `F` for a fault, `.` for the end.
+/// The letter for the result of `next`: a command's form, a refusal, `F` for a fault, `.` for the
+/// end.
 pub fn letter_of(given: &Result<Option<Item>, ReadFault>) -> char {
     match given {
         Ok(Some(Item::Command(command))) => letter_of_command(command),
@@ -406,13 +407,13 @@ pub fn letter_of(given: &Result<Option<Item>, ReadFault>) -> char {
     }
 }
 
-/// The same of a reader's next item.
+/// The letter for a reader's next item.
 fn next_letter<R: Read>(alloc: Global, reader: &mut CommandReader<R>, limits: &Limits) -> char {
     let given = reader.next(alloc, limits);
     letter_of(&given)
 }
 
-/// Scripts under small limits, each with what every `next` of its reader gives.
+/// Scripts under small limits, each with the letters of its reader's calls of `next`.
 const SCRIPTS: [(&[u8], &str); 19] = [
     (b"", ".."),
     (b"\xEF\xBB\xBF", "."),
@@ -444,7 +445,7 @@ const SCRIPTS: [(&[u8], &str); 19] = [
     (b"create abcde (a int)\nupsert s (1)", "Lu."),
 ];
 
-/// What so many calls of `next` give.
+/// The letters of the first `count` calls of `next`.
 pub fn letters<R: Read>(
     alloc: Global,
     reader: &mut CommandReader<R>,
@@ -458,7 +459,7 @@ pub fn letters<R: Read>(
     Ok(letters)
 }
 
-/// Expects what the calls of `next` of a new reader give.
+/// Expects the letters of a new reader's calls of `next`.
 pub fn expect_items<C: Debug + Copy, R: Read + Drop>(
     rt: &impl Abort,
     alloc: Global,
@@ -473,7 +474,7 @@ pub fn expect_items<C: Debug + Copy, R: Read + Drop>(
     Ok(())
 }
 
-/// Asserts that each script gives the items that stand beside it.
+/// Asserts the letters of each script.
 fn assert_items(
     rt: &impl Abort,
     alloc: Global,
@@ -496,7 +497,7 @@ fn items_of_a_script(rt: HostRuntime) -> Result<(), Fail> {
 
 const TWO: &[u8] = b"upsert s (1)\nupsert s (1)\n";
 
-/// A fault is for good, whatever limits come then.
+/// A fault is permanent, even if the limits change.
 fn expect_fault_for_good(rt: &impl Abort, alloc: Global, limits: [&Limits; 2]) -> Result<(), Fail> {
     let [less, whole] = limits;
     let mut reader = CommandReader::new(TWO);
@@ -533,8 +534,8 @@ fn pieces_of_any_size(rt: HostRuntime) -> Result<(), Fail> {
     Ok(())
 }
 
-/// The items of that script where a read fails behind so many bytes: what came before it whole, and
-/// then a fault for good.
+/// The items of that script if a read fails after this many bytes: those that were read whole, and
+/// then a permanent fault.
 fn until_a_fault(bytes: usize) -> &'static str {
     match bytes {
         0..=16 => "FF",

@@ -1,12 +1,12 @@
-//! Stores that lie: what they are asked to keep they keep, and read back something else.
+//! Stores that lie: they keep what is written, and read back something else.
 ghost use Rattle.std.specs.Prelude.{◌≤◌, length};
 
 use gq_engine::{MemStore, RunStore};
 use gq_spill::{RunId, StoreError};
 use std::alloc::Global;
 
-/// A store in memory, but that the byte at a place of one run reads as itself xor another. Runs are
-/// counted from 1, in the order in which they are made.
+/// A store in memory, but one byte of one run reads back xor `by`. Runs are counted from 1, in the
+/// order in which they are made.
 #[derive(Drop)]
 pub struct Altered {
     pub inner: MemStore,
@@ -46,8 +46,8 @@ impl RunStore for Altered {
     }
 }
 
-/// A store in memory, but that the first and the second run that were made read as each other. One
-/// that is not there reads as no bytes.
+/// A store in memory, but the first two runs read back as each other. A run that doesn't exist
+/// reads as no bytes.
 #[derive(Drop)]
 pub struct Swapped {
     inner: MemStore,
@@ -66,7 +66,7 @@ impl Swapped {
     }
 }
 
-// As many of the bytes from a place on as the buffer takes, at its front; how many these are.
+// Copies bytes from position `at` on to the start of the buffer, and returns how many fit.
 fn read_from(bytes: &[u8], at: u64, buffer: &mut [u8]) -> usize
     ensures { result ≤ length buffer.old }
 {

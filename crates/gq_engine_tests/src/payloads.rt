@@ -1,4 +1,4 @@
-//! Loads with their payloads, as a reader gives them. What is expected is written by hand.
+//! Loads with their payloads, as a reader returns them. The expected results are written by hand.
 use crate::devices::Pieces;
 use crate::expected::expect_at;
 use crate::lines::{expect_items, letter_of, letters, small};
@@ -9,14 +9,14 @@ use std::io::{ErrorKind, Read};
 use std::process::Abort;
 use std::test::Fail;
 
-/// An item of a script: a load of a table with these bytes, or one by its letter.
+/// An expected item: a load of this table with these bytes, or another one by its letter.
 #[derive(Clone, Copy)]
 enum Wanted {
     Load(&'static str, &'static [u8]),
     Other(char),
 }
 
-/// Loads whose payloads hold marks that close nothing, a refused load line, and an open payload.
+/// Loads whose payloads contain marks that close nothing, a refused load line, and an open payload.
 const SCRIPT: &[u8] =
     b"load s\nid,city\r\n1,\\N\n-- no comment\n\n\\.x\n \\.\n\\\n\\.\\.\n\\.\r\nload s extra\ndrop s\nshow s\n\\.\n Load \"t\"\r\n\\.\nshow s\nLOAD u\n\xFF\0\n\\.\rshow s\n";
 
@@ -32,7 +32,7 @@ const ITEMS: [Wanted; 6] = [
     Wanted::Other('.'),
 ];
 
-/// Whether a `next` gave a load of this table with these bytes.
+/// Whether `next` returned a load of this table with these bytes.
 fn is_load(given: &Result<Option<Item>, ReadFault>, name: &str, bytes: &[u8]) -> bool {
     match given {
         Ok(
@@ -49,7 +49,7 @@ fn is_load(given: &Result<Option<Item>, ReadFault>, name: &str, bytes: &[u8]) ->
     }
 }
 
-/// Whether a `next` gave what is wanted.
+/// Whether `next` returned the expected item.
 fn is_wanted(given: &Result<Option<Item>, ReadFault>, wanted: Wanted) -> bool {
     match wanted {
         Wanted::Load(name, bytes) => is_load(given, name, bytes),
@@ -57,7 +57,7 @@ fn is_wanted(given: &Result<Option<Item>, ReadFault>, wanted: Wanted) -> bool {
     }
 }
 
-/// Whether a reader's next item is what is wanted.
+/// Whether a reader's next item is the expected one.
 fn gives<R: Read>(
     alloc: Global,
     reader: &mut CommandReader<R>,
@@ -68,7 +68,7 @@ fn gives<R: Read>(
     is_wanted(&given, wanted)
 }
 
-/// Asserts that a reader of pieces of this size gives the items.
+/// Asserts that a reader returns these items from pieces of this size.
 fn assert_gives(rt: &impl Abort, alloc: Global, items: &[Wanted], size: usize) {
     let limits = Limits::greatest();
     let mut reader = CommandReader::new(Pieces::of(SCRIPT, size));
@@ -78,7 +78,7 @@ fn assert_gives(rt: &impl Abort, alloc: Global, items: &[Wanted], size: usize) {
     }
 }
 
-/// Pieces of one byte, of seven, and of each other size: so the first piece ends at each byte.
+/// Pieces of each size, so that a piece ends at each byte.
 #[test]
 fn cut_at_each_byte(rt: HostRuntime) -> Result<(), Fail> {
     for size in 1..SCRIPT.len().saturating_add(2) {
@@ -97,13 +97,13 @@ fn long(alloc: Global, lines: usize) -> Result<Vec<u8>, AllocError> {
     Ok(script)
 }
 
-/// Whether bytes are so many of its lines.
+/// Whether bytes are `lines` of these lines.
 fn are_lines(bytes: &[u8], lines: usize) -> bool {
     let line: &[u8] = b"\\.345678\r\n";
     bytes.len() / 10 == lines && bytes.chunks_exact(10).all(|chunk| chunk == line)
 }
 
-/// Whether a `next` gave a load of so many lines.
+/// Whether `next` returned a load of `lines` lines.
 fn is_long(given: &Result<Option<Item>, ReadFault>, lines: usize) -> bool {
     match given {
         Ok(
@@ -120,7 +120,7 @@ fn is_long(given: &Result<Option<Item>, ReadFault>, lines: usize) -> bool {
     }
 }
 
-/// Whether a reader's next item is a load of so many lines.
+/// Whether a reader's next item is a load of `lines` lines.
 fn gives_long<R: Read>(
     alloc: Global,
     reader: &mut CommandReader<R>,
@@ -131,7 +131,7 @@ fn gives_long<R: Read>(
     is_long(&given, lines)
 }
 
-/// Expects a load of so many lines, a command and the end, in pieces of a size.
+/// Expects a load of `lines` lines, a command and the end, in pieces of this size.
 fn expect_long(
     rt: &impl Abort,
     alloc: Global,
@@ -152,7 +152,7 @@ fn expect_long(
     Ok(())
 }
 
-/// A payload that goes over many of the reader's buffers.
+/// A payload that spans many of the reader's buffers.
 #[test]
 fn longer_than_a_buffer(rt: HostRuntime) -> Result<(), Fail> {
     const LINES: usize = 10_000;
@@ -163,7 +163,7 @@ fn longer_than_a_buffer(rt: HostRuntime) -> Result<(), Fail> {
     Ok(())
 }
 
-/// What stands before a payload's hundred bytes and behind them, and the items of such a script.
+/// What comes before and after a payload's hundred bytes, and the items of such a script.
 const FRAMES: [(&[u8], &[u8], &str); 6] = [
     (b"load s\n", b"\\.\nupsert s (1)", "bu."),
     (b"load s\nx", b"\\.\nupsert s (1)", "tu."),
@@ -173,7 +173,7 @@ const FRAMES: [(&[u8], &[u8], &str); 6] = [
     (b"load s\n", b"\\", "o.."),
 ];
 
-/// A hundred bytes in lines, framed.
+/// A hundred bytes in lines, between `front` and `end`.
 fn framed(alloc: Global, front: &[u8], end: &[u8]) -> Result<Vec<u8>, AllocError> {
     let mut script = Vec::from_slice(alloc, front)?;
     for _ in 0..20 {
@@ -183,7 +183,7 @@ fn framed(alloc: Global, front: &[u8], end: &[u8]) -> Result<Vec<u8>, AllocError
     Ok(script)
 }
 
-/// Asserts that each frame gives the items that stand beside it, in pieces of a size.
+/// Asserts the items of each frame, in pieces of this size.
 fn assert_frames(
     rt: &impl Abort,
     alloc: Global,
@@ -199,8 +199,8 @@ fn assert_frames(
     Ok(())
 }
 
-/// A payload of 100 bytes at a limit of 100, and one of 101; a refused line's, however long it is,
-/// and one that the script's end leaves open.
+/// A payload of 100 bytes at a limit of 100, and one of 101; that of a refused line, which may have
+/// any length, and one that is open at the script's end.
 #[test]
 fn limit_of_a_payload(rt: HostRuntime) -> Result<(), Fail> {
     let Some(limits) = small(40, 1000) else {
@@ -212,8 +212,8 @@ fn limit_of_a_payload(rt: HostRuntime) -> Result<(), Fail> {
     Ok(())
 }
 
-/// Each failing read is a fault, in a payload too, and no part of the payload is given. The mark's line
-/// ends with the fifteenth byte.
+/// Each failing read is a fault, also in a payload, and no part of the payload is returned. The
+/// mark's line ends with byte 15.
 #[test]
 fn faults_within_a_payload(rt: HostRuntime) -> Result<(), Fail> {
     let limits = Limits::greatest();

@@ -1,8 +1,8 @@
-//! Values, rows and keys, told by literals.
+//! Values, rows and keys, as literals.
 use gq_row::{Row, Text, Value};
 use std::alloc::{AllocError, Global};
 
-/// A value, as a literal tells it.
+/// A value, as a literal.
 #[derive(Clone, Copy)]
 pub enum Plain {
     Null,
@@ -36,7 +36,7 @@ pub fn row_of(alloc: Global, plain: &[Plain]) -> Result<Row, AllocError> {
     Ok(Row::new(values_of(alloc, plain)?))
 }
 
-/// Whether a value is what a literal tells.
+/// Whether a value equals a literal.
 pub fn is(value: &Value, plain: Plain) -> bool {
     match (value, plain) {
         (Value::Null, Plain::Null) => true,
@@ -47,7 +47,7 @@ pub fn is(value: &Value, plain: Plain) -> bool {
     }
 }
 
-/// Whether values are what these tell, one by one.
+/// Whether values equal literals, one by one.
 pub fn are(values: &[Value], plain: &[Plain]) -> bool {
     values.len() == plain.len()
         && values

@@ -1,4 +1,4 @@
-//! What an error says of itself, written by hand.
+//! The texts of errors, written by hand.
 use crate::expected::expect;
 use gq_command::{LineRefusal, ReadFault};
 use gq_engine::{Fault, Refusal};
@@ -18,7 +18,7 @@ fn expect_text<T: Display>(
     Ok(())
 }
 
-/// Expects the text beside each error.
+/// Expects the text of each error.
 fn expect_texts<T: Display>(
     rt: &impl Abort,
     alloc: Global,

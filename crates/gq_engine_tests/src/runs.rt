@@ -33,8 +33,8 @@ pub fn script(alloc: Global) -> Result<Vec<u8>, AllocError> {
     Ok(script)
 }
 
-/// What the first bytes of that script must give: the replies to its whole lines, and where it ends
-/// within a line, a refusal, since no front of these lines is a command.
+/// The replies to the first `count` bytes of that script: those to its whole lines, and a refusal
+/// if it ends within a line, since no prefix of these lines is a command.
 pub fn replies_to_front(alloc: Global, count: usize) -> Result<Vec<u8>, AllocError> {
     let mut replies = Vec::new(alloc);
     let mut left = count;
@@ -62,7 +62,7 @@ const COUNTED: [(&[u8], &[u8], u64, u64); 4] = [
     ),
 ];
 
-/// Asserts that each script writes and counts what stands beside it.
+/// Asserts what each script writes and counts.
 fn assert_counted(rt: &impl Abort, alloc: Global, cases: &[(&[u8], &[u8], u64, u64)]) {
     for (script, due, commands, refused) in cases {
         let (written, ended) = run_alone(alloc, Limits::greatest(), *script);
@@ -80,7 +80,7 @@ fn a_run_counts_its_commands_and_refusals(rt: HostRuntime) {
     assert_counted(&rt, rt.alloc(), &COUNTED);
 }
 
-/// Asserts that each line is answered with the reply beside it, in a run of its own.
+/// Asserts that each line gets its reply, in a run of its own.
 fn assert_answers(
     rt: &impl Abort,
     alloc: Global,
@@ -105,7 +105,7 @@ fn tables_stay_from_run_to_run(rt: HostRuntime) {
     assert_answers(&rt, rt.alloc(), &mut engine, &STATIONS);
 }
 
-/// Whether a reply has one row, of `Rome` and 2, where it has rows.
+/// Whether a reply has no rows, or one row, of `Rome` and 2.
 fn is_rome_twice(reply: &Reply) -> bool {
     match reply {
         Reply::Rows { header, rows } => {
@@ -121,7 +121,7 @@ fn is_rome_and_two(row: &RowRef<'_>) -> bool {
         && matches!(row.cell(1), CellRef::Int(2))
 }
 
-/// What is answered to a line's command.
+/// The reply to a line's command.
 fn carried_out(
     alloc: Global,
     engine: &mut Engine<Fnv1a, MemStore>,
@@ -144,7 +144,7 @@ fn expect_text(
     Ok(())
 }
 
-/// Asserts that each line's command is carried out with the reply beside it.
+/// Asserts that each line's command is carried out with its reply.
 fn assert_carried_out(
     rt: &impl Abort,
     alloc: Global,
@@ -225,7 +225,7 @@ fn expect_cut(
     expect_at(rt, (count, size), written.as_slice(), due);
 }
 
-/// A script cut at each of its bytes, given at once and in pieces.
+/// A script cut at each of its bytes, read at once and in pieces.
 #[test]
 fn scripts_cut_at_each_byte(rt: HostRuntime) -> Result<(), Fail> {
     let whole = script(rt.alloc())?;

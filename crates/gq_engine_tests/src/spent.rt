@@ -1,4 +1,4 @@
-//! What an engine says that its groupings took.
+//! The work that an engine reports for its groupings.
 use crate::engines::{answers, engine, engine_over};
 use crate::expected::expect_at;
 use gq_engine::{Engine, MemStore, Spent};
@@ -35,7 +35,7 @@ fn rows_in_groups(alloc: Global) -> Result<Vec<u8>, AllocError> {
     Ok(script)
 }
 
-/// Groups that table's rows, and expects what its groupings took then.
+/// Groups that table's rows, and expects the work that was spent by then.
 fn expect_grouped<H: KeyHash<Key> + Copy>(
     rt: &impl Abort,
     alloc: Global,
@@ -59,7 +59,8 @@ fn twice(took: Spent) -> Spent {
     )
 }
 
-/// Asserts what one grouping of that table takes within a budget, and that another takes it again.
+/// Asserts the work of one grouping of that table within a budget, and that a second one adds the
+/// same.
 fn assert_takes<H: KeyHash<Key> + Copy>(
     rt: &impl Abort,
     alloc: Global,
@@ -75,8 +76,9 @@ fn assert_takes<H: KeyHash<Key> + Copy>(
     expect_grouped(rt, alloc, &mut engine, budget, twice(due))
 }
 
-/// With one group at a time, and all keys of one hash, each run is written again but for a group; one
-/// group past the budget takes one run, and as many groups as the budget take none.
+/// With one group at a time and one hash for all keys, each pass writes all rows but those of one
+/// group to a run. One group more than the budget takes one run; no more groups than the budget
+/// take none.
 #[test]
 fn five_hundred_rows_in_fifty_groups(rt: HostRuntime) -> Result<(), Fail> {
     let alloc = rt.alloc();
@@ -114,7 +116,7 @@ const OF_FORTY: [(&[u8], (u64, u64)); 6] = [
     ),
 ];
 
-/// Expects what each of some groupings takes that keep one of forty groups at a time.
+/// Expects the work of each grouping, within a budget of one group.
 fn expect_forty(
     rt: &impl Abort,
     alloc: Global,
@@ -138,7 +140,7 @@ fn forty_keys_one_at_a_time(rt: HostRuntime) -> Result<(), Fail> {
     expect_forty(&rt, rt.alloc(), &OF_FORTY)
 }
 
-/// Lines, their replies, and how many rows were read and how many groups were made by then.
+/// Lines, their replies, and how many rows were read and groups made by then.
 const LINES: [(&[u8], &[u8], (u64, u64)); 20] = [
     (b"create t (a int, b int, c text)", b"ok 0\n", (0, 0)),
     (b"upsert t (1, 9223372036854775807, 'x')", b"ok 1\n", (0, 0)),
@@ -189,7 +191,7 @@ const LINES: [(&[u8], &[u8], (u64, u64)); 20] = [
         (17, 14),
     ),
     (b"upsert t (3, -9, null)", b"ok 1\n", (17, 14)),
-    // The total is within the range now, and a group is not.
+    // The total is within range now, but a group isn't.
     (
         b"group t by rollup (a) show sum(b)",
         b"err 13 SumRange\n",
@@ -203,7 +205,7 @@ const LINES: [(&[u8], &[u8], (u64, u64)); 20] = [
     (b"drop t", b"ok 0\n", (25, 18)),
 ];
 
-/// Expects what each line is answered, and what was spent by then.
+/// Expects the reply to each line, and the work that was spent by then.
 fn expect_lines(
     rt: &impl Abort,
     alloc: Global,
@@ -219,8 +221,8 @@ fn expect_lines(
     Ok(())
 }
 
-/// What a grouping takes is of the rows that `where` and `exists` keep, whatever `having` says, once
-/// for each level of a rollup, and counts of different values add nothing. No other command raises it, and none that is refused.
+/// Work counts the rows that `where` and `exists` keep, whatever `having` says, once for each level
+/// of a rollup, without counts of distinct values. Other commands and refused ones add none.
 #[test]
 fn only_groups_that_are_answered(rt: HostRuntime) -> Result<(), Fail> {
     let mut engine = engine(rt.alloc(), Limits::greatest());

@@ -1,5 +1,5 @@
-//! Groups past an engine's budget: over stores that fail or lie, what is answered then, and that the
-//! tables are as before; and that the budget is the one that was handed in.
+//! Groups past an engine's budget: what is answered over stores that fail or lie, and that the
+//! tables stay the same; and that the engine uses the budget that it was given.
 use crate::engines::{engine_over, written_to};
 use crate::expected::expect_at;
 use crate::lying::{Altered, Swapped};
@@ -15,8 +15,8 @@ const FAILED: &[u8] = b"err 16 StoreFault\n";
 
 const DAMAGED: &[u8] = b"err 17 Damaged\n";
 
-/// Five hundred rows, each of a number and its remainder by 50: the commands that make them, what
-/// shows them, and the reply to `GROUPS`.
+/// Five hundred rows, each of a number and its remainder by 50: the commands that create them, the
+/// reply to `show`, and the reply to `GROUPS`.
 #[derive(Drop)]
 struct Fifty {
     script: Vec<u8>,
@@ -38,7 +38,7 @@ fn lines(alloc: Global) -> Result<String, AllocError> {
     Ok(out)
 }
 
-/// The commands that make the rows, whose lines these are.
+/// The commands that create the rows with these lines.
 fn script_of(alloc: Global, lines: &str) -> Result<String, AllocError> {
     format!(in alloc; "create b (n int, g int, key (n))\nload b\nn,g\n{lines}\\.\n")
 }
@@ -69,7 +69,7 @@ impl Fifty {
     }
 }
 
-/// What the groups of the rows are answered by an engine without tables. The rows are as before then.
+/// What an engine without tables answers to `GROUPS`. The rows are the same after that.
 fn answer_by<H: KeyHash<Key> + Copy, S: RunStore>(
     rt: &impl Abort,
     alloc: Global,
@@ -84,8 +84,8 @@ fn answer_by<H: KeyHash<Key> + Copy, S: RunStore>(
     answer
 }
 
-/// What the groups of the rows are answered over a store, within a budget of so many groups. The rows
-/// are as before then.
+/// What is answered to `GROUPS` over this store within this budget. The rows are the same after
+/// that.
 fn answer<H: KeyHash<Key> + Copy, S: RunStore + Drop>(
     rt: &impl Abort,
     alloc: Global,
@@ -98,7 +98,7 @@ fn answer<H: KeyHash<Key> + Copy, S: RunStore + Drop>(
     Ok(answer_by(rt, alloc, fifty, &mut engine))
 }
 
-/// Asserts that the groups come under a hasher within each budget.
+/// Asserts that the groups are right within each budget.
 fn assert_groups<H: KeyHash<Key> + Copy>(
     rt: &impl Abort,
     alloc: Global,
@@ -124,7 +124,7 @@ fn fifty_groups_within_each_budget(rt: HostRuntime) -> Result<(), Fail> {
     assert_groups(&rt, alloc, &fifty, LowBits(11))
 }
 
-/// What is answered within a budget of ten over a store with some trouble.
+/// What is answered within a budget of ten over a store with this trouble.
 fn answer_troubled<H: KeyHash<Key> + Copy>(
     rt: &impl Abort,
     alloc: Global,
@@ -136,7 +136,7 @@ fn answer_troubled<H: KeyHash<Key> + Copy>(
     answer(rt, alloc, fifty, hasher, store, 10)
 }
 
-/// Expects what is answered then.
+/// Expects that answer.
 fn expect_troubled<H: KeyHash<Key> + Copy>(
     rt: &impl Abort,
     alloc: Global,
@@ -150,7 +150,7 @@ fn expect_troubled<H: KeyHash<Key> + Copy>(
     Ok(())
 }
 
-/// Asserts that the store's failure is told where a call from the first to the last fails, each in turn.
+/// Asserts that `StoreFault` is answered if a call from the first to the last fails, each in turn.
 fn assert_fails<H: KeyHash<Key> + Copy>(
     rt: &impl Abort,
     alloc: Global,
@@ -165,22 +165,22 @@ fn assert_fails<H: KeyHash<Key> + Copy>(
     Ok(())
 }
 
-/// The first pass makes a run and writes the ten rows of each of forty keys there, and the second
-/// reads it at once.
+/// The first pass makes a run and writes the ten rows of each of forty keys to it, and the second
+/// pass reads it in one call.
 #[test]
 fn calls_of_a_pass_fail(rt: HostRuntime) -> Result<(), Fail> {
     let alloc = rt.alloc();
     assert_fails(&rt, alloc, Constant(0), 1, 402)
 }
 
-/// The first pass alone writes the ten rows of each of forty keys.
+/// The first pass writes the ten rows of each of forty keys.
 #[test]
 fn calls_fail_under_fnv_1a(rt: HostRuntime) -> Result<(), Fail> {
     assert_fails(&rt, rt.alloc(), Fnv1a { seed: 0 }, 1, 401)
 }
 
-/// Four passes write the rows of forty, thirty, twenty and ten keys, and each of the four runs is made,
-/// and read at once.
+/// Four passes write the rows of forty, thirty, twenty and ten keys; each of the four runs is made,
+/// and read in one call.
 #[test]
 fn calls_of_later_passes_fail(rt: HostRuntime) -> Result<(), Fail> {
     let alloc = rt.alloc();
@@ -207,7 +207,7 @@ fn a_read_cut_short_is_damage(rt: HostRuntime) -> Result<(), Fail> {
     expect_troubled(&rt, alloc, &fifty, spread, Trouble::Short(1), DAMAGED)
 }
 
-/// What is answered within a budget of one where a byte of the first run reads as another.
+/// What is answered within a budget of one if a byte of the first run reads as another.
 fn answer_altered(rt: &impl Abort, alloc: Global, at: u64, by: u8) -> Result<Vec<u8>, Fail> {
     let fifty = Fifty::new(alloc)?;
     let store = Altered {
@@ -225,13 +225,13 @@ fn expect_damage(rt: &impl Abort, alloc: Global, at: u64, by: u8) -> Result<(), 
     Ok(())
 }
 
-/// Whether it is a reply at all.
+/// Whether the answer is a reply.
 fn is_reply(answer: &[u8]) -> bool {
     answer.starts_with(b"ok ") || answer.starts_with(b"err ")
 }
 
-/// A record begins with its length in four bytes, and a byte that tells the kind of its first value: no
-/// record is so long, and none has such a kind. What follows is a number, as good as another.
+/// A record begins with its length in four bytes, and the kind of its first value in one. No record
+/// has that length, and no value that kind. Then comes a number, which may be any.
 #[test]
 fn a_byte_that_reads_as_another(rt: HostRuntime) -> Result<(), Fail> {
     expect_damage(&rt, rt.alloc(), 0, 128)?;
@@ -252,7 +252,8 @@ fn runs_that_read_as_each_other(rt: HostRuntime) -> Result<(), Fail> {
 
 const THREE: &[u8] = b"create a (k int, x int)\nload a\nk,x\n1,1\n2,1\n3,1\n\\.\n";
 
-/// What a query of three rows is answered within a budget, over a store whose call of a number fails.
+/// What is answered to a query of three rows within a budget, over a store of which this call
+/// fails.
 fn of_three(alloc: Global, query: &[u8], groups: u32, call: u64) -> Result<Vec<u8>, Fail> {
     let store = FuseStore::new(MemStore::new(alloc), Trouble::Fail(call));
     let mut engine = engine_over(alloc, Constant(0), store, groups)?;
@@ -273,8 +274,8 @@ fn expect_of_three(
     Ok(())
 }
 
-/// Asserts that a query of three rows needs as many calls of the store as those before one, within a
-/// budget of three groups and of the most, and more of them within one and two.
+/// Asserts that a query of three rows makes fewer than `call` calls of the store within a budget of
+/// three groups or more, and at least that many within one and two.
 fn assert_budget_counts(
     rt: &impl Abort,
     alloc: Global,
@@ -291,8 +292,8 @@ fn assert_budget_counts(
     Ok(())
 }
 
-/// Three groups go to no run where there is place for them, and otherwise do. The values that are
-/// counted go to a run in any case: it is made, three pairs are written, and it is read.
+/// Three groups need no run if the budget holds them, and otherwise do. The values that are counted
+/// always go to a run: it is made, three pairs are written, and it is read.
 #[test]
 fn three_groups_within_a_budget_and_past_it(rt: HostRuntime) -> Result<(), Fail> {
     let alloc = rt.alloc();

@@ -1,5 +1,5 @@
-//! A script of changes while memory runs out. Each command is answered and carried out as over plain
-//! lists, or answered Memory, and then the tables are as before it.
+//! A script of changes while memory runs out. Each command is answered and carried out as over
+//! plain lists, or is answered `Memory` and leaves the tables as they were.
 use crate::engines::{engine_with, joined, run, written_to};
 use gq_engine::{Engine, MemStore};
 use gq_row::{Key, Limits};
@@ -9,7 +9,7 @@ use std::process::Abort;
 use std::test::Fail;
 use sw_probe::{Constant, Fnv1a, KeyHash};
 
-// By how many bytes what is left grows with each step.
+// By how many bytes the available memory grows with each step.
 const STEP: usize = 96;
 
 // Commands whose replies are one line each.
@@ -28,7 +28,7 @@ const COMMANDS: [&[u8]; 12] = [
     b"drop l\n",
 ];
 
-// What the tables are asked for in the end.
+// The commands that show the tables at the end.
 const SHOWS: &[u8] = b"show s\nshow l\n";
 
 // More bytes than all replies have.
@@ -40,7 +40,7 @@ fn is_refused(line: &[u8]) -> bool {
     line == REFUSED
 }
 
-/// The commands that were not answered Memory, as a script.
+/// The commands that were not answered `Memory`, as a script.
 fn carried_out(alloc: Global, commands: &[&[u8]], answers: &[u8]) -> Result<Vec<u8>, AllocError> {
     let mut script = Vec::new(alloc);
     for (command, line) in commands.iter().zip(answers.split(|byte| *byte == b'\n')) {
@@ -51,7 +51,7 @@ fn carried_out(alloc: Global, commands: &[&[u8]], answers: &[u8]) -> Result<Vec<
     Ok(script)
 }
 
-/// The replies that do not tell want of memory.
+/// The replies other than `Memory`.
 fn kept(alloc: Global, answers: &[u8]) -> Result<Vec<u8>, AllocError> {
     let mut lines = Vec::new(alloc);
     for line in answers.split(|byte| *byte == b'\n') {
@@ -63,8 +63,8 @@ fn kept(alloc: Global, answers: &[u8]) -> Result<Vec<u8>, AllocError> {
     Ok(lines)
 }
 
-/// Whether a script is answered this by an engine without tables, and the tables are then those of
-/// another.
+/// Whether an engine without tables gives these answers to a script, and then has the same tables
+/// as another engine.
 fn comes_to<H: KeyHash<Key> + Copy>(
     alloc: Global,
     hasher: H,
@@ -78,8 +78,8 @@ fn comes_to<H: KeyHash<Key> + Copy>(
     written.as_slice() == answers && shown.as_slice() == written_to(alloc, tables, SHOWS).as_slice()
 }
 
-/// Whether the answers are those of plain lists, or Memory, and the tables are those of the commands
-/// that were carried out.
+/// Whether the answers are those over plain lists, or `Memory`, and the tables are those of the
+/// commands that were carried out.
 fn are_right<H: KeyHash<Key> + Copy>(
     alloc: Global,
     hasher: H,
@@ -103,7 +103,7 @@ fn expect_right<H: KeyHash<Key> + Copy>(
     Ok(())
 }
 
-/// Runs the commands over no tables, and gives the engine back.
+/// Runs the commands without tables, and returns the engine.
 fn ran<H: KeyHash<Key> + Copy>(
     rt: &impl Abort,
     alloc: Global,
@@ -118,13 +118,13 @@ fn ran<H: KeyHash<Key> + Copy>(
     engine
 }
 
-/// Whether no command was answered Memory.
+/// Whether no command was answered `Memory`.
 fn are_all_carried_out(answers: &[u8]) -> bool {
     !answers.split(|byte| *byte == b'\n').any(is_refused)
 }
 
-/// Runs the commands with a little memory, then with more and more, until all are carried out; how
-/// many runs there were before that.
+/// Runs the commands with a little memory, then with more and more, until all are carried out.
+/// Returns the number of runs before that.
 fn starve<H: KeyHash<Key> + Copy>(
     rt: &impl Abort,
     alloc: Global,
@@ -132,7 +132,7 @@ fn starve<H: KeyHash<Key> + Copy>(
     script: &[u8],
     answers: &mut Vec<u8>,
 ) -> Result<usize, Fail> {
-    // Once with memory to spare before, so that the stack has grown as far as a run takes it.
+    // A first run with ample memory, so that the stack has grown to its full size.
     let first = ran(rt, alloc, hasher, script, answers);
     expect_right(rt, alloc, hasher, first, answers.as_slice())?;
     let mut starved = Starved::new(alloc)?;

@@ -1,5 +1,5 @@
-//! Queries while memory runs out: of forty rows, each is answered as with memory to spare, or answered
-//! Memory, and the tables are as before.
+//! Queries of forty rows while memory runs out: each is answered as with ample memory, or `Memory`,
+//! and the tables stay the same.
 use crate::engines::{engine_over, run, written_to};
 use crate::expected::expect;
 use gq_engine::{Engine, MemStore};
@@ -10,13 +10,13 @@ use std::process::Abort;
 use std::test::Fail;
 use sw_probe::{Constant, Fnv1a, KeyHash};
 
-// By how many bytes what is left grows with each step.
+// By how many bytes the available memory grows with each step.
 const STEP: usize = 96;
 
 // More bytes than all replies have.
 const REPLIES: usize = 4_000;
 
-// The reply where memory was wanting.
+// The reply if an allocation failed.
 const WANTING: &[u8] = b"err 15 Memory\n";
 
 const EMPTY: &[u8] = b"create t (n int, g int, x int, city text, key (n))\nload t\nn,g,x,city\n";
@@ -74,8 +74,8 @@ const QUERIES: [Query; 10] = [
     ),
 ];
 
-/// A row of a number, its remainder by 7, ten less the number, or null where 5 divides it, and a text
-/// with a block of its own, of which there are three.
+/// A row of a number, its remainder by 7, ten less the number, or null if 5 divides it, and one of
+/// three texts that have a block of their own.
 fn row(alloc: Global, n: i64) -> Result<String, AllocError> {
     let (g, city) = (n % 7, n % 3);
     let mut x = String::new(alloc);
@@ -87,7 +87,7 @@ fn row(alloc: Global, n: i64) -> Result<String, AllocError> {
     format!(in alloc; "{n},{g},{x},a city whose name is long {city}\n")
 }
 
-/// The commands that make the tables.
+/// The commands that create the tables.
 fn tables(alloc: Global) -> Result<Vec<u8>, AllocError> {
     let mut script = Vec::from_slice(alloc, EMPTY)?;
     for n in 0..40i64 {
@@ -106,7 +106,7 @@ fn script_of(alloc: Global, queries: &[Query]) -> Result<Vec<u8>, AllocError> {
     Ok(script)
 }
 
-/// How many of the queries were answered Memory, where each other was answered as it must be.
+/// How many of the queries are answered `Memory`; `None` if another answer is wrong.
 fn refused_of(queries: &[Query], answers: &[u8]) -> Option<usize> {
     let mut left = answers;
     let mut refused = 0usize;
@@ -122,8 +122,7 @@ fn refused_of(queries: &[Query], answers: &[u8]) -> Option<usize> {
     if left.is_empty() { Some(refused) } else { None }
 }
 
-/// Asks all, and answers how many of the queries were answered Memory, where each other was answered
-/// as it must be.
+/// Asks all queries, and returns how many are answered `Memory`; `None` if another answer is wrong.
 fn ask<H: KeyHash<Key> + Copy>(
     rt: &impl Abort,
     engine: &mut Engine<H, MemStore>,
@@ -136,7 +135,7 @@ fn ask<H: KeyHash<Key> + Copy>(
     refused_of(&QUERIES, answers.as_slice())
 }
 
-/// What the tables are.
+/// The rows of the tables.
 fn shown_by<H: KeyHash<Key> + Copy>(alloc: Global, engine: &mut Engine<H, MemStore>) -> Vec<u8> {
     written_to(alloc, engine, SHOWS)
 }
@@ -151,8 +150,8 @@ fn expect_shown<H: KeyHash<Key> + Copy>(
     assert!(rt; shown.as_slice() == due);
 }
 
-/// Asks with a little memory, then with more and more, until all replies come; how often there was too
-/// little before that.
+/// Asks with a little memory, then with more and more, until every query is answered. Returns how
+/// often there was too little memory before that.
 fn starve<H: KeyHash<Key> + Copy>(
     rt: &impl Abort,
     alloc: Global,
@@ -161,7 +160,7 @@ fn starve<H: KeyHash<Key> + Copy>(
     answers: &mut Vec<u8>,
 ) -> Result<usize, Fail> {
     let shown = shown_by(alloc, engine);
-    // Once with memory to spare before, so that the stack has grown as far as that takes it.
+    // A first time with ample memory, so that the stack has grown to its full size.
     expect(rt, ask(rt, engine, script, answers), Some(0));
     expect_shown(rt, alloc, engine, shown.as_slice());
     let mut starved = Starved::new(alloc)?;

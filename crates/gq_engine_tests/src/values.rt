@@ -44,7 +44,7 @@ fn copies(rt: HostRuntime) -> Result<(), Fail> {
     expect_keys(&rt, rt.alloc(), &row)
 }
 
-/// The keys of two columns, turned, and of five.
+/// The keys of two columns, in reverse order, and of five.
 fn expect_keys(rt: &impl Abort, alloc: Global, row: &Row) -> Result<(), Fail> {
     assert!(rt; row.len() == 2);
     let key = Key::of(alloc, row.cells(), &[1, 0])?;
@@ -110,7 +110,7 @@ fn columns(alloc: Global, names: &[&str]) -> Result<Vec<Column>, AllocError> {
     Ok(columns)
 }
 
-/// Names of columns, the positions of the key's, and whether there is such a schema.
+/// Names of columns, the positions of key columns, and whether they make a schema.
 const SCHEMAS: [(&[&str], &[usize], bool); 7] = [
     (&["a", "b"], &[], true),
     (&["a", "b"], &[1, 0], true),
@@ -168,7 +168,7 @@ fn expect_shown<T: Debug>(
     Ok(())
 }
 
-/// A text shows as Rust shows a string, in place or in memory, alone and in a value.
+/// A text is shown as Rust shows a string, inline or on the heap, alone and within a value.
 #[test]
 fn texts_show_as_strings(rt: HostRuntime) -> Result<(), Fail> {
     let alloc = rt.alloc();

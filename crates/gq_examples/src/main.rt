@@ -1,11 +1,10 @@
 //! Worked scripts and their replies. Each name in `data/names` is a script `NAME.gq`, which an
-//! engine runs with the greatest limits, and the bytes `NAME.out` that it must write: under FNV-1a
-//! with two seeds, under one hash for all keys, the least and the greatest, and under none, 7 and 11
-//! bits of a hash, each within a budget of 1, 2, 7 and 65,536. A new example is two files and a name in
-//! the list.
+//! engine runs with the largest limits, and the bytes `NAME.out` that it must write: with FNV-1a
+//! and with `WordHash` under two seeds each, with one hash for all keys (0 and 2^64 - 1), and with
+//! 0, 7 and 11 bits of a hash; each within a budget of 1, 2, 7 and 65,536. A new example is two
+//! files and a name in the list.
 //!
-//! Its standard output has a line `NAME ok` for each, so a reply that is not as it should be shows as
-//! `NAME WRONG`.
+//! The standard output has a line `NAME ok` for each script, or `NAME WRONG` if the bytes differ.
 #![tactic(auto)]
 
 use gq_engine::{Budget, Engine, MemStore};
@@ -15,7 +14,7 @@ use std::rt::Files;
 use std::{fs, io};
 use sw_probe::{Constant, Fnv1a, KeyHash, LowBits, WordHash};
 
-/// Whether a run of a script writes what it must, under a hasher and a budget.
+/// Whether a script writes these bytes, with a hasher and a budget.
 fn writes_within<H: KeyHash<Key> + Copy>(
     alloc: Global,
     hasher: H,
