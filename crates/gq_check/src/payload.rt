@@ -36,8 +36,7 @@ fn room_behind(room: Option<usize>, line: Kept) -> Result<Option<usize>, AllocEr
 }
 
 /// Skips a payload and the line that ends it, or the rest of the script if no line does. Returns
-/// its fault, if any, and how many lines the script has up to there; `before` of them precede the
-/// payload.
+/// its fault, if any, and the number of lines up to there, `before` included.
 pub fn pass_payload<R: Read>(
     alloc: Global,
     source: &mut Source<R>,

@@ -76,9 +76,8 @@ fn assert_takes<H: KeyHash<Key> + Copy>(
     expect_grouped(rt, alloc, &mut engine, budget, twice(due))
 }
 
-/// With one group at a time and one hash for all keys, each pass writes all rows but those of one
-/// group to a run. One group more than the budget takes one run; no more groups than the budget
-/// take none.
+/// With one group at a time and one hash, each pass writes all rows but those of one group to a
+/// run. One group more than the budget takes one run; no more groups than the budget take none.
 #[test]
 fn five_hundred_rows_in_fifty_groups(rt: HostRuntime) -> Result<(), Fail> {
     let alloc = rt.alloc();

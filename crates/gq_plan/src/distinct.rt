@@ -1,4 +1,4 @@
-//! The plan of a `distinct`.
+//! The plan of a `distinct`. Each name is looked up once.
 ghost use Rattle.std.specs.Prelude.{◌≡◌, ◌⊎◌, ◌<◌, All, length, Ok, Err, IfOk, IfErr};
 ghost use Rattle.gq_reply.specs.Refusals.{unnumbered};
 ghost use Rattle.gq_reply.specs.declared.refusal.Refusal.TheVariants.{Memory};
@@ -14,10 +14,8 @@ use gq_row::{Schema, Text, find_positions};
 use gq_select::Condition;
 use std::alloc::Global;
 
-/// The plan of a `distinct` on a table of this schema; each name is looked up once.
-///
-/// Fails with `NoColumn` if a name isn't a column's, else with `TypeMismatch` if a number is
-/// compared with a text; and with `Memory`.
+/// The plan of a `distinct` on a table of this schema. Fails with `Memory`, with `NoColumn` if a
+/// name isn't a column's, else with `TypeMismatch` if a number is compared with a text.
 pub fn plan_distinct(
     alloc: Global,
     schema: &Schema,

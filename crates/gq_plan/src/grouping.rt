@@ -1,4 +1,8 @@
-//! The plan of a `group`.
+//! The plan of a `group`. Each name is looked up once.
+//!
+//! `NoColumn` means that a name isn't a column's, or after `having` neither a `by` column's nor a
+//! shown aggregate. Otherwise `TypeMismatch` means that texts are summed, a number is compared with
+//! a text, or the columns of an `exists` have different kinds.
 ghost use Rattle.std.specs.Prelude.{◌≡◌, ◌⊎◌, ◌<◌, All, length, Ok, Err, IfOk, IfErr};
 ghost use Rattle.gq_reply.specs.Refusals.{unnumbered};
 ghost use Rattle.gq_reply.specs.declared.refusal.Refusal.TheVariants.{Memory};
@@ -17,12 +21,8 @@ use gq_row::{Column, Schema, find_positions};
 use gq_select::Condition;
 use std::alloc::{AllocError, Global};
 
-/// The plan of a `group` on a table of this schema; each name is looked up once. `others` are the
-/// columns of the table of its `exists`; without one there are none.
-///
-/// Fails with `NoColumn` if a name isn't a column's, or after `having` neither a `by` column's nor
-/// a shown aggregate; else with `TypeMismatch` if texts are summed, a number is compared with a
-/// text, or the columns of an `exists` have different kinds; and with `Memory`.
+/// The plan of a `group` on a table of this schema, where `others` are the columns of the table of
+/// its `exists`, if any. Fails with `NoColumn`, `TypeMismatch` or `Memory`.
 pub fn plan_group(
     alloc: Global,
     schema: &Schema,

@@ -1,4 +1,7 @@
 //! The distinct keys of the rows that a query is about, in order.
+//!
+//! Null is one key value. A text without case is shown by its least spelling among these rows.
+//! Whether a query fails or not, the store then has the same live runs as before.
 ghost use Rattle.std.specs.Prelude.{◌≡◌, ◌<◌, All, IsTrue, IfOk, IfErr, length, option_copied};
 ghost use Rattle.gq_group.specs.Access.{LeavesOthers, HasCause};
 ghost use Rattle.gq_query.specs.Answers.{distinct_keys};
@@ -16,11 +19,8 @@ use gq_spill::RunStore;
 use std::alloc::Global;
 use sw_probe::KeyHash;
 
-/// The distinct keys that the selected rows have in the columns `on`, in ascending order. Null is
-/// one key value. A text without case is shown by its least spelling among these rows.
-///
-/// Fails with `Memory`, `StoreFault`, or `Damaged` if the store doesn't read back what was written.
-/// In every case the store has the same live runs as before.
+/// The distinct keys of the selected rows in the columns `on`, in ascending order. Fails with
+/// `Memory`, `StoreFault`, or `Damaged` if the store doesn't read back what was written.
 pub fn distinct_rows<H: KeyHash<Key> + Copy, S: RunStore>(
     alloc: Global,
     hasher: H,

@@ -1,4 +1,7 @@
 //! Answers `group`: the result rows of the groups, in the order of their keys.
+//!
+//! The work of each grouping is added up, without that of counts of distinct values. Whether a
+//! query fails or not, the store then has the same live runs as before.
 ghost use Rattle.std.specs.Prelude.{◌≡◌, ◌+◌, ◌<◌, All, IsTrue, IfOk, OnOk, IfErr, IsErrOf, None, Some, ◌++◌, filter, insert, length, option_copied, slice_index_or, ◌∷◌, []};
 ghost use Rattle.std.specs.List.{list_all};
 ghost use Rattle.gq_row.specs.declared.value.Value.TheVariants.{Null};
@@ -243,12 +246,8 @@ fn rows_having(alloc: Global, rows: Rows, condition: &Condition) -> Result<Rows,
     Ok(rows)
 }
 
-/// The result rows of a `group`, and `spent` raised by the work of each grouping; counts of
-/// distinct values are left out of it.
-///
-/// Fails with `SumRange` if a sum is out of range, whatever `having` says; with `Memory`,
-/// `StoreFault`, or `Damaged` if the store doesn't read back what was written. It keeps the live
-/// runs that it had.
+/// The result rows of a `group`, and `spent` raised by its work. Fails with `SumRange` whatever
+/// `having` says, `Memory`, `StoreFault`, or `Damaged` if spilled rows read back differently.
 pub fn group_rows<H: KeyHash<Key> + Copy, S: RunStore>(
     alloc: Global,
     hasher: H,

@@ -51,9 +51,8 @@ pub(crate) fn are_bare(rows: &Rows, start: usize, end: usize) -> bool
     true
 }
 
-// False only if a row isn't bare, by its last value and with `both_ends` by its first. Only speed
-// depends on it: texts may be out of line, so rows that begin with texts are checked twice, by
-// their last values first.
+// False only if a row isn't bare, by its last value and with `both_ends` by its first. It only saves
+// time: texts may be out of line, so rows that begin with one are checked at their ends first.
 #[inline(always)]
 fn may_be_bare(rows: &Rows, start: usize, end: usize, both_ends: bool) -> bool
     requires { end ≤ length rows.now }

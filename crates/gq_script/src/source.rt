@@ -128,9 +128,8 @@ impl<R: Read> Source<R> {
         Ok(())
     }
 
-    /// Reads if no byte is waiting, and returns whether one is waiting then; if not, the script is
-    /// at its end. Fails if a read fails, or if more than `most` bytes were given; only the latter
-    /// if one waited.
+    /// Reads if no byte is waiting, and returns whether one is then; if not, the script has ended.
+    /// Fails if a read does, or past `most` bytes; if a byte waited, only the latter.
     #[inline]
     pub fn fill(&mut self, most: u64) -> Result<bool, ReadFault>
         ensures same { OnOk result (Takes self.old self.new []) }
