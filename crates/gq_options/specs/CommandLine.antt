@@ -337,7 +337,7 @@ pub record TakesCheck : Type 0 where
   pub before_stats : (name : Text) → Names (name ∷ codes "--check" ∷ codes "--stats" ∷ []) (record DEFAULTS { stats = true; check = true })
   pub all : (name seed budget folder : Text) → is_seed seed ≡ true → is_budget budget ≡ true → Names (name ∷ (codes "--seed=" ++ seed) ∷ (codes "--budget=" ++ budget) ∷ (codes "--spill=" ++ folder) ∷ codes "--stats" ∷ codes "--check" ∷ []) (record DEFAULTS { script = None; seed = Number (number_of seed); budget = number_of budget; spill = Some folder; stats = true; check = true })
 
--- `--table FILE`, `--table=FILE`, `-t FILE`, `-tFILE` and `-t=FILE` name a table: in the same word any text is the value, but the text after `-t` without `=` is not empty and doesn't begin with `=`; in the next word any text that doesn't begin with a dash, or a dash alone. They may be repeated, and the values keep their order.
+-- `--table FILE`, `--table=FILE`, `-t FILE`, `-tFILE` and `-t=FILE` give a table: in the same word any text is the value, but the text after `-t` without `=` is not empty and doesn't begin with `=`; in the next word any text that doesn't begin with a dash, or a dash alone. They may be repeated, and the values keep their order.
 pub record TakesTables : Type 0 where
   pub alone : (name file : Text) → has_dash file ≡ false → Names (name ∷ codes "--table" ∷ file ∷ []) (record DEFAULTS { tables = file ∷ [] })
   pub short : (name file : Text) → has_dash file ≡ false → Names (name ∷ codes "-t" ∷ file ∷ []) (record DEFAULTS { tables = file ∷ [] })

@@ -56,7 +56,7 @@ pub struct Options<'a> {
     pub check: bool,
 }
 
-/// Why a command line asks for no run. Help and the version are among the reasons.
+/// Why a command line starts no run; help and the version are among the reasons.
 #[derive(Debug, Drop, thiserror::Error)]
 pub enum BadLine {
     /// Help was asked for; its text, for the standard output.

@@ -1,4 +1,4 @@
-//! What a `group` asks, by names.
+//! The clauses of a `group`, by names.
 use gq_clause::{Aggregate, Test};
 use gq_command::{By, Exists};
 use gq_row::Sequence;

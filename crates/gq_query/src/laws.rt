@@ -3,7 +3,7 @@
 ghost use Rattle.gq_query.specs.Laws.{OrderIsUnseen, RollsUp};
 
 /// The order of rows doesn't change an answer, in the table or in the other one that is searched
-/// for matches. For `show` this needs rows with different keys.
+/// for matches. For `show` this needs rows with distinct keys.
 pub fn order_is_unseen()
     ensures { OrderIsUnseen }
 {}

@@ -69,7 +69,7 @@ impl Tokens {
         }
     }
 
-    /// Takes this word or sign if it is the first token, and returns whether it is.
+    /// Takes this word or sign, and returns true, if it is the first token.
     pub fn skip(&mut self, terminal: Terminal) -> bool
         ensures { Skips (skip terminal self.old) result self.old self.new }
     {
@@ -81,8 +81,7 @@ impl Tokens {
         }
     }
 
-    /// Takes a comma if it is the first token and `key` doesn't follow, and returns whether it
-    /// does.
+    /// Takes a comma, and returns true, if it is the first token and `key` doesn't follow it.
     #[tactic(auto, unfolding(crate::specs::Queue::column_comma))]
     pub fn skip_to_column(&mut self) -> bool
         ensures { Skips (column_comma self.old) result self.old self.new }
