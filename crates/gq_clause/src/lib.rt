@@ -1,6 +1,5 @@
-//! Clauses of commands, names, literals, aggregates and tests, as data and as parsers from tokens.
-//! They follow the rules `names`, `literal`, `agg` and `tests` of the grammar in
-//! `docs/LANGUAGE.md`.
+//! Clauses of commands (names, literals, aggregates and tests) as data, and their parsers. They
+//! follow the rules `names`, `literal`, `agg` and `tests` of the grammar in `docs/LANGUAGE.md`.
 //!
 //! The contract of each parser: it takes the tokens that its rule of the grammar reads, and no
 //! more, or returns [`ParseError::Syntax`] if the rule reads none. Lists are parsed in one pass.

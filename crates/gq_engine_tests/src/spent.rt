@@ -132,8 +132,8 @@ fn expect_forty(
     Ok(())
 }
 
-/// All keys have one hash, so each pass writes all rows but one to one run: 39 + 38 + .. + 1 rows and
-/// 39 runs. The total of a rollup is one group, and writes none; counts of distinct values are left out.
+/// All keys have one hash, so each pass writes all rows but one to a run: 39 + 38 + .. + 1 rows, 39
+/// runs. The total of a rollup is one group, without runs; counts of distinct values are left out.
 #[test]
 fn forty_keys_one_at_a_time(rt: HostRuntime) -> Result<(), Fail> {
     expect_forty(&rt, rt.alloc(), &OF_FORTY)

@@ -13,7 +13,7 @@ use std::alloc::{AllocError, Global};
 /// Two short lines, made without allocation.
 pub type RefusalText = ArrayString<256>;
 
-/// The refusal of the command on a line of a script: the line's number, its reply, and what it means.
+/// The refusal of the command on a line of a script: the line's number, its reply, and its meaning.
 pub fn refusal_text(line: u64, code: Refusal, number: Option<u64>) -> RefusalText
     ensures { result.bytes ≡ refusal_text line code number (words_of code) }
 {

@@ -51,7 +51,7 @@ pub(crate) fn are_bare(rows: &Rows, start: usize, end: usize) -> bool
     true
 }
 
-// False only if a row isn't bare, by its last value and with `both_ends` by its first. It only saves
+// False only if a row isn't bare, by its last value and with `both_ends` by its first. It saves
 // time: texts may be out of line, so rows that begin with one are checked at their ends first.
 #[inline(always)]
 fn may_be_bare(rows: &Rows, start: usize, end: usize, both_ends: bool) -> bool

@@ -34,7 +34,7 @@ kept_at opening.Dash opening.Word byte = 45 ∷ byte ∷ []
 kept_at _ opening.Word byte = byte ∷ []
 kept_at _ _ byte = []
 
--- what is kept of bytes after such a beginning: none before the line is known to be neither blank nor a comment, and no leading blanks
+-- what is kept of bytes after such a beginning: none until the line is known to be neither blank nor a comment, and no leading blanks
 abbrev pub kept_from : Opening → Bytes → Bytes
 kept_from o [] = []
 kept_from o (b ∷ bs) = kept_at o (opening_after o b) b ++ kept_from (opening_after o b) bs

@@ -48,7 +48,7 @@ impl Opening {
 }
 
 /// A line as far as it was read, without its end. `kept` has the bytes after its leading blanks,
-/// within the limit, and none before the line is known to be neither blank nor a comment.
+/// within the limit, and none until the line is known to be neither blank nor a comment.
 #[derive(Drop)]
 pub struct OpenLine {
     pub kept: Vec<u8>,

@@ -162,8 +162,8 @@ impl<R: Read> Source<R> {
         &buffer[self.start..self.end]
     }
 
-    /// Takes the first `len` of the bytes that are waiting, without counting lines. Fails only if that
-    /// exceeds `most` bytes of the script, including the mark.
+    /// Takes the first `len` of the bytes that are waiting, without counting lines. Fails only if
+    /// that exceeds `most` bytes of the script, including the mark.
     #[inline]
     pub fn pass(&mut self, len: usize, most: u64) -> Result<(), ReadFault>
         requires { len ≤ length self.old.ahead }
