@@ -21,7 +21,7 @@ use Rattle.gq_format.specs.Shown.{terminal_width}
 abbrev pub CsvReadsBack : Type 0
 CsvReadsBack = (header : List (List ℕ)) (rows : List (List Value)) → records default_config (result_text format.Csv header rows) ≡ map read_back (header ∷ map (map cell_text) rows)
 
--- a value that is a number has 64 bits
+-- if the value is a number, it fits 64 bits
 abbrev pub IsNumberOf64Bits : Value → Type 0
 IsNumberOf64Bits Null = Unit {0}
 IsNumberOf64Bits (Int n) = mag n < 2 ^ 63

@@ -114,7 +114,7 @@ DEFAULTS = record { script = None; tables = []; commands = []; output = Replies;
 abbrev pub number_of : Text → ℕ
 number_of text = digits_value 10 (without_leading_plus text)
 
--- the word that asks for a seed from the system
+-- whether a text is the word that asks for a seed from the system
 abbrev pub is_random : Text → Bool
 is_random text = bytes_eq text (codes "random")
 

@@ -13,7 +13,7 @@ use Rattle.gq_query.specs.Answers.{answer, answer_having}
 abbrev pub levels : List ℕ → List ℕ
 levels by = range_with_len 0 (suc (length by))
 
--- the grouping sets: the columns themselves, or for a rollup the first `level` of them at each level
+-- the grouping sets: the columns themselves, or for a rollup the first `level` columns for each level
 abbrev pub grouping_sets : Bool → List ℕ → List (List ℕ)
 grouping_sets false by = by ∷ []
 grouping_sets true by = map (λ level. take level by) (levels by)
