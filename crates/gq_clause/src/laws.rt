@@ -1,6 +1,7 @@
 //! Laws: parsing and writing agree. A list that is parsed is valid, and was written by the grammar;
 //! a valid list that is written is parsed again, whatever follows it but a separator. A text
-//! without case isn't a literal: a string is a text. Each law is the contract of an empty function.
+//! without case isn't a literal: a string is a text. Each is the contract of a function that does
+//! nothing.
 ghost use Rattle.gq_clause.specs.Agreeing.{AggregatesAgree, LiteralsAgree, NamesAgree, TestsAgree};
 
 pub fn names_agree()

@@ -1,5 +1,5 @@
-//! Laws: what follows from the definitions, in the field's terms. Each is the contract of an empty
-//! function.
+//! Laws: what the definitions imply, in the subject's own words. Each is the contract of a
+//! function that does nothing.
 ghost use Rattle.gq_command.specs.Lines.{SaysOne};
 ghost use Rattle.gq_command.specs.Readings.{ReadsOnce};
 ghost use Rattle.gq_script.specs.Numbering.{NumbersTell};

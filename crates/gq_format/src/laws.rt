@@ -1,5 +1,5 @@
-//! Laws: what follows from the definitions, in the field's terms. Each is the contract of an empty
-//! function.
+//! Laws: what the definitions imply, in the subject's own words. Each is the contract of a
+//! function that does nothing.
 ghost use Rattle.gq_format.specs.Laws.{CsvReadsBack, JsonReadsBack, LinesAlign, NamesColumns};
 
 /// A result as CSV reads back as its header and the fields of its rows.

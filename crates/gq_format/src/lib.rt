@@ -4,7 +4,7 @@
 //! box for people. [`refusal_text`] is what standard error says of a refusal: its line, its reply,
 //! and a line in plain words.
 //!
-//! # The contract
+//! # The contract above this crate
 //!
 //! Each text is the one that `specs/` defines, or an allocation failed; `specs/Formats.antt` names
 //! the three formats. The laws in [`laws`] say that CSV and JSON read back as the cells, that

@@ -1,4 +1,4 @@
-//! Laws: what follows from the definitions. Each is the contract of an empty function.
+//! Laws: what the definitions imply. Each is the contract of a function that does nothing.
 ghost use Rattle.gq_options.specs.CommandLine.{BudgetsWorked, FoldersWorked, OutputsWorked, SeedsWorked, TablesWorked};
 ghost use Rattle.gq_options.specs.CommandLine.{TakesCheck, TakesCommands, TakesOneBudget, TakesOneFolder, TakesOnePath, TakesOneSeed, TakesOutput, TakesRagged, TakesRandom, TakesStats, TakesTables};
 

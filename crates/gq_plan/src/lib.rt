@@ -20,7 +20,7 @@
 //! having     column 2 < 9                          city, count(*), max(id)
 //! ```
 //!
-//! # The contract
+//! # The contract above this crate
 //!
 //! [`plan_group`] and [`plan_distinct`] return the plan, or the refusal, that `group_plan` and
 //! `distinct_plan` of `specs/Plans.antt` define by positions in lists; only `Memory` may replace

@@ -1,4 +1,4 @@
--- What follows from the definitions of answers, in the field's terms.
+-- What the definitions of answers imply, in the subject's own words.
 use Rattle.std.specs.Prelude.{◌≡◌, ◌≤◌, ℕ, suc, Bool, IsTrue, List, [], ◌++◌, length, map, take, drop, Option, option_map, IsPermutation}
 use Rattle.gq_row.specs.declared.value.Value.{Value}
 use Rattle.gq_row.specs.Tables.{PlainTable, keys_differ}

@@ -21,7 +21,7 @@
 //! Rows that aren't kept are skipped before any of their cells is copied. The keys of the other
 //! table's rows are put into a set once for each query, and each row is looked up there.
 //!
-//! # The contract
+//! # The contract above this crate
 //!
 //! Over an honest store the rows of [`group_rows`] are `group_answer` of `specs/Rollups.antt`, and
 //! those of [`distinct_rows`] are `distinct_keys` of `specs/Answers.antt`, each of the `rows_kept`

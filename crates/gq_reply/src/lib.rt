@@ -5,7 +5,7 @@
 //! returns the bytes that are written: a line `ok` or `err`, and after `ok` the rows of a query as
 //! CSV records under their header. Replies of one line are made without allocation ([`line_of`]).
 //!
-//! # The contract
+//! # The contract above this crate
 //!
 //! [`reply_text`] returns the text of the reply as `specs/Replies.antt` defines it, or an
 //! allocation failed: `ok` and the number of rows, then the records of the CSV writer, null as

@@ -1,5 +1,5 @@
-//! Laws of splitting a line into tokens, in the field's terms. Each is the contract of an empty
-//! function.
+//! Laws of splitting a line into tokens, in the subject's own words. Each is the contract of a
+//! function that does nothing.
 ghost use Rattle.gq_token.specs.Spelling.{CutsAll, TakesLongest};
 
 /// A line is split into tokens up to its end: after its blanks there is nothing, or one token and
