@@ -10,7 +10,7 @@ use Rattle.gq_row.specs.Folding.{has_case}
 use Rattle.gq_row.specs.Schemas.{PlainSchema}
 use Rattle.gq_engine.specs.Steps.{key_named}
 
--- whether case tells values of a kind apart: of each but texts without case
+-- whether values of a kind that differ in case are distinct: of each kind but texts without case
 abbrev pub keeps_case : Kind → Bool
 keeps_case kind.Int = true
 keeps_case kind.Text = true

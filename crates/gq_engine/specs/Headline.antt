@@ -23,7 +23,7 @@ pub record Answered (setting : Setting) (old : State) (entries : List Entry) (ne
   pub same : SameTables last new.database
   pub faults : FaultsHappened replies old.failures new.failures
 
--- A run that came to the script's end wrote the texts of the replies to all its items, and counted them; the script is within the limit on its bytes.
+-- A run that reached the script's end wrote the texts of the replies to all its items, and counted them; the script is within the limit on its bytes.
 pub record RanToEnd (setting : Setting) (old : State) (script : Bytes) (new : State) (before after : Option Bytes) (summary : Summary) : Type 0 where
   pub within : length script ≤ setting.limits.script
   pub replies : List Reply
@@ -41,7 +41,7 @@ pub record StoppedReading (setting : Setting) (old : State) (script : Bytes) (ne
   pub answered : Answered setting old done new replies
   pub written : Appends before after (flat_map text replies)
 
--- A run that a write fault ended wrote those texts too, but of the last reply's only a front; the tables are as behind that reply's command.
+-- A run that a write fault ended wrote those texts too, but only a prefix of the last reply's; the tables are those after that reply's command.
 pub record StoppedWriting (setting : Setting) (old : State) (script : Bytes) (new : State) (before after : Option Bytes) : Type 0 where
   pub done : List Entry
   pub left : List Entry

@@ -9,7 +9,7 @@ pub mod Repeating
 pub mod Casing
 pub mod Spending
 pub mod Upserting
--- and what they stand on
+-- and what they are made of
 pub mod Loading
 pub mod Refusing
 pub mod Engines

@@ -60,7 +60,7 @@ abbrev pub csv_told : RowFault → CsvFault
 csv_told (row_fault.Refused why) = csv_fault.Refused (fault_refusal why)
 csv_told row_fault.Read = csv_fault.Read
 
--- the refusal for it, where no read fails but for want of memory
+-- the refusal for it, if a read fails only when an allocation does
 abbrev pub refused_in : CsvFault → Refused
 refused_in (csv_fault.Refused why) = why
 refused_in csv_fault.Read = unnumbered refusal.Memory

@@ -63,7 +63,7 @@ texts_after output earlier (r ∷ rs) = text_as output earlier r ++ texts_after 
 abbrev pub texts : Output → List Reply → Bytes
 texts output replies = texts_after output false replies
 
--- what the standard error is told of the reply to the command on a line, in fixed words
+-- the report on the standard error of the reply to the command on a line, in fixed words
 abbrev pub complaint : Output → ℕ → Reply → Bytes
 complaint Replies line r = []
 complaint (Results format) line (reply.Done n) = []
@@ -84,17 +84,17 @@ IsDiagnosed (Results format) item (reply.Done n) text = ⊥
 IsDiagnosed (Results format) item (reply.Rows header rows) text = ⊥
 IsDiagnosed (Results format) item (reply.Refused why number) text = (why ≡ refusal.Syntax) × Diagnosed item number text
 
--- what it is told of the reply to an item: a line that is no command may be diagnosed
+-- the report of the reply to an item: a line that isn't a command may be diagnosed
 abbrev pub IsComplaint : Output → Numbered → Reply → Bytes → Type 0
 IsComplaint output item r text = (text ≡ complaint output item.number r) ⊎ IsDiagnosed output item r text
 
--- what it is told of the replies to these items
+-- the reports of the replies to these items
 abbrev pub AreComplaints : Output → List Numbered → List Reply → Bytes → Type 0
 AreComplaints output [] replies said = said ≡ []
 AreComplaints output (x ∷ xs) [] said = said ≡ []
 AreComplaints output (x ∷ xs) (r ∷ rs) said = (text : Bytes) × (rest : Bytes) × (said ≡ text ++ rest) × IsComplaint output x r text × AreComplaints output xs rs rest
 
--- all texts were written but for the last, and a front of that
+-- all texts but the last were written, and a prefix of that
 pub record WroteInPart (output : Output) (replies : List Reply) (before after : Option Bytes) : Type 0 where
   pub first : List Reply
   pub last : Reply
@@ -110,7 +110,7 @@ WroteTexts output replies before after (Ok summary) = Appends before after (text
 WroteTexts output replies before after (Err fault.Read) = Appends before after (texts output replies)
 WroteTexts output replies before after (Err fault.Write) = WroteInPart output replies before after
 
--- a run that came to the end of a script within the limit left nothing, and counted its replies
+-- a run that reached the end of a script within the limit left nothing, and counted its replies
 pub record CameToEnd (setting : Setting) (script : Bytes) (left : List Numbered) (replies : List Reply) (summary : Summary) : Type 0 where
   pub within : length script ≤ setting.limits.script
   pub nothing_left : left ≡ []
@@ -121,7 +121,7 @@ abbrev pub Ends : Setting → Bytes → List Numbered → List Reply → Result 
 Ends setting script left replies (Ok summary) = CameToEnd setting script left replies summary
 Ends setting script left replies (Err why) = ⊤
 
--- Some first items of the script were answered, their texts written, and the refusals among them told with the numbers of their lines, as far as the standard error took it; where no fault came, all items.
+-- A prefix of the script's items were answered, their texts written, and the refusals among them reported with the numbers of their lines, as far as the standard error took it; all items, if there was no fault.
 pub record RanInto (output : Output) (setting : Setting) (old : State) (script : Bytes) (new : State) (before after errors told : Option Bytes) (ended : Result Summary Fault) : Type 0 where
   pub done : List Numbered
   pub left : List Numbered

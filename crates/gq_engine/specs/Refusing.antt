@@ -46,7 +46,7 @@ stored_key columns [] values = values
 stored_key columns (position ∷ positions) [] = []
 stored_key columns (position ∷ positions) (value ∷ values) = stored (kind_at columns position) value ∷ stored_key columns positions values
 
--- as many values as key columns, and each may stand in its column
+-- there is a value for each key column, and each has its column's kind or is null
 abbrev pub fits_key : List Column → List ℕ → List Value → Bool
 fits_key columns [] [] = true
 fits_key columns [] (value ∷ values) = false

@@ -9,7 +9,7 @@ use Rattle.gq_engine.specs.Databases.{Database, IsKeyed}
 use Rattle.gq_reply.specs.Refusals.{refused}
 use Rattle.gq_engine.specs.Runs.{PlainRun, SameTables}
 
--- none of the replies tells want of memory
+-- none of the replies is Memory
 abbrev pub NeverMemory : List Reply → Type 0
 NeverMemory [] = Unit {0}
 NeverMemory (answer ∷ answers) = (answer ≡ refused Memory → ⊥) × NeverMemory answers

@@ -41,14 +41,14 @@ abbrev pub ReachesGrouping : Bounds → Database → Item → Type 0
 ReachesGrouping limits old (item.Command c) = (is_grouping c ≡ true) × IsGrouped (step limits old (item.Command c)).1
 ReachesGrouping limits old (item.Refused why) = ⊥
 
--- From the database old an item may be answered by this reply and leave new: as plain lists answer it; or for want of memory; or, where it gets as far as grouping, because the run store failed, or in any way where that lied. The last three leave the database.
+-- From the database old an item may be answered by this reply and leave new: as plain lists answer it; or with Memory; or, if it reaches its grouping, with StoreFault, or in any way if the run store isn't honest. The last three leave the database.
 pub data LegalAnswer (setting : Setting) (old : Database) (it : Item) (answer : Reply) (new : Database) : Type 0 where
   AsListsAnswer : (said : (new, answer) ≡ step setting.limits old it) → LegalAnswer setting old it answer new
   WantsMemory : (kept : new ≡ old) (memory : answer ≡ refused Memory) → LegalAnswer setting old it answer new
   StoreFailed : (kept : new ≡ old) (grouping : ReachesGrouping setting.limits old it) (fault : answer ≡ refused StoreFault) → LegalAnswer setting old it answer new
   StoreLied : (kept : new ≡ old) (grouping : ReachesGrouping setting.limits old it) (lied : setting.honest ≡ false) → LegalAnswer setting old it answer new
 
--- The same of an entry of a script, by what it is read as; or for want of memory to read it.
+-- An entry of a script may be answered so, by what it is read as; or with Memory, if an allocation fails while it is read.
 abbrev pub LegalStep : Setting → Database → Entry → Reply → Database → Type 0
 LegalStep setting old entry answer new =
     ((it : Item) × ReadsAs setting.limits entry it × LegalAnswer setting old it answer new)
@@ -62,7 +62,7 @@ LegalRun setting old (entry ∷ entries) [] new = ⊥
 LegalRun setting old (entry ∷ entries) (answer ∷ answers) new =
     (between : Database) × LegalStep setting old entry answer between × LegalRun setting between entries answers new
 
--- each reply that tells a failure of the run store is one of its failures, by its count before and after
+-- each StoreFault among the replies is one of the run store's failures, by its count before and after
 abbrev pub is_store_fault : Reply → Bool
 is_store_fault (reply.Done n) = false
 is_store_fault (reply.Rows header rows) = false
@@ -107,7 +107,7 @@ KeptUnlessDone (reply.Done n) old new = Unit {0}
 KeptUnlessDone (reply.Rows header rows) old new = SameTables old new
 KeptUnlessDone (reply.Refused why number) old new = SameTables old new
 
--- What is left of a legal run where the run store neither failed nor lied: each entry is answered as plain lists answer it, or refused for want of memory.
+-- What is left of a legal run if the run store neither failed nor lied: each entry is answered as plain lists answer it, or refused with Memory.
 abbrev pub PlainStep : Bounds → Database → Entry → Reply → Database → Type 0
 PlainStep limits old entry answer new =
     ((it : Item) × ReadsAs limits entry it × ((new, answer) ≡ step limits old it))

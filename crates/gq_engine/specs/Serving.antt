@@ -22,30 +22,30 @@ use Rattle.gq_engine.specs.Refusing.{key_within, stored_key}
 use Rattle.gq_engine.specs.Sending.{AppendsFront}
 use Rattle.gq_engine.specs.Steps.{Outcome, settle, key_named}
 
--- the steps of a command came to this reply, and to tables that are these but for the order of rows
+-- the steps of a command result in this reply, and in tables that are these but for the order of rows
 pub record CarriedOut (steps : Outcome) (answer : Reply) (old new : Database) : Type 0 where
   pub last : Database
   pub done : steps ≡ Ok (last, answer)
   pub same : SameTables last new
   pub kept : KeptUnlessDone answer old new
 
--- what a command did: what its steps come to, or they are refused, or there was no memory; the last two leave the tables but for the order of rows
+-- what a command did: its steps were carried out, or they are refused, or there was no memory; the last two leave the tables but for the order of rows
 abbrev pub Comes : Outcome → Result Reply Refused → Database → Database → Type 0
 Comes steps (Ok answer) old new = CarriedOut steps answer old new
 Comes steps (Err why) old new = SameTables old new × ((why ≡ unnumbered Memory) ⊎ (steps ≡ Err why))
 
--- the reply that a command's result is told as
+-- the reply to a command with this result
 abbrev pub reply_of : Result Reply Refused → Reply
 reply_of (Ok answer) = answer
 reply_of (Err why) = told why
 
--- What a command did over a run store: as above; or, where it groups and its steps get as far as grouping, the store failed, or came to anything where it isn't honest. The last two leave the tables but for the order of rows.
+-- What a command did over a run store: as above; or, if its steps reach a grouping, the store failed, or the result is any if the store isn't honest. The last two leave the tables but for the order of rows.
 pub data ComesOver (grouping honest : Bool) (steps : Outcome) (result : Result Reply Refused) (old new : Database) : Type 0 where
   Plainly : (plain : Comes steps result old new) → ComesOver grouping honest steps result old new
   StoreFails : (groups : grouping ≡ true) (reached : IsGrouped (settle old steps).1) (same : SameTables old new) (fault : result ≡ Err (unnumbered StoreFault)) → ComesOver grouping honest steps result old new
   StoreLies : (groups : grouping ≡ true) (reached : IsGrouped (settle old steps).1) (same : SameTables old new) (lied : honest ≡ false) → ComesOver grouping honest steps result old new
 
--- What a grouping came to over a run store: what lists come to; or there was no memory; or the store failed; or, where it isn't honest, to anything.
+-- The result of a grouping over a run store: that of lists; or there was no memory; or the store failed; or any, if the store isn't honest.
 abbrev pub GroupsOver : {X : Type 0} → Bool → Result X Refused → Result X Refused → Type 0
 GroupsOver honest steps result = (result ≡ steps) ⊎ ((result ≡ Err (unnumbered Memory)) ⊎ ((result ≡ Err (unnumbered StoreFault)) ⊎ (honest ≡ false)))
 
@@ -59,7 +59,7 @@ abbrev pub under : List Bytes → Result (List (List Value)) Refused → Result 
 under header (Ok rows) = Ok (reply.Rows header rows)
 under header (Err why) = Err why
 
--- how many failures of the run store a result tells
+-- the number of failures of the run store that a result reports
 abbrev pub faults_in : {X : Type 0} → Result X Refused → ℕ
 faults_in (Ok x) = 0
 faults_in (Err why) = count_by is_store_fault (told why ∷ [])
@@ -91,7 +91,7 @@ abbrev pub Takes : {X : Type 0} → Result (List (List Value)) Refused → Resul
 Takes steps (Ok x) old new = HasRows steps old new
 Takes steps (Err why) old new = (new ≡ old) × ((why ≡ unnumbered Memory) ⊎ (steps ≡ Err why))
 
--- what a delete from one table did: the row of the key that values name is away, and whether there was one is told; or it is refused and the table left
+-- what a delete from one table did: the row with this key is gone, and the result is whether there was one; or it is refused and the table unchanged
 abbrev pub Deletes : List Value → Result Bool Refused → PlainTable → PlainTable → Type 0
 Deletes values (Ok found) old new =
     (key_within old.schema (stored_key old.schema.columns old.schema.key values) ≡ Ok tt) × IsDeleted old (key_named old.schema values) new × (found ≡ has_row old.schema.key old.rows (key_named old.schema values))
@@ -107,7 +107,7 @@ pub record Wrote (output : Output) (earlier : Bool) (setting : Setting) (old : S
   pub faults : FaultsHappened (answer ∷ []) old.failures new.failures
   pub written : Appends before after (text_as output earlier answer)
 
--- an item was answered, and a front of that was written
+-- an item was answered, and a prefix of the answer was written
 pub record WroteFront (output : Output) (earlier : Bool) (setting : Setting) (old : State) (it : Item) (new : State) (before after : Option Bytes) : Type 0 where
   pub answer : Reply
   pub legal : AnsweredAlike setting old.database it answer new.database

@@ -39,7 +39,7 @@ use Rattle.gq_reply.specs.Outcomes.{◌>>=◌, some_or, true_or}
 use Rattle.gq_reply.specs.Refusals.{told, refused}
 use Rattle.gq_engine.specs.Refusing.{put_within, put_all_within, fits_key, stored_key}
 
--- what a command comes to: the database and the reply where it is carried out, or why it is refused
+-- the outcome of a command: the database and the reply if it is carried out, or why it is refused
 abbrev pub Outcome : Type 0
 Outcome = Result (Database × Reply) Refused
 
@@ -80,7 +80,7 @@ with_rows limits db name new = do
   rows ← put_all_within limits table new
   Ok (with_table db name (record table { rows = rows }))
 
--- the rows of a payload are put; that there was no memory for the payload is told before all else
+-- the rows of a payload are put; that there was no memory for the payload is reported before all else
 abbrev pub load_table : Short → Bounds → Database → List ℕ → Payload → Outcome
 load_table short limits db name payload = do
   there ← true_or Memory (not (is_lost payload))

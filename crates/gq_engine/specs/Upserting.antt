@@ -27,7 +27,7 @@ literal_of (NoCase t) = Text t
 abbrev pub upserts : Bytes → List (List Value) → List Item
 upserts name rows = map (λ row. item.Command (Upsert name (map literal_of row))) rows
 
--- the rows of a payload, as many as were told, and what their upserts leave and answer
+-- the rows of a payload, their number, and what their upserts leave and answer
 pub record UpsertsOf (limits : Bounds) (db : Database) (name bytes : Bytes) (count : ℕ) (new : Database) : Type 0 where
   pub table : PlainTable
   pub found : table_at db name ≡ Some table
@@ -37,7 +37,7 @@ pub record UpsertsOf (limits : Bounds) (db : Database) (name bytes : Bytes) (cou
   pub same : after_all limits db (upserts name rows) ≡ new
   pub accepted : replies_to limits db (upserts name rows) ≡ map (λ row. reply.Done 1) rows
 
--- A load that is carried out leaves the tables that the upserts of its rows leave, one after the other, each of which is carried out, and tells their number.
+-- A load that is carried out leaves the tables that upserts of its rows, one after the other, leave, each of which is carried out, and returns their number.
 abbrev pub LoadIsUpserts : Type 0
 LoadIsUpserts = (limits : Bounds) (db new : Database) (name bytes : Bytes) (count : ℕ)
     → step limits db (item.Command (Load name (payload.Bytes bytes))) ≡ (new, reply.Done count) → UpsertsOf limits db name bytes count new

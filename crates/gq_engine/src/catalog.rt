@@ -17,8 +17,7 @@ use std::alloc::{AllocError, Global};
 use std::marker::Model;
 use sw_probe::KeyHash;
 
-/// Tables by their names, in a list that is searched from its front, since there are few. No name
-/// stands twice.
+/// Tables by their names, which are distinct. There are few, so the list is searched from its start.
 #[derive(Drop)]
 pub struct Catalog<H: KeyHash<Key>> {
     alloc: Global,
@@ -92,8 +91,8 @@ impl<H: KeyHash<Key> + Copy> Catalog<H> {
         }
     }
 
-    /// Takes the row of the key that values name out of the table of a name, and tells whether there
-    /// was one. The values become what the key's columns store of them, so it takes no memory.
+    /// Deletes the row with this key from the table of a name, and returns whether there was one. The
+    /// values are converted in place to what the key's columns store, so it takes no memory.
     pub fn delete(&mut self, name: &str, values: &mut [Value]) -> Result<bool, Refused>
         ensures { Settles deleted (delete_row self.old name.now values.old)
             result self.old self.new }

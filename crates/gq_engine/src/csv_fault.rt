@@ -38,7 +38,7 @@ pub(crate) fn fault_of_text(fault: RowFault) -> CsvFault
     }
 }
 
-// The refusal for a fault of bytes in memory: they are read without fail, but for want of memory.
+// The refusal for a fault of bytes in memory: a read of them fails only if an allocation does.
 pub(crate) fn refused_in(fault: CsvFault) -> Refused
     ensures { result ≡ refused_in fault }
 {

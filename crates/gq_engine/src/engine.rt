@@ -17,9 +17,9 @@ use std::alloc::Global;
 use std::io::Read;
 use sw_probe::KeyHash;
 
-/// A database of tables, and what carries out commands on it. `H` hashes the keys of their rows. `S`
-/// is the run store of its groupings, and the budget how many groups one of them keeps in memory at
-/// once; the rows of others stand in runs of the store while it goes on.
+/// A database of tables, and what carries out commands on it. `H` hashes the keys of rows. A grouping
+/// keeps at most the budget's number of groups in memory; the rows of other groups are spilled to
+/// runs of the store `S`.
 #[derive(Drop)]
 pub struct Engine<H: KeyHash<Key>, S> {
     alloc: Global,
@@ -103,7 +103,7 @@ impl<H: KeyHash<Key> + Copy, S: RunStore> Engine<H, S> {
         // A drop and a delete take no memory, and are answered as plain lists answer them.
         ensures sure { takes_no_memory command ≡ true → AnsweredAsLists (setting_of S.runs self.old).limits
             (database self.old) (Item.Command command) result (database self.new) }
-        // A failure of the run store is told only where it failed.
+        // A failure of the run store is reported only if it failed.
         ensures faults { FaultsHappened (result ∷ []) (failures_of S.runs self.old)
             (failures_of S.runs self.new) }
         // Only a command that was carried out changes a table.

@@ -87,8 +87,8 @@ fn columns_of<'a, H: KeyHash<Key> + Copy>(table: Option<&'a Table<H>>) -> &'a [C
     }
 }
 
-/// The result rows of a `group` of a catalog's table and what was spent, raised by what grouping them
-/// took, or the refusal that this comes to.
+/// The result rows of a `group` of a catalog's table, and the work spent so far with that of this
+/// grouping; or the refusal.
 pub fn rows_asked<H: KeyHash<Key> + Copy, S: RunStore>(
     alloc: Global,
     hasher: H,
@@ -151,7 +151,7 @@ fn rows_grouped<H: KeyHash<Key> + Copy, S: RunStore>(
     }
 }
 
-/// The result rows of a `distinct`, or the refusal that its grouping comes to.
+/// The result rows of a `distinct`, or the refusal of its grouping.
 pub fn rows_different<H: KeyHash<Key> + Copy, S: RunStore>(
     alloc: Global,
     hasher: H,

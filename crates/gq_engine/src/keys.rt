@@ -33,7 +33,7 @@ pub fn check_key(schema: &Schema, values: &[Value]) -> Result<(), Refused>
     Ok(())
 }
 
-// Whether there are as many values as key columns, and each may stand in its column.
+// Whether there is a value for each key column, and each has its column's kind or is null.
 fn fit_key(columns: &[Column], key: &[usize], values: &[Value]) -> bool
     requires { All (λ position. position < length columns.now) key.now }
     ensures { result ≡ fits_key columns.now key.now values.now }

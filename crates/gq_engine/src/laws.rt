@@ -7,13 +7,13 @@ ghost use Rattle.gq_engine.specs.Repeating.{AnswersOnce};
 ghost use Rattle.gq_engine.specs.Runs.{OnlyMemoryRefuses};
 ghost use Rattle.gq_engine.specs.Upserting.{LoadIsUpserts};
 
-/// A database is a finite map from names to tables, and no name stands in it twice.
+/// A database is a finite map from names to tables: each name is in it at most once.
 pub fn database_is_a_map()
     ensures { IsFiniteMap }
 {}
 
-/// Where the run store neither failed nor lied, each item of a legal run is answered as plain lists
-/// answer it, or refused for want of memory with the database as it was.
+/// If the run store neither failed nor lied, each item of a legal run is answered as plain lists
+/// answer it, or refused with `Memory` and the database unchanged.
 pub fn only_memory_refuses()
     ensures { OnlyMemoryRefuses }
 {}
@@ -24,14 +24,14 @@ pub fn order_is_unseen()
     ensures { OrderIsUnseen }
 {}
 
-/// A load that is carried out leaves the tables that the upserts of its rows leave, one after the
-/// other, and tells their number.
+/// A load that is carried out leaves the tables that upserts of its rows, one after the other,
+/// leave, and returns their number.
 pub fn load_is_upserts()
     ensures { LoadIsUpserts }
 {}
 
 /// Two runs of one script give the same replies, and leave tables that differ at most in the order
-/// of rows, where they began so and no reply tells want of memory.
+/// of rows, if they began so and no reply is `Memory`.
 pub fn answers_once()
     ensures { AnswersOnce }
 {}

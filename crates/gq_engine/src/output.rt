@@ -85,7 +85,7 @@ pub(crate) fn send_line<W: Write>(
     }
 }
 
-/// What the standard error is told of refused commands, until it fails.
+/// Reports refused commands on the standard error, until a write fails.
 #[derive(Drop)]
 pub(crate) struct Complaints {
     pub(crate) output: Output,
@@ -93,7 +93,7 @@ pub(crate) struct Complaints {
 }
 
 impl Complaints {
-    /// Tells of the reply to the item that came last, if it is refused.
+    /// Reports the reply to the last item, if it is a refusal.
     #[inline]
     pub(crate) fn tell<R: Read, E: Write>(
         &mut self,
@@ -117,7 +117,7 @@ impl Complaints {
         self.tell_refusal(alloc, limits, script, reply, errors);
     }
 
-    // Tells of a reply, if it is refused.
+    // Reports a reply, if it is a refusal.
     fn tell_refusal<R: Read, E: Write>(
         &mut self,
         alloc: Global,
@@ -189,7 +189,7 @@ fn diagnosis_of(
     diagnosis_text(alloc, line, Refusal::Syntax, number, report.column, message)
 }
 
-// What is told of the reply to the command on a line.
+// What is reported of the reply to the command on a line.
 fn complaint(output: Output, line: u64, reply: &Reply) -> Option<RefusalText>
     ensures text { complaint output line reply.now ≡ option_map_or (λ text. text.bytes) result [] }
     ensures quiet { output ≡ Output.Replies → is_some result ≡ false }

@@ -41,8 +41,8 @@ fn bytes_of(payload: Payload) -> Result<Sequence<u8>, Refused>
     }
 }
 
-/// The rows that a payload gives for the table of a name, put one after the other into a table of their
-/// own, and how many they were; or the refusal of a load that comes to none.
+/// Stages the rows of a payload for the table of a name: puts them into a table of their own, and
+/// returns it with their number; or the refusal of the load.
 pub fn stage_for<H: KeyHash<Key> + Copy>(
     alloc: Global,
     catalog: &Catalog<H>,
@@ -94,8 +94,8 @@ pub fn stage_text<H: KeyHash<Key> + Copy, R: Read + Drop>(
     }
 }
 
-// The rows of a text for a table, put one after the other into a table of their own, and how
-// many they were; or the first fault. The text has about so many lines; 0 where that is unknown.
+// The rows of a text, put into a table of their own, and their number; or the first fault. `lines` is
+// the text's number of lines, or 0 if that is unknown.
 fn stage<H: KeyHash<Key> + Copy, R: Read + Drop>(
     alloc: Global,
     text: R,
@@ -124,9 +124,8 @@ fn stage<H: KeyHash<Key> + Copy, R: Read + Drop>(
     }
 }
 
-// Makes room for all lines of a payload where an eighth of them are read and hardly one of their rows
-// replaced another: then hardly one of the others is expected to, and no growth on the way moves rows.
-// Where there is no memory for that the table goes on growing.
+// Makes room for all lines of a payload once an eighth of them are read, if hardly any row replaced
+// another. If there is no memory for that, the table grows on its own.
 #[cold]
 fn make_room<H: KeyHash<Key> + Copy>(staged: &mut Table<H>, count: u64, lines: usize)
     ensures { staged.new ≡ staged.old }
@@ -137,7 +136,7 @@ fn make_room<H: KeyHash<Key> + Copy>(staged: &mut Table<H>, count: u64, lines: u
     }
 }
 
-// Puts the row of a record, counted from 0, of a payload of so many lines.
+// Puts the row of the record at this index, of a payload with this number of lines.
 #[inline]
 fn put_row<H: KeyHash<Key> + Copy>(
     staged: &mut Table<H>,
@@ -158,10 +157,8 @@ fn put_row<H: KeyHash<Key> + Copy>(
     Ok(())
 }
 
-// Puts all rows that are yet to come, and answers how many they were. They are no more than the
-// limit, so a row is refused for want of memory alone. A row that replaces another gives way to it,
-// and the memory of the row that was replaced is used for the next, as is that of a row whose cells
-// moved into a list.
+// Puts the remaining rows, and returns their number. They are within the limit, so a row is refused
+// only if an allocation fails. The memory of a replaced or moved row is used for the next row.
 fn stage_rows<H: KeyHash<Key> + Copy, R: Read + Drop>(
     alloc: Global,
     reader: &mut RowReader<'_, R>,

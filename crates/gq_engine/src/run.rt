@@ -81,9 +81,9 @@ impl<H: KeyHash<Key> + Copy, S: RunStore> Engine<H, S> {
         self.run_as(Output::Replies, reader, writer, &mut sink())
     }
 
-    /// Answers the items of a script like [`Engine::run`], and writes of each reply what an output
-    /// has of it: all of it, or a query's result. Then what is refused is told to `errors`, with the
-    /// number of its item's line; a fault there ends that, and not the run.
+    /// Answers the items of a script like [`Engine::run`], and writes each reply, or only the results
+    /// of queries. In the second case refusals are reported to `errors` with their line's number; a
+    /// write fault there ends the reports, not the run.
     pub fn run_as<R: Read + Drop, W: Write, E: Write>(
         &mut self,
         output: Output,
@@ -94,7 +94,7 @@ impl<H: KeyHash<Key> + Copy, S: RunStore> Engine<H, S> {
         ensures ran { RanAs output (setting_of S.runs self.old) (state_of S.runs self.old) (R.remaining reader)
             (state_of S.runs self.new) (W.contents writer.old) (W.contents writer.new)
             (E.contents errors.old) (E.contents errors.new) result }
-        // Where replies are written, nothing is told.
+        // If replies are written, nothing is reported.
         ensures quiet { output ≡ Output.Replies → errors.new ≡ errors.old }
         ensures setting { setting_of S.runs self.new ≡ setting_of S.runs self.old }
         ensures budget { budget_of self.new ≡ budget_of self.old }

@@ -11,8 +11,8 @@ use thiserror::Error;
 #[error("a write failed")]
 pub struct WriteFault;
 
-/// Writes all the bytes, and flushes. Any error is a fault, an interrupted call too; then a front
-/// of the bytes was written.
+/// Writes all the bytes, and flushes. Any error is a fault, also an interrupted call; a prefix of
+/// the bytes was written then.
 pub fn send<W: Write>(writer: &mut W, bytes: &[u8]) -> Result<(), WriteFault>
     ensures ok { OnOk result (Appends (W.contents writer.old) (W.contents writer.new) bytes.now) }
     ensures err { IfErr result (λ _. AppendsFront (W.contents writer.old) (W.contents writer.new)

@@ -14,7 +14,7 @@ use gq_table::Table;
 use std::alloc::Global;
 use sw_probe::KeyHash;
 
-/// All rows of a table under the names of its columns, refused with `Memory` for want of memory.
+/// All rows of a table under the names of its columns; `Memory` if an allocation fails.
 pub fn all_shown<H: KeyHash<Key> + Copy>(alloc: Global, table: &Table<H>) -> Result<Reply, Refused>
     ensures shown { IfOk result (λ reply.
         reply ≡ Rows (column_names table.now.schema.columns) (rows_shown table.now)) }

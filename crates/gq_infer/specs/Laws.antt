@@ -1,4 +1,4 @@
--- What the kind of a column comes to, in the subject's own words.
+-- The kind of a column, in the subject's own words.
 use Rattle.std.specs.Prelude.{◌≡◌, ℕ, List, All, IsOk, IsErr, IsSome, None}
 use Rattle.std.specs.List.{Any}
 use Rattle.gq_row.specs.declared.schema.Kind.TheVariants as kind

@@ -41,7 +41,7 @@ without_extension name = if length (before_last (λ b. b == 46) name) == 0 then 
 abbrev pub name_of : List ℕ → List ℕ
 name_of word = if has_cut word then front_of word else without_extension (base_name word)
 
--- whether a name has from 1 to so many bytes
+-- whether a name has from 1 to most bytes
 abbrev pub is_name : ℕ → List ℕ → Bool
 is_name most name = not (length name == 0) && nat_le (length name) most
 
@@ -58,16 +58,16 @@ pub record Given : Type 0 where
   pub columns : List Column
   pub key : List (List ℕ)
 
--- a front says a table with these columns and key, within the limits of a line
+-- the part before `=` names a table with these columns and key, within the limits of a line
 pub record SaysTable (bounds : Bounds) (front name : List ℕ) (columns : List Column) (key : List (List ℕ)) : Type 0 where
   pub said : Says (create_line front) (Create name columns key)
   pub within : fits bounds (Create name columns key) ≡ true
 
--- a front says no table
+-- the part before `=` names no table
 abbrev pub SaysNoTable : List ℕ → Type 0
 SaysNoTable front = (name : List ℕ) (columns : List Column) (key : List (List ℕ)) → Says (create_line front) (Create name columns key) → ⊥
 
--- a front is longer than a line, or says a command past a limit
+-- the part before `=` is longer than a line, or a command with it is past a limit
 abbrev pub PassesLimit : Bounds → List ℕ → Type 0
 PassesLimit bounds front = (bounds.line < length (create_line front)) ⊎ ((c : Command) × Says (create_line front) c × (fits bounds c ≡ false))
 
@@ -75,7 +75,7 @@ PassesLimit bounds front = (bounds.line < length (create_line front)) ⊎ ((c : 
 abbrev pub CreatesNone : Command → Type 0
 CreatesNone command = (name : List ℕ) (columns : List Column) (key : List (List ℕ)) → command ≡ Create name columns key → ⊥
 
--- why a front with a parenthesis is refused
+-- why a part before `=` with a parenthesis is refused
 abbrev pub IsRefusedFront : Bounds → List ℕ → BadTable → Type 0
 IsRefusedFront bounds front Memory = Unit {0}
 IsRefusedFront bounds front NoName = ⊥

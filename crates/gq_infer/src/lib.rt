@@ -20,7 +20,7 @@
 //! which saves a second pass over most files.
 //!
 //! What [`table_word`] returns is said by `specs/Words.antt`. The laws in [`laws`] say in the
-//! subject's own words what `kind_of` comes to.
+//! subject's own words which kind `kind_of` gives.
 #![tactic(auto)]
 
 mod bad_table;

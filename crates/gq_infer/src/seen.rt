@@ -7,7 +7,7 @@ ghost use Rattle.gq_infer.specs.Kinds.{kind_seen, with_field};
 use gq_load::{int_of, is_null};
 use gq_row::Kind;
 
-/// What the fields of a column are, as far as they are read.
+/// What the fields of a column are, of those read so far.
 #[derive(Clone, Copy, Debug, PartialEq, Eq)]
 pub(crate) enum Seen {
     /// Null in a column of numbers.
