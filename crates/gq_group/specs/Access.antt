@@ -18,7 +18,7 @@ either a b run = a run || b run
 abbrev pub Apart : RunSet → RunSet → Type 0
 Apart a b = (run : ℕ) → IsTrue (a run) → b run ≡ false
 
--- Runs of others are as they were. What it owns it keeps, and what it owns more was made since. No run is discarded.
+-- Runs of others are as they were. It still owns its runs, and those that it gained were made since. No run is discarded.
 pub record LeavesOthers (owned owns : RunSet) (old new : Runs) : Type 0 where
   pub others : (run : ℕ) → owns run ≡ false → SameRun old new run
   pub grows : (run : ℕ) → IsTrue (owned run) → IsTrue (owns run)
@@ -40,13 +40,13 @@ HasCause StoreFault old new = old.failures < new.failures
 HasCause Damaged old new = IsTrue old.honest → ⊥
 HasCause SumRange old new = ⊥
 
--- what the refusal of a run's writer or reader is told as
+-- the refusal of a run's writer or reader, as one of a grouping
 abbrev pub refused_as : SpillRefusal → Refusal
 refused_as spill.Memory = Memory
 refused_as spill.StoreFault = StoreFault
 refused_as spill.Damaged = Damaged
 
--- why a grouping refuses; why it answers that a sum is out of range is said by a clause of its own
+-- why a grouping refuses; a clause of its own says when it returns that a sum is out of range
 abbrev pub GroupCause : Refusal → Runs → Runs → Type 0
 GroupCause SumRange old new = Unit {0}
 GroupCause Memory old new = HasCause Memory old new

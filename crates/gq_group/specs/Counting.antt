@@ -1,4 +1,4 @@
--- What counting different values in two phases did with a source, a sink and a run store.
+-- What counting distinct values in two phases did with a source, a sink and a run store.
 use Rattle.std.specs.Prelude.{◌≡◌, ◌+◌, ◌++◌, ℕ, Bool, false, IsTrue, List, length, Result, IfOk, OnOk, IfErr}
 use Rattle.gq_row.specs.declared.value.Value.{Value}
 use Rattle.gq_spill.specs.Runs.{Runs}
@@ -10,7 +10,7 @@ use Rattle.gq_group.specs.Work.{SpillsTwice}
 use Rattle.gq_group.specs.declared.grouping.Spent.{Spent}
 use Rattle.gq_group.specs.declared.refusal.Refusal.{Refusal}
 
--- The numbers of different values went to a sink, by way of a run that stays, or it was refused.
+-- The numbers of distinct values went to a sink, through a run that remains, or it was refused.
 pub record CountedInRun (by : List ℕ) (column budget number : ℕ) (gives : List (List Value) → Type 0) (held holds : List Group → Type 0) (source_owned source_owns sink_owned sink_owns : RunSet) (source_ready sink_ready : Type 0)
     (source_makes sink_makes : Bool) (old new : Runs) (result : Result Spent Refusal) : Type 0 where
   pub groups : IsTrue old.honest → OnOk result ((rows : List (List Value)) → gives rows → (before : List Group) → held before → PushesDistinct by column rows (λ out. holds (before ++ out)))

@@ -24,7 +24,7 @@ listed {V} xs = from_entries (map (λ (p : List Value × V). (class_of p.0, p)) 
 abbrev pub tallies : List (AggKind × ℕ) → List (List Value) → List Running
 tallies aggs rows = map (λ a. tally a.0 (column_of a.1 rows)) aggs
 
--- a key with the running aggregates of the rows that have it, where it is a key of the rows
+-- a key with the running aggregates of the rows that have it, if it is a key of the rows
 abbrev pub group_at : Spec → List (List Value) → List Value → Option Pair
 group_at spec rows key = if list_any (same_key key) (keys_of spec.by rows) then Some (key, tallies spec.aggs (of_key spec.by rows key)) else None
 

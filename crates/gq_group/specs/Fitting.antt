@@ -1,4 +1,4 @@
--- Rows that have all columns that are named, told by the last of these.
+-- Rows that have all columns that are named, tested by the largest of these.
 use Rattle.std.specs.Prelude.{◌||◌, ℕ, Bool, true, List, Option, None, Some, length, nat_lt}
 use Rattle.std.specs.List.{list_all}
 use Rattle.gq_row.specs.declared.value.Value.{Value}
@@ -10,10 +10,10 @@ abbrev pub reaches : Option ℕ → ℕ → Bool
 reaches None n = true
 reaches (Some column) n = nat_lt column n
 
--- whether a row has that of which an aggregate is asked
+-- whether a row has the column that an aggregate is asked of
 abbrev pub has_asked : List Value → AggKind × ℕ → Bool
 has_asked row agg = counts_all agg.0 || nat_lt agg.1 (length row)
 
--- and whether all of these
+-- whether it has those of all aggregates
 abbrev pub has_all_asked : List (AggKind × ℕ) → List Value → Bool
 has_all_asked aggs row = list_all (has_asked row) aggs

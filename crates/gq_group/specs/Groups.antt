@@ -17,7 +17,7 @@ pub record Spec : Type 0 where
 abbrev pub Group : Type 0
 Group = List Value × List Value
 
--- the keys of rows; without columns there is one, the empty key, also where there is no row
+-- the keys of rows; without columns there is one, the empty key, even if there is no row
 abbrev pub keys_of : List ℕ → List (List Value) → List (List Value)
 keys_of [] rows = [] ∷ []
 keys_of (column ∷ columns) rows = keys (column ∷ columns) rows
@@ -26,7 +26,7 @@ keys_of (column ∷ columns) rows = keys (column ∷ columns) rows
 abbrev pub column_of : ℕ → List (List Value) → List Value
 column_of column rows = map (λ row. cell row column) rows
 
--- the aggregates of some rows; there is none of a sum that is out of range
+-- the aggregates of some rows; a sum that is out of range has no value
 abbrev pub answers : List (AggKind × ℕ) → List (List Value) → List (Option Value)
 answers aggs rows = map (λ a. aggregate a.0 (column_of a.1 rows)) aggs
 
@@ -46,7 +46,7 @@ answered g = (g.0, map Some g.1)
 abbrev pub AreGroups : Spec → List (List Value) → List Group → Type 0
 AreGroups spec rows out = IsPermutation (groups spec rows) (map answered out)
 
--- a sink has the groups of the rows more
+-- the groups of the rows were added to a sink
 abbrev pub Pushes : Spec → List (List Value) → (List Group → Type 0) → Type 0
 Pushes spec rows holds = (out : List Group) × AreGroups spec rows out × holds out
 
@@ -65,7 +65,7 @@ counts_all Sum = false
 counts_all Min = false
 counts_all Max = false
 
--- whether an aggregate of a column can be had of a row: the column is there, with no text in a sum; the column of count(*) is ignored
+-- whether a row has what an aggregate takes: its column, with no text in a sum; the column of count(*) is ignored
 abbrev pub fits_cell : List Value → AggKind × ℕ → Bool
 fits_cell row a = counts_all a.0 || (nat_lt a.1 (length row) && takes a.0 (cell row a.1))
 

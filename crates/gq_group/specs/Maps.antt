@@ -20,7 +20,7 @@ pub record MapView (H : Type 0) : Type 0 where
   pub hasher : H
   pub each : ℕ
 
--- and of groups on their way out: those that are left, and what is asked of each
+-- and of groups that leave a map: those that are still there, and what is asked of each
 pub record Leaving : Type 0 where
   pub pairs : List Pair
   pub asked : List (AggKind × ℕ)
@@ -29,7 +29,7 @@ pub record Leaving : Type 0 where
 abbrev pub Start : Type 0
 Start = List Value × ℕ
 
--- as many elements of a list as a group has, from a place on
+-- the part of a list that a group has, from a place on
 abbrev pub chunk : {X : Type 0} → ℕ → List X → ℕ → List X
 chunk each xs start = take each (drop start xs)
 
@@ -42,7 +42,7 @@ abbrev pub starts_from : ℕ → ℕ → List (List Value) → List Start
 starts_from each at [] = []
 starts_from each at (key ∷ keys) = (key, at) ∷ starts_from each (at + each) keys
 
--- each key with its running aggregates, which stand in the same order
+-- each key with its running aggregates, which are in the same order
 abbrev pub pairs_from : ℕ → ℕ → List Running → List (List Value) → List Pair
 pairs_from each at running keys = map (pair_at each running) (starts_from each at keys)
 
@@ -51,7 +51,7 @@ pub record AreKept (each : ℕ) (running : List Running) (keys : List (List Valu
   pub different : AreDifferent class_of keys
   pub whole : length running ≡ length keys * each
 
--- two groups have no place of the list together
+-- two groups share no place of the list
 abbrev pub NoneShared : ℕ → ℕ → ℕ → Type 0
 NoneShared each a b = (a + each ≤ b) ⊎ (b + each ≤ a)
 

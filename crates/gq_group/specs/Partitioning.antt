@@ -1,4 +1,4 @@
--- What one pass over rows leaves to others: the rows of keys that are not kept go to runs, by partitions of keys.
+-- What one pass over rows leaves to others: rows whose keys are not kept go to runs, by partitions of keys.
 use Rattle.std.specs.Prelude.{◌-◌, ◌*◌, ◌/◌, ◌%◌, ◌^◌, ◌==◌, ℕ, zero, suc, nat_lt, List, [], ◌∷◌, length, map, filter, Option, if◌then◌else◌}
 use Rattle.gq_row.specs.declared.value.Value.{Value}
 use Rattle.gq_row.specs.Classes.{class_of}
@@ -26,7 +26,7 @@ cost budget spec rows = length rows * ((count_groups spec rows - 1) / budget)
 abbrev pub excess : ℕ → Spec → List (List Value) → ℕ
 excess budget spec rows = count_groups spec rows - budget
 
--- one, where there is a row
+-- 1 if there is a row
 abbrev pub one_if_some : List (List Value) → ℕ
 one_if_some [] = 0
 one_if_some (row ∷ rows) = 1

@@ -1,4 +1,4 @@
--- Partitions: the keys of each have a run of their own, and what is in it.
+-- Partitions: each has a run for the rows of its keys, and what is in it.
 use Rattle.std.specs.Prelude.{◌≡◌, ◌<◌, ◌++◌, ℕ, zero, suc, false, IsTrue, List, [], ◌∷◌, length, Option, Some, None}
 use Rattle.std.specs.List.{list_any, sum_by, AllZip, AllByRecursion}
 use Rattle.gq_row.specs.declared.value.Value.{Value}
@@ -77,7 +77,7 @@ pub record Gone (mine : RunSet) (old new : Runs) : Type 0 where
   pub same_made : new.made ≡ old.made
   pub same_failures : new.failures ≡ old.failures
 
--- of some partitions those behind a front were discarded
+-- the runs of the last of some partitions were discarded, and those of the others are left
 pub record DiscardedSome (all left : List Partition) (old new : Runs) : Type 0 where
   pub done : List Partition
   pub whole : all ≡ left ++ done

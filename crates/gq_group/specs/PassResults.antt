@@ -34,7 +34,7 @@ pub record RowsRead (spec : Spec) (budget : ℕ) (part_of : List Value → ℕ) 
   pub cause : IfErr result (λ e. HasCause e old new)
 
 -- The groups of some keys of the rows that a source gives went to a sink, and the rows of its other keys to runs in partitions, or the pass was refused.
--- What the source owned and owns, what the sink owned and owns, and the partitions' runs lie apart at every exit.
+-- What the source owned and owns, what the sink owned and owns, and the partitions' runs are apart at every exit.
 pub record PassRan (spec : Spec) (budget bound : ℕ) (gives : List (List Value) → Type 0) (held holds : List Group → Type 0) (source_owned source_owns sink_owned sink_owns : RunSet)
     (source_ready sink_ready : Type 0) (source_makes sink_makes : Bool) (old new : Runs) (partitions : List Partition) (result : Result PassStats Refusal) : Type 0 where
   pub parted : IsTrue old.honest → IfOk result (λ done. (rows : List (List Value)) → gives rows → Parted spec budget rows partitions new done (λ out. (before : List Group) → held before → holds (before ++ out)))

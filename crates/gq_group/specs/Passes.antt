@@ -26,7 +26,7 @@ IsWide columns [] = Unit {0}
 IsWide columns (row ∷ rows) = length row ≡ columns
 
 -- The groups of the rows are those that were pushed and those of the rows in the partitions' runs, in some order. At most the budget's number
--- were pushed, and that many where a row was written.
+-- were pushed, and that many if a row was written.
 pub record Parted (spec : Spec) (budget : ℕ) (rows : List (List Value)) (partitions : List Partition) (runs : Runs) (stats : PassStats) (holds : List Group → Type 0) : Type 0 where
   pub out : List Group
   pub parts : List (List (List Value))

@@ -1,4 +1,4 @@
--- Counting different values in two phases.
+-- Counting distinct values in two phases.
 use Rattle.std.specs.Prelude.{◌≡◌, ℕ, IsTrue, List, [], ◌∷◌, map, None}
 use Rattle.std.proofs.Common.{◌∙◌, sym, subst}
 use Rattle.std.specs.List.{range_with_len}
@@ -13,7 +13,7 @@ use Rattle.gq_group.specs.declared.refusal.Refusal.{Refusal}
 use Rattle.gq_group.specs.declared.refusal.Refusal.TheVariants.{SumRange, Memory, StoreFault, Damaged}
 use Rattle.gq_group.specs.RunSources.{only, same_number, equal_number, wrote_stays}
 
--- first rows are grouped by a key and a value behind it, so that each key has each of its values once
+-- first rows are grouped by a key and a value, so that each key has each of its values once
 abbrev pub pairs_of : List ℕ → ℕ → Spec
 pairs_of by column = record { by = with_column by column; aggs = [] }
 
@@ -21,7 +21,7 @@ pairs_of by column = record { by = with_column by column; aggs = [] }
 abbrev pub counts_of : ℕ → Spec
 counts_of columns = record { by = range_with_len 0 columns; aggs = (Count, columns) ∷ [] }
 
--- no count is out of range, so a refusal for a sum comes of a store that did not read back what was written
+-- no count is out of range, so a store whose runs give such a refusal did not read back what was written
 abbrev pub as_damaged : Refusal → Refusal
 as_damaged SumRange = Damaged
 as_damaged Memory = Memory

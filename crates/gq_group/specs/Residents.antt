@@ -21,7 +21,7 @@ taken spec m rows = filter (λ row. has_entry m (key_of spec.by row)) rows
 abbrev pub left_over : Spec → List Pair → List (List Value) → List (List Value)
 left_over spec m rows = filter (λ row. not (has_entry m (key_of spec.by row))) rows
 
--- The map has the groups of all rows of its keys. There are at most as many as the budget, and that many where a row is left.
+-- The map has the groups of all rows of its keys: at most the budget's number, and that many if a row is left.
 pub record Resident (spec : Spec) (budget : ℕ) (rows : List (List Value)) (m : List Pair) : Type 0 where
   pub grouped : Grouped spec (taken spec m rows) m
   pub within : len (listed m) ≤ budget

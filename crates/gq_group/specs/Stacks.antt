@@ -11,7 +11,7 @@ use Rattle.gq_group.specs.Partitions.{among, Ours, AllHeld}
 use Rattle.gq_group.specs.declared.grouping.Spent.{Spent}
 use Rattle.gq_group.specs.declared.partition.Partition.{Partition}
 
--- Beside the runs that a source and a sink own, those of the stack are there, and nothing else has changed.
+-- Besides the runs that a source and a sink own, those of the stack are there, and nothing else has changed.
 pub record OnStack (owned owns : RunSet) (stack : List Partition) (old new : Runs) : Type 0 where
   pub ours : Ours stack new
   pub apart : Apart (among stack) owns

@@ -2,9 +2,8 @@
 use Rattle.std.specs.Prelude.{◌≡◌, ◌≤◌, ◌↔◌, ◌+◌, ◌-◌, ◌*◌, ◌/◌, ℕ}
 use Rattle.gq_group.specs.declared.grouping.Spent.{Spent}
 
--- Rows are written, and runs made, exactly where there are more groups than the budget. The source and each run give at most the
--- budget's number of groups, and each row that is written at most one; and no row is written more often than groups fill budgets
--- besides the first.
+-- Rows are written, and runs made, exactly if there are more groups than the budget. The source and each run give at most the
+-- budget's number of groups, and each written row at most one; no row is written more often than groups fill further budgets.
 pub record Spills (budget : ℕ) (spent : Spent) : Type 0 where
   pub no_runs : (spent.runs ≡ 0) ↔ (spent.groups ≤ budget)
   pub no_rows : (spent.rows_written ≡ 0) ↔ (spent.groups ≤ budget)
@@ -13,8 +12,8 @@ pub record Spills (budget : ℕ) (spent : Spent) : Type 0 where
   pub few_rows : spent.rows_written ≤ spent.rows_read * ((spent.groups - 1) / budget)
   pub few_runs : spent.runs ≤ spent.groups - budget
 
--- Different values are counted by two groupings: the different pairs of a key and a value are grouped first, and all written to a run
--- of their own; these are then grouped by their keys.
+-- Distinct values are counted by two groupings: first of the pairs of a key and a value, all of which are written to a run of their
+-- own, and then of these by their keys.
 pub record SpillsTwice (budget : ℕ) (spent : Spent) : Type 0 where
   pub pairs : Spent
   pub counts : Spent

@@ -15,7 +15,7 @@ use gq_agg::{Agg, AggKind, SumRange};
 use gq_row::{Row, Value};
 use std::alloc::{AllocError, Global};
 
-// Appends the aggregates of no row to those of other groups, which stay whatever the outcome.
+// Appends aggregates over no row to those of other groups, which stay whatever the outcome.
 pub(crate) fn start_aggs(
     alloc: Global,
     asked: &[(AggKind, usize)],
@@ -30,7 +30,7 @@ pub(crate) fn start_aggs(
     Ok(())
 }
 
-// Appends the aggregates of one row to those of other groups. Refused, the list is as it was.
+// Appends the aggregates of one row to those of other groups. On error the list is as it was.
 pub(crate) fn append_aggs(
     alloc: Global,
     asked: &[(AggKind, usize)],
@@ -52,8 +52,8 @@ pub(crate) fn append_aggs(
     Ok(())
 }
 
-// Writes the values of what is asked over as many others, from the first to the last. What is left of the aggregates is of
-// no value.
+// Writes the values of the aggregates that are asked for over `values`. Afterwards the running
+// aggregates are unspecified.
 #[inline]
 pub(crate) fn take_values(
     aggs: &mut [Agg],
@@ -77,7 +77,7 @@ pub(crate) fn take_values(
     Ok(())
 }
 
-// How many rows were added, nulls too, where an aggregate is kept that tells.
+// How many rows were added, nulls too, by the first aggregate that is kept; 0 without one.
 #[inline]
 fn rows_added(aggs: &[Agg]) -> u64
     ensures rows { (asked : List (Kind × ℕ)) (rows : List (List Cell)) → 0 < length asked →
@@ -90,8 +90,8 @@ fn rows_added(aggs: &[Agg]) -> u64
     }
 }
 
-// Writes the value of an aggregate over another: of `count(*)` the number of rows, of another that of the one that is kept at
-// a place.
+// Writes the value of an aggregate over another value: for `count(*)` the number of rows, else that
+// of the aggregate kept at `place`.
 #[inline(always)]
 fn take_value(
     aggs: &mut [Agg],
@@ -115,7 +115,7 @@ fn take_value(
     aggs[place].take_to(over)
 }
 
-// By how many of those that are kept it is told.
+// How many of the kept aggregates give its value: one, or none for `count(*)`.
 #[inline(always)]
 fn told_by(kind: AggKind) -> usize
     ensures { result ≡ told_by kind }
@@ -123,7 +123,7 @@ fn told_by(kind: AggKind) -> usize
     if is_count(kind) { 0 } else { 1 }
 }
 
-// Adds a row's cells, each to its aggregate. They are no group's any more where memory is wanting.
+// Adds a row's cells, each to its aggregate. On error the aggregates are unspecified.
 #[inline(always)]
 pub(crate) fn add_cells(
     aggs: &mut [Agg],
@@ -142,7 +142,7 @@ pub(crate) fn add_cells(
     Ok(())
 }
 
-// Adds the cell of a column, or null where the row has no such column.
+// Adds the cell of a column, or null if the row has no such column.
 #[inline(always)]
 fn add_cell(agg: &mut Agg, column: usize, row: &Row) -> Result<(), AllocError>
     requires few { agg.old.adds < 2 ^ 32 }

@@ -12,7 +12,7 @@ pub struct Budget {
 impl Budget {
     ghost use Rattle.std.specs.Prelude.{◌≡◌, ◌↔◌, ◌≤◌, IfSome, IsSome};
 
-    /// The budget of a number: None where it is 0 or more than 1,048,576.
+    /// The budget of a number; None if it is 0 or more than 1,048,576.
     pub fn new(entries: u32) -> Option<Budget>
         ensures is { IfSome result (λ budget. budget.entries ≡ entries) }
         ensures when { IsSome result ↔ ((1 ≤ entries) × (entries ≤ 1_048_576)) }

@@ -1,4 +1,4 @@
-//! How many different values the rows of each key have in a column.
+//! How many distinct values the rows of each key have in a column.
 ghost use Rattle.std.specs.Prelude.{◌≡◌, ◌+◌, ◌≤◌, ◌<◌, ◌^◌, ◌++◌, [], ℕ, false, List, length, IsTrue, IfOk, OnOk, IfErr};
 ghost use Rattle.gq_row.specs.declared.value.Value.{Value as Cell};
 ghost use Rattle.gq_spill.specs.Reading.{Left, opened};
@@ -12,6 +12,7 @@ ghost use Rattle.gq_group.specs.RunSources.{only};
 ghost use Rattle.gq_group.specs.Work.{Spills, SpillsTwice};
 
 use crate::budget::Budget;
+use crate::context::GroupContext;
 use crate::group_sink::GroupSink;
 use crate::group_spec::GroupSpec;
 use crate::grouping::{Spent, group};
@@ -25,7 +26,14 @@ use gq_spill::{RunMark, RunReader, RunStore};
 use std::alloc::{AllocError, Global};
 use sw_probe::KeyHash;
 
-// Groups rows by their key and, behind it, their value in a column.
+// The column whose distinct values are counted, for each key of the columns `by`.
+#[derive(Clone, Copy)]
+struct DistinctSpec<'a> {
+    by: &'a [usize],
+    column: usize,
+}
+
+// Groups rows by their key and their value in a column.
 fn pairs_spec(alloc: Global, by: &[usize], column: usize) -> Result<GroupSpec, AllocError>
     ensures { IfOk result (λ spec. spec ≡ pairs_of by.now column) }
 {
@@ -34,7 +42,7 @@ fn pairs_spec(alloc: Global, by: &[usize], column: usize) -> Result<GroupSpec, A
     Ok(GroupSpec::new(columns, Vec::new(alloc)))
 }
 
-// Groups such pairs by the columns before their value, and counts those that have one.
+// Groups such pairs by all columns but their value, which is counted if it isn't null.
 fn counts_spec(alloc: Global, columns: usize) -> Result<GroupSpec, AllocError>
     ensures { IfOk result (λ spec. spec ≡ counts_of columns) }
 {
@@ -46,7 +54,7 @@ fn counts_spec(alloc: Global, columns: usize) -> Result<GroupSpec, AllocError>
     Ok(GroupSpec::new(by, aggs))
 }
 
-// What both phases took, and the run between them. No count is told past 64 bits.
+// What both phases took, with the run between them. `Memory` if a count doesn't fit 64 bits.
 fn in_all(first: Spent, second: Spent) -> Result<Spent, Refusal>
     ensures read { IfOk result (λ spent. spent.rows_read ≡ first.rows_read) }
     ensures written { IfOk result (λ spent. spent.rows_written ≡
@@ -76,15 +84,13 @@ fn in_all(first: Spent, second: Spent) -> Result<Spent, Refusal>
     })
 }
 
-// Groups the pairs of a run, each of so many columns and a value, and counts their values.
+// Groups the pairs of a run, each of `columns` columns and a value, and counts their values.
 fn count_pairs<H: KeyHash<Key> + Copy, S: RunStore, K: GroupSink<S>>(
-    alloc: Global,
-    hasher: H,
+    context: GroupContext<H>,
     columns: usize,
     mark: RunMark,
     sink: &mut K,
     store: &mut S,
-    budget: Budget,
 ) -> Result<Spent, Refusal>
     requires live { IsTrue ((S.runs store.old).live mark.id.number) }
     requires sink { K.is_ready sink.old (S.runs store.old) }
@@ -104,7 +110,7 @@ fn count_pairs<H: KeyHash<Key> + Copy, S: RunStore, K: GroupSink<S>>(
         (spent.rows_read ≡ length pairs)
         × (spent.groups ≡ length (keys_of (counts_of columns).by pairs))) }
     ensures spills { IsTrue (S.runs store.old).honest →
-        IfOk result (λ spent. Spills budget.entries spent) }
+        IfOk result (λ spent. Spills context.budget.entries spent) }
     ensures made { K.makes_runs ≡ false →
         IfOk result (λ spent. (S.runs store.new).made ≡ (S.runs store.old).made + spent.runs) }
     ensures others { LeavesOthers (either (only mark.id.number) (K.owns sink.old)) (either
@@ -114,6 +120,11 @@ fn count_pairs<H: KeyHash<Key> + Copy, S: RunStore, K: GroupSink<S>>(
     ensures sink { OnOk result (K.is_ready sink.new (S.runs store.new)) }
     ensures cause { IfErr result (λ e. HasCause e (S.runs store.old) (S.runs store.new)) }
 {
+    let GroupContext {
+        alloc,
+        hasher,
+        budget,
+    } = context;
     let Ok(spec) = counts_spec(alloc, columns) else {
         return Err(Refusal::Memory);
     };
@@ -127,18 +138,15 @@ fn count_pairs<H: KeyHash<Key> + Copy, S: RunStore, K: GroupSink<S>>(
     }
 }
 
-// Writes the different pairs of a key and a value to a run, and counts what it then has. The run
-// stays for the caller to discard.
+// Writes the distinct pairs of a key and a value to a run, and counts the values there. The caller
+// discards the run.
 fn count_in_run<H: KeyHash<Key> + Copy, S: RunStore, R: RowSource<S>, K: GroupSink<S>>(
-    alloc: Global,
-    hasher: H,
-    by: &[usize],
-    column: usize,
+    context: GroupContext<H>,
+    asked: &DistinctSpec<'_>,
     keys: KeyRun,
     source: &mut R,
     sink: &mut K,
     store: &mut S,
-    budget: Budget,
 ) -> Result<Spent, Refusal>
     requires keys { CanWrite keys.writer (S.runs store.old) }
     requires empty { IsTrue (S.runs store.old).honest →
@@ -151,16 +159,22 @@ fn count_in_run<H: KeyHash<Key> + Copy, S: RunStore, R: RowSource<S>, K: GroupSi
     requires few { R.bound source.old ≤ 2 ^ 31 }
     requires rows { IsTrue (S.runs store.old).honest → (rows : List (List Cell)) →
         R.gives source.old (S.runs store.old) rows →
-        IsTrue (all_have (with_column by.now column) rows) }
+        IsTrue (all_have (with_column asked.now.by.now asked.now.column) rows) }
     requires widths { IsTrue (S.runs store.old).honest → (rows : List (List Cell)) →
         R.gives source.old (S.runs store.old) rows → OneWidth rows }
-    ensures { CountedInRun by.now column budget.entries keys.writer.mark.id.number (R.gives source.old
-        (S.runs store.old)) (K.holds sink.old (S.runs store.old)) (K.holds sink.new (S.runs store.new))
-        (R.owns source.old) (R.owns source.new) (K.owns sink.old) (K.owns sink.new) (R.is_ready
-        source.new (S.runs store.new)) (K.is_ready sink.new (S.runs store.new)) R.makes_runs
-        K.makes_runs (S.runs store.old) (S.runs store.new) result }
+    ensures { CountedInRun asked.now.by.now asked.now.column context.budget.entries
+        keys.writer.mark.id.number (R.gives source.old (S.runs store.old)) (K.holds sink.old (S.runs
+        store.old)) (K.holds sink.new (S.runs store.new)) (R.owns source.old) (R.owns source.new)
+        (K.owns sink.old) (K.owns sink.new) (R.is_ready source.new (S.runs store.new)) (K.is_ready
+        sink.new (S.runs store.new)) R.makes_runs K.makes_runs (S.runs store.old) (S.runs store.new)
+        result }
 {
-    let Ok(spec) = pairs_spec(alloc, by, column) else {
+    let GroupContext {
+        alloc,
+        hasher,
+        budget,
+    } = context;
+    let Ok(spec) = pairs_spec(alloc, asked.by, asked.column) else {
         return Err(Refusal::Memory);
     };
     let mut keys = keys;
@@ -172,21 +186,15 @@ fn count_in_run<H: KeyHash<Key> + Copy, S: RunStore, R: RowSource<S>, K: GroupSi
     if mark.records > first.rows_read {
         return Err(Refusal::Damaged);
     }
-    let second = count_pairs(alloc, hasher, by.len(), mark, sink, store, budget)?;
+    let second = count_pairs(context, asked.by.len(), mark, sink, store)?;
     in_all(first, second)
 }
 
-/// The number of different values of a column, nulls left out, among the source's rows of each key:
-/// one group for each key of the columns `by`, with that number alone, pushed to the sink in some
-/// order. Without columns to group by there is one group, also over no rows. Spellings of a text
-/// without case are one value, and a key is handed out by its fold, as [`group`] does.
+/// Pushes a group for each key of the columns `by`, in some order: the key, folded, and how many
+/// distinct values, not counting null, its rows have in `column`. Without columns there is one group.
 ///
-/// The different pairs of a key and a value are grouped first, and written to a run; these are then
-/// grouped by their keys. Both keep at most the budget's number of groups in memory, as [`group`]
-/// does. A pair that no run takes is refused with `Memory`.
-///
-/// A refusal leaves the source behind some of its rows, and the sink with some of the groups; it is
-/// never `SumRange`. The runs that were made are discarded, whatever the outcome.
+/// Two groupings as by [`group`], each within the budget: of the pairs of a key and a value, all of
+/// which are written to a run, and of that run by the key. A refusal is never `SumRange`.
 pub fn group_distinct<H: KeyHash<Key> + Copy, S: RunStore, R: RowSource<S>, K: GroupSink<S>>(
     alloc: Global,
     hasher: H,
@@ -227,7 +235,13 @@ pub fn group_distinct<H: KeyHash<Key> + Copy, S: RunStore, R: RowSource<S>, K: G
 {
     let keys = KeyRun::begin(alloc, store)?;
     let run = keys.run();
-    let outcome = count_in_run(alloc, hasher, by, column, keys, source, sink, store, budget);
+    let context = GroupContext {
+        alloc,
+        hasher,
+        budget,
+    };
+    let asked = DistinctSpec { by, column };
+    let outcome = count_in_run(context, &asked, keys, source, sink, store);
     store.discard(run);
     outcome
 }

@@ -1,4 +1,4 @@
-//! Groups that leave one by one.
+//! Groups that leave a map one by one.
 ghost use Rattle.std.specs.Prelude.{◌≡◌, ◌⊎◌, [], length, OnOk, IfOk, IfErr, IfSome, IfNone, IsErrOf};
 ghost use Rattle.gq_group.specs.KeptAggs.{kept_aggs};
 ghost use Rattle.gq_group.specs.Maps.{pairs_from, AreKept, Takes, Overflows};
@@ -10,14 +10,15 @@ use gq_row::{Key, Value};
 use std::alloc::AllocError;
 use std::marker::Model;
 
-// Groups on their way out, seen as the list of those that are left, and what is asked of them.
+// The groups of a map that are still to leave it, seen as a list, and the aggregates that are asked
+// of each.
 #[derive(Drop)]
 pub(crate) struct Drain<'a> {
     keys: std::vec::IntoIter<Key>,
     running: Vec<Agg>,
     asked: &'a [(AggKind, usize)],
     each: usize,
-    // Where the aggregates of the next begin.
+    // Where the aggregates of the next group begin.
     start: usize,
 }
 
@@ -36,7 +37,7 @@ impl<'a> Model for Drain<'a> {
 }
 
 impl<'a> Drain<'a> {
-    // Those of keys, whose aggregates stand in the same order.
+    // The groups of keys, whose aggregates are in the same order.
     pub(crate) fn new(
         keys: Vec<Key>,
         running: Vec<Agg>,
@@ -57,7 +58,7 @@ impl<'a> Drain<'a> {
         }
     }
 
-    // Takes the next group out: its key, and the values of its aggregates over those of a list that is lent.
+    // Removes the next group: returns its key, and writes its aggregates over `values`.
     #[inline(always)]
     pub(crate) fn next(&mut self, values: &mut Vec<Value>) -> Result<Option<Key>, Refusal>
         ensures taken { IfOk result (λ next.
@@ -76,17 +77,17 @@ impl<'a> Drain<'a> {
         }
         let start = self.start;
         let end = start + self.each;
-        let partitions = values.as_mut_slice();
-        let Ok(()) = take_values(&mut self.running[start..end], self.asked, partitions) else {
+        let over = values.as_mut_slice();
+        let Ok(()) = take_values(&mut self.running[start..end], self.asked, over) else {
             return Err(Refusal::SumRange);
         };
-        // Its key comes last: kept while the values are taken, it would be moved once more.
+        // The key is taken last: before the values, it would be moved once more.
         self.start = end;
         Ok(self.keys.next())
     }
 }
 
-// Makes a list of values so long, whatever they are.
+// Sets the length of a list of values, which are then unspecified.
 #[cold]
 fn fit(values: &mut Vec<Value>, len: usize) -> Result<(), AllocError>
     ensures { OnOk result (length values.new.items ≡ len) }

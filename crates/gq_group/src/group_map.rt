@@ -21,9 +21,9 @@ use std::marker::Model;
 use sw_index::{Absence, Found, Index};
 use sw_probe::KeyHash;
 
-// Groups in the order in which they came, as many aggregates for each. Those of all groups stand in one
-// list, in the order of the keys, so that a key's number tells where its own begin, and a group takes no
-// memory of its own.
+// Groups in the order in which they came, with `each` running aggregates each. All of these are in
+// one list in the order of the keys, so that a key's number says where its own begin, and a group
+// allocates nothing but its key.
 #[derive(Drop)]
 pub(crate) struct GroupMap<H: KeyHash<Key>> {
     index: Index<Key, H>,
@@ -42,7 +42,7 @@ impl<H: KeyHash<Key>> Model for GroupMap<H> {
 }
 
 impl<H: KeyHash<Key> + Copy> GroupMap<H> {
-    // The groups of no row: without columns to group by there is that of the empty key.
+    // The groups of no rows: none, or without columns to group by that of the empty key.
     pub(crate) fn start(
         alloc: Global,
         hasher: H,
@@ -63,7 +63,7 @@ impl<H: KeyHash<Key> + Copy> GroupMap<H> {
         })
     }
 
-    // The group of the empty key alone, over no row.
+    // The group of the empty key alone, over no rows.
     fn start_alone(alloc: Global, hasher: H, spec: &GroupSpec) -> Result<GroupMap<H>, AllocError>
         ensures entries { IfOk result (λ groups. listed groups.pairs ≡
             insert empty (class_of []) ([], tallies spec.now.aggs [])) }
@@ -85,8 +85,8 @@ impl<H: KeyHash<Key> + Copy> GroupMap<H> {
         })
     }
 
-    // Makes room for the aggregates of so many groups, where there is memory for that. What is not written of it takes
-    // no more than addresses.
+    // Reserves room for the aggregates of this number of groups, if memory allows. Pages that are
+    // never written take addresses alone.
     pub(crate) fn expect(&mut self, groups: usize)
         ensures { self.new ≡ self.old }
     {
@@ -96,7 +96,7 @@ impl<H: KeyHash<Key> + Copy> GroupMap<H> {
             .reserve(wanted.saturating_sub(self.running.len()));
     }
 
-    // How many groups there are.
+    // The number of groups.
     #[inline]
     pub(crate) fn len(&self) -> usize
         ensures { result ≡ len (listed self.now.pairs) }
@@ -104,13 +104,13 @@ impl<H: KeyHash<Key> + Copy> GroupMap<H> {
         self.index.len()
     }
 
-    // How many there may be before the table of the index grows.
+    // How many groups there may be before the table of the index grows.
     #[inline]
     pub(crate) fn room(&self) -> usize {
         self.index.room()
     }
 
-    // The number of the group of a key, or that there is none.
+    // The number of a key's group, or the key's hash if it has none.
     #[inline(always)]
     pub(crate) fn find(&self, key: &KeyRef<'_>) -> Found
         ensures found { IsGroup self.now.pairs (class_of key.now) result }
@@ -120,8 +120,8 @@ impl<H: KeyHash<Key> + Copy> GroupMap<H> {
         self.index.find(key)
     }
 
-    // Adds a row to the group of its key, whose number it is. It is no group any more where memory is
-    // wanting.
+    // Adds a row to the group of its key, by the group's number. On error the group's state is
+    // unspecified.
     #[inline(always)]
     pub(crate) fn add(
         &mut self,
@@ -148,8 +148,8 @@ impl<H: KeyHash<Key> + Copy> GroupMap<H> {
         add_cells(&mut self.running[start..end], spec.aggs(), row)
     }
 
-    // Adds the group of a row whose key no row before it has, and makes room for the keys of so many groups
-    // in all, where there is memory for that.
+    // Adds the group of a row with a new key, and makes room for the keys of `room` groups in all, if
+    // memory allows.
     pub(crate) fn add_group(
         &mut self,
         alloc: Global,
@@ -180,7 +180,7 @@ impl<H: KeyHash<Key> + Copy> GroupMap<H> {
         Ok(())
     }
 
-    // The groups, to leave one by one with what is asked of each.
+    // The groups, which leave one by one with the aggregates that are asked of each.
     pub(crate) fn drain<'a>(self, asked: &'a [(AggKind, usize)]) -> Drain<'a>
         requires { self.each ≡ length (kept_aggs asked.now) }
         ensures groups { ListsAll class_of result.pairs (listed self.pairs) }

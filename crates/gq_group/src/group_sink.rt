@@ -22,14 +22,13 @@ pub trait GroupSink<S: RunStore> {
     /// Whether it may make runs.
     ghost makes_runs: { Bool };
 
-    /// Hears that so many groups may come. It may make room for them, where there is memory for
-    /// that, and is otherwise as it was.
+    /// Says that this number of groups may come. The sink may reserve memory for them; nothing else
+    /// changes.
     fn make_room(&mut self, groups: usize)
         ensures { self.new ≡ self.old };
 
-    /// Takes a group: its key, which is folded, and the values of its aggregates. These are lent: it
-    /// may take them out, and whatever it leaves there is dropped. After a refusal nothing is said
-    /// of it.
+    /// Takes a group: its key, folded, and the values of its aggregates. It may move these out of the
+    /// list, and what it leaves there is dropped. After a refusal the sink's state is unspecified.
     fn push(&mut self, store: &mut S, key: Key, values: &mut Vec<Value>) -> Result<(), Refusal>
         requires { is_ready self.old (S.runs store.old) }
         ensures groups { IsTrue (S.runs store.old).honest →

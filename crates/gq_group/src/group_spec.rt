@@ -17,7 +17,7 @@ use std::marker::Model;
 pub struct GroupSpec {
     by: Vec<usize>,
     aggs: Vec<(AggKind, usize)>,
-    // The last of all columns that are named, if any is.
+    // The largest column that is named, if any is.
     last: Option<usize>,
 }
 
@@ -62,7 +62,7 @@ impl GroupSpec {
         self.aggs.as_slice()
     }
 
-    /// The grouping by so many of the first of its columns, with the same aggregates.
+    /// The grouping by a prefix of its columns, with the same aggregates.
     pub fn prefix(&self, alloc: Global, columns: usize) -> Result<GroupSpec, AllocError>
         requires { columns ≤ length self.now.by }
         ensures by { IfOk result (λ spec. spec.by ≡ take columns self.now.by) }
@@ -73,8 +73,8 @@ impl GroupSpec {
         Ok(GroupSpec::new(by, aggs))
     }
 
-    // The same grouping of the aggregates that are kept for each group: all but `count(*)`, which each of them tells
-    // by how many values it was given, nulls too. Where nothing else is asked, one `count(*)` is kept.
+    // The same grouping, of the aggregates that are kept for each group: all but `count(*)`, since each
+    // of them counts its values, nulls too. If there are no others, one `count(*)` is kept.
     pub(crate) fn kept(&self, alloc: Global) -> Result<GroupSpec, AllocError>
         ensures { IfOk result (λ spec. spec ≡ kept_spec self.now) }
     {
@@ -95,7 +95,7 @@ impl GroupSpec {
     }
 }
 
-// The last of some columns, if there is one.
+// The largest of some columns, if there is one.
 fn last_of(columns: &[usize]) -> Option<usize>
     ensures { (row : List Cell) →
         does_reach result (length row) ≡ has_columns columns.now row }
@@ -107,7 +107,7 @@ fn last_of(columns: &[usize]) -> Option<usize>
     last
 }
 
-// The last of a column, if there is one, and those of which something is asked.
+// The largest of `before`, if it is there, and of the columns that aggregates are asked of.
 fn last_asked(before: Option<usize>, aggs: &[(AggKind, usize)]) -> Option<usize>
     ensures { (row : List Cell) → does_reach result (length row) ≡
         (does_reach before (length row) && has_all_asked aggs.now row) }
@@ -121,7 +121,7 @@ fn last_asked(before: Option<usize>, aggs: &[(AggKind, usize)]) -> Option<usize>
     last
 }
 
-// The later of two columns, the first of which there may not be.
+// The larger of a column that may be missing and another.
 fn later(last: Option<usize>, column: usize) -> usize
     ensures { (n : ℕ) → nat_lt result n ≡ (does_reach last n && nat_lt column n) }
 {
@@ -131,7 +131,7 @@ fn later(last: Option<usize>, column: usize) -> usize
     }
 }
 
-// Whether a row of so many values has a column, if there is one, and so all that stand before it.
+// Whether a row of `values` values has a column, if there is one, and so all columns before it.
 #[inline]
 fn reaches(last: Option<usize>, values: usize) -> bool
     ensures { result ≡ does_reach last values }
@@ -142,7 +142,7 @@ fn reaches(last: Option<usize>, values: usize) -> bool
     }
 }
 
-// The aggregates that are no `count(*)`.
+// The aggregates that aren't `count(*)`.
 fn others(alloc: Global, asked: &[(AggKind, usize)]) -> Result<Vec<(AggKind, usize)>, AllocError>
     ensures { IfOk result (λ aggs. aggs.items ≡ others asked.now) }
 {
@@ -163,7 +163,7 @@ pub(crate) fn counts_all(kind: AggKind) -> bool
     matches!(kind, AggKind::CountAll)
 }
 
-// Whether no text is to be summed in a row that has all columns of which something is asked.
+// Whether no sum is asked of a text, in a row that has all columns that aggregates are asked of.
 #[inline]
 fn fit_cells(aggs: &[(AggKind, usize)], row: &Row) -> bool
     requires { has_all_asked aggs.now row.now ≡ true }

@@ -10,6 +10,7 @@ ghost use Rattle.gq_group.specs.KeptAggs.{kept_spec};
 ghost use Rattle.gq_group.specs.Work.{Spills};
 
 use crate::budget::Budget;
+use crate::context::GroupContext;
 use crate::group_map::GroupMap;
 use crate::group_sink::GroupSink;
 use crate::group_spec::GroupSpec;
@@ -36,7 +37,8 @@ pub struct Spent {
     pub runs: u64,
 }
 
-// Sends all groups to the sink, each as it leaves the map. So many rows wait in runs, each of which may be a group's first.
+// Pushes all groups to the sink, each as it leaves the map. Each of the `waiting` rows in runs may be
+// the first of a group.
 pub(crate) fn push_all<H: KeyHash<Key> + Copy, S: RunStore, K: GroupSink<S>>(
     alloc: Global,
     spec: &GroupSpec,
@@ -75,15 +77,11 @@ pub(crate) fn push_all<H: KeyHash<Key> + Copy, S: RunStore, K: GroupSink<S>>(
     Ok(groups as u64)
 }
 
-/// The groups of the source's rows, one for each of their keys, pushed to the sink in some order. A
-/// key is handed out by its fold, so a text without case is in it in small letters, however its rows
-/// spell it.
+/// Pushes a group for each key of the source's rows, in some order. Keys are folded: a text without
+/// case is in small letters, however its rows spell it.
 ///
-/// At most the budget's number of groups is kept in memory at once. Rows of keys that have no place
-/// there are written to runs, and each run is read in the same way; the runs are discarded whatever
-/// the outcome. A refusal leaves the source behind some of its rows, and the sink with some of the
-/// groups. A row that has no record, since its values take 2^32 bytes or more, is refused with
-/// `Memory` where it is to be written.
+/// At most the budget's number of groups is in memory, and rows of other keys are spilled. After a
+/// refusal some rows were read and some groups pushed. Runs are discarded whatever the outcome.
 pub fn group<H: KeyHash<Key> + Copy, S: RunStore, R: RowSource<S>, K: GroupSink<S>>(
     alloc: Global,
     hasher: H,
@@ -130,8 +128,13 @@ pub fn group<H: KeyHash<Key> + Copy, S: RunStore, R: RowSource<S>, K: GroupSink<
     ensures sink { OnOk result (K.is_ready sink.new (S.runs store.new)) }
     ensures cause { IfErr result (λ e. GroupCause e (S.runs store.old) (S.runs store.new)) }
 {
+    let context = GroupContext {
+        alloc,
+        hasher,
+        budget,
+    };
     let mut stack = Vec::new(alloc);
-    let outcome = run_passes(alloc, hasher, spec, source, sink, store, budget, &mut stack);
+    let outcome = run_passes(context, spec, source, sink, store, &mut stack);
     discard_all(stack, store);
     outcome
 }

@@ -17,7 +17,7 @@ use std::alloc::{AllocError, Global};
 pub(crate) struct Partition {
     // The depth at which its rows are to be read.
     pub(crate) depth: u32,
-    // None where no row came.
+    // None if no row came.
     pub(crate) writer: Option<RunWriter>,
 }
 

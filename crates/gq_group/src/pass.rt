@@ -9,7 +9,7 @@ ghost use Rattle.gq_group.specs.Passes.{AreRows, Places};
 ghost use Rattle.gq_group.specs.Residents.{Resident};
 ghost use Rattle.gq_group.specs.Partitions.{among, Ours, AllHeld, AreEmpty};
 
-use crate::budget::Budget;
+use crate::context::GroupContext;
 use crate::group_sink::GroupSink;
 use crate::group_spec::GroupSpec;
 use crate::grouping::push_all;
@@ -19,8 +19,16 @@ use crate::resident_table::{Offered, ResidentTable};
 use crate::row_source::RowSource;
 use gq_row::{Key, Row};
 use gq_spill::{RunStore, is_storable};
-use std::alloc::{AllocError, Global};
+use std::alloc::AllocError;
 use sw_probe::KeyHash;
+
+// A pass over rows: what is asked of their groups, and at which depth their keys are partitioned.
+#[derive(Clone, Copy)]
+pub(crate) struct Pass<'a, H> {
+    pub(crate) context: GroupContext<H>,
+    pub(crate) spec: &'a GroupSpec,
+    pub(crate) depth: u32,
+}
 
 // What a pass did.
 #[derive(Clone, Copy)]
@@ -70,28 +78,26 @@ fn partition_of(depth: u32, hash: u64) -> usize
 // Puts a row into its group, or into the run of its partition.
 #[inline(always)]
 fn place_row<H: KeyHash<Key> + Copy, S: RunStore>(
-    alloc: Global,
-    spec: &GroupSpec,
-    depth: u32,
+    pass: &Pass<'_, H>,
     row: &Row,
     store: &mut S,
     table: &mut ResidentTable<H>,
     partitions: &mut Vec<Partition>,
 ) -> Result<Placed, Refusal>
-    requires fits { IsTrue (fits_spec spec.now row.now) }
-    requires each { table.old.groups.each ≡ length spec.now.aggs }
+    requires fits { IsTrue (fits_spec pass.now.spec.now row.now) }
+    requires each { table.old.groups.each ≡ length pass.now.spec.now.aggs }
     requires resident { (rows : List (List Cell)) × (length rows < 2 ^ 32) ×
-        Resident spec.now table.old.budget.entries rows table.old.groups.pairs }
-    requires places { length partitions.old.items ≡ fan_out depth }
+        Resident pass.now.spec.now table.old.budget.entries rows table.old.groups.pairs }
+    requires places { length partitions.old.items ≡ fan_out pass.now.depth }
     requires ours { Ours partitions.old.items (S.runs store.old) }
-    ensures places { IfOk result (λ placed. Places spec.now table.old.budget.entries (partition_by
-        (H.hash_of table.old.groups.hasher) depth) (fan_out depth) row.now (S.runs
-        store.old) (S.runs store.new) table.old.groups.pairs table.new.groups.pairs partitions.old.items partitions.new.items
+    ensures places { IfOk result (λ placed. Places pass.now.spec.now table.old.budget.entries
+        (partition_by (H.hash_of table.old.groups.hasher) pass.now.depth)
+        (fan_out pass.now.depth) row.now (S.runs store.old) (S.runs store.new) table.old.groups.pairs table.new.groups.pairs partitions.old.items partitions.new.items
         placed.written placed.began) }
     ensures budget { table.new.budget ≡ table.old.budget }
     ensures each { table.new.groups.each ≡ table.old.groups.each }
     ensures hasher { OnOk result (table.new.groups.hasher ≡ table.old.groups.hasher) }
-    ensures same_length { length partitions.new.items ≡ fan_out depth }
+    ensures same_length { length partitions.new.items ≡ fan_out pass.now.depth }
     ensures ours { Ours partitions.new.items (S.runs store.new) }
     ensures others { LeavesOthers (among partitions.old.items) (among partitions.new.items) (S.runs
         store.old) (S.runs store.new) }
@@ -101,7 +107,8 @@ fn place_row<H: KeyHash<Key> + Copy, S: RunStore>(
         AllHeld (S.runs store.old) partitions.old.items parts →
         IfErr result (λ e. HasCause e (S.runs store.old) (S.runs store.new)) }
 {
-    let Ok(offered) = table.offer(alloc, spec, row) else {
+    let alloc = pass.context.alloc;
+    let Ok(offered) = table.offer(alloc, pass.spec, row) else {
         return Err(Refusal::Memory);
     };
     let Offered::Left(hash) = offered else {
@@ -113,7 +120,8 @@ fn place_row<H: KeyHash<Key> + Copy, S: RunStore>(
     if !is_storable(row) {
         return Err(Refusal::Memory);
     }
-    let began = spill(alloc, partitions, partition_of(depth, hash), row, store)?;
+    let place = partition_of(pass.depth, hash);
+    let began = spill(alloc, partitions, place, row, store)?;
     Ok(Placed { written: 1, began })
 }
 
@@ -127,9 +135,7 @@ fn width(count: u64, columns: usize, row: &Row) -> usize
 // Reads all rows of the source: each into its group, or if the table is full into the run of its
 // partition.
 fn read_rows<H: KeyHash<Key> + Copy, S: RunStore, R: RowSource<S>>(
-    alloc: Global,
-    spec: &GroupSpec,
-    depth: u32,
+    pass: &Pass<'_, H>,
     source: &mut R,
     store: &mut S,
     table: &mut ResidentTable<H>,
@@ -138,13 +144,14 @@ fn read_rows<H: KeyHash<Key> + Copy, S: RunStore, R: RowSource<S>>(
     requires source { R.is_ready source.old (S.runs store.old) }
     requires few { R.bound source.old ≤ 2 ^ 31 }
     requires rows { IsTrue (S.runs store.old).honest → (rows : List (List Cell)) ×
-        R.gives source.old (S.runs store.old) rows × AreRows spec.now rows }
-    requires each { table.old.groups.each ≡ length spec.now.aggs }
-    requires start { Resident spec.now table.old.budget.entries [] table.old.groups.pairs }
-    requires places { length partitions.old.items ≡ fan_out depth }
+        R.gives source.old (S.runs store.old) rows × AreRows pass.now.spec.now rows }
+    requires each { table.old.groups.each ≡ length pass.now.spec.now.aggs }
+    requires start { Resident pass.now.spec.now table.old.budget.entries []
+        table.old.groups.pairs }
+    requires places { length partitions.old.items ≡ fan_out pass.now.depth }
     requires empty { AreEmpty partitions.old.items }
-    ensures read { RowsRead spec.now table.old.budget.entries (partition_by (H.hash_of
-        table.old.groups.hasher) depth) (fan_out depth) (R.bound source.old) (R.gives source.old
+    ensures read { RowsRead pass.now.spec.now table.old.budget.entries (partition_by (H.hash_of
+        table.old.groups.hasher) pass.now.depth) (fan_out pass.now.depth) (R.bound source.old) (R.gives source.old
         (S.runs store.old)) (R.owns source.old) (R.owns source.new) (R.is_ready source.new (S.runs
         store.new)) R.makes_runs (S.runs store.old) (S.runs store.new) table.new.groups.pairs
         partitions.new.items result }
@@ -154,16 +161,16 @@ fn read_rows<H: KeyHash<Key> + Copy, S: RunStore, R: RowSource<S>>(
     let mut rows_written: u64 = 0;
     let mut runs: u64 = 0;
     let mut columns: usize = 0;
-    let mut row = Row::new(Vec::new(alloc));
+    let mut row = Row::new(Vec::new(pass.context.alloc));
     'rows: loop {
         let more = source.next(store, &mut row)?;
         if !more {
             break;
         }
-        if !spec.fits(&row) {
+        if !pass.spec.fits(&row) {
             return Err(Refusal::Damaged);
         }
-        let placed = place_row(alloc, spec, depth, &row, store, table, partitions)?;
+        let placed = place_row(pass, &row, store, table, partitions)?;
         columns = width(rows_read, columns, &row);
         rows_read += 1;
         rows_written += placed.written;
@@ -179,39 +186,35 @@ fn read_rows<H: KeyHash<Key> + Copy, S: RunStore, R: RowSource<S>>(
 
 // Empty partitions for the runs of a pass, and the groups of no row.
 fn start_pass<H: KeyHash<Key> + Copy>(
-    alloc: Global,
-    hasher: H,
-    spec: &GroupSpec,
-    depth: u32,
-    budget: Budget,
+    pass: &Pass<'_, H>,
     expected: usize,
     partitions: &mut Vec<Partition>,
 ) -> Result<ResidentTable<H>, AllocError>
     requires none { partitions.old.items ≡ [] }
     ensures empty { AreEmpty partitions.new.items }
     ensures few { length partitions.new.items ≤ 16 }
-    ensures places { OnOk result (length partitions.new.items ≡ fan_out depth) }
+    ensures places { OnOk result (length partitions.new.items ≡ fan_out pass.now.depth) }
     ensures resident { IfOk result (λ table.
-        Resident spec.now budget.entries [] table.groups.pairs) }
-    ensures each { IfOk result (λ table. table.groups.each ≡ length spec.now.aggs) }
-    ensures budget { IfOk result (λ table. table.budget ≡ budget) }
-    ensures hasher { IfOk result (λ table. table.groups.hasher ≡ hasher) }
+        Resident pass.now.spec.now pass.now.context.budget.entries [] table.groups.pairs) }
+    ensures each { IfOk result (λ table. table.groups.each ≡ length pass.now.spec.now.aggs) }
+    ensures budget { IfOk result (λ table. table.budget ≡ pass.now.context.budget) }
+    ensures hasher { IfOk result (λ table. table.groups.hasher ≡ pass.now.context.hasher) }
 {
-    add_partitions(depth.saturating_add(1), fan_out(depth), partitions)?;
-    ResidentTable::start(alloc, hasher, spec, budget, expected)
+    add_partitions(
+        pass.depth.saturating_add(1),
+        fan_out(pass.depth),
+        partitions,
+    )?;
+    ResidentTable::start(pass.context, pass.spec, expected)
 }
 
 // Sends the groups of some of a source's keys to the sink, at most the budget's number, and writes the
 // rows of its other keys to runs in new partitions. At every exit the runs that were begun are there.
 pub(crate) fn run_pass<H: KeyHash<Key> + Copy, S: RunStore, R: RowSource<S>, K: GroupSink<S>>(
-    alloc: Global,
-    hasher: H,
-    spec: &GroupSpec,
-    depth: u32,
+    pass: &Pass<'_, H>,
     source: &mut R,
     sink: &mut K,
     store: &mut S,
-    budget: Budget,
     partitions: &mut Vec<Partition>,
 ) -> Result<PassStats, Refusal>
     requires source { R.is_ready source.old (S.runs store.old) }
@@ -219,24 +222,30 @@ pub(crate) fn run_pass<H: KeyHash<Key> + Copy, S: RunStore, R: RowSource<S>, K: 
     requires apart { Apart (R.owns source.old) (K.owns sink.old) }
     requires few { R.bound source.old ≤ 2 ^ 31 }
     requires rows { IsTrue (S.runs store.old).honest → (rows : List (List Cell)) ×
-        R.gives source.old (S.runs store.old) rows × AreRows spec.now rows }
+        R.gives source.old (S.runs store.old) rows × AreRows pass.now.spec.now rows }
     requires none { partitions.old.items ≡ [] }
-    ensures { PassRan spec.now budget.entries (R.bound source.old) (R.gives source.old
-        (S.runs store.old)) (K.holds sink.old (S.runs store.old)) (K.holds sink.new (S.runs store.new))
-        (R.owns source.old) (R.owns source.new) (K.owns sink.old) (K.owns sink.new) (R.is_ready
-        source.new (S.runs store.new)) (K.is_ready sink.new (S.runs store.new)) R.makes_runs
-        K.makes_runs (S.runs store.old) (S.runs store.new) partitions.new.items result }
+    ensures { PassRan pass.now.spec.now pass.now.context.budget.entries (R.bound source.old) (R.gives
+        source.old (S.runs store.old)) (K.holds sink.old (S.runs store.old)) (K.holds sink.new (S.runs
+        store.new)) (R.owns source.old) (R.owns source.new) (K.owns sink.old) (K.owns sink.new)
+        (R.is_ready source.new (S.runs store.new)) (K.is_ready sink.new (S.runs store.new))
+        R.makes_runs K.makes_runs (S.runs store.old) (S.runs store.new) partitions.new.items result }
 {
-    let Ok(kept) = spec.kept(alloc) else {
+    let alloc = pass.context.alloc;
+    let Ok(kept) = pass.spec.kept(alloc) else {
         return Err(Refusal::Memory);
+    };
+    let of_kept = Pass {
+        context: pass.context,
+        spec: &kept,
+        depth: pass.depth,
     };
     let hint = source.rows_hint();
-    let Ok(mut table) = start_pass(alloc, hasher, &kept, depth, budget, hint, partitions) else {
+    let Ok(mut table) = start_pass(&of_kept, hint, partitions) else {
         return Err(Refusal::Memory);
     };
-    let taken = read_rows(alloc, &kept, depth, source, store, &mut table, partitions)?;
+    let taken = read_rows(&of_kept, source, store, &mut table, partitions)?;
     let waiting = taken.rows_written;
-    let groups = push_all(alloc, spec, table.into_groups(), waiting, sink, store)?;
+    let groups = push_all(alloc, pass.spec, table.into_groups(), waiting, sink, store)?;
     Ok(PassStats {
         rows_read: taken.rows_read,
         rows_written: taken.rows_written,

@@ -9,10 +9,10 @@ use thiserror::Error;
 /// Why rows could not be grouped.
 #[derive(Clone, Copy, Debug, PartialEq, Eq, Error)]
 pub enum Refusal {
-    /// A sum is no number of 64 bits.
+    /// A sum doesn't fit 64 bits.
     #[error("a sum is out of range")]
     SumRange,
-    /// Memory was wanting.
+    /// Out of memory, or a row to be spilled has no record: its values take 2^32 bytes or more.
     #[error("out of memory")]
     Memory,
     /// The store failed.
@@ -24,8 +24,8 @@ pub enum Refusal {
 }
 
 impl Refusal {
-    /// The refusal where no sum can be out of range: only a store that doesn't read back what was
-    /// written makes it seem so.
+    /// The refusal if no sum can be out of range: only a store that doesn't read back what was
+    /// written makes one seem so.
     pub fn as_damaged(self) -> Refusal
         ensures { result ≡ as_damaged self }
     {

@@ -1,4 +1,4 @@
-//! The groups that are kept in memory.
+//! The groups that are in memory.
 ghost use Rattle.std.specs.Prelude.{◌≡◌, ◌≤◌, ◌<◌, ◌^◌, [], List, length, IsTrue, IfOk, OnOk};
 ghost use Rattle.std.specs.FinMap.{len};
 ghost use Rattle.gq_row.specs.declared.value.Value.{Value as Cell};
@@ -9,6 +9,7 @@ ghost use Rattle.gq_group.specs.Groups.{fits_spec};
 ghost use Rattle.gq_group.specs.Residents.{Resident, Offers, HasHash};
 
 use crate::budget::Budget;
+use crate::context::GroupContext;
 use crate::group_map::GroupMap;
 use crate::group_spec::GroupSpec;
 use gq_row::{Key, KeyRef, Row};
@@ -16,14 +17,14 @@ use std::alloc::{AllocError, Global};
 use sw_index::Found;
 use sw_probe::KeyHash;
 
-// Groups, at most as many as a budget.
+// At most the budget's number of groups.
 #[derive(Drop)]
 pub(crate) struct ResidentTable<H: KeyHash<Key>> {
     groups: GroupMap<H>,
     budget: Budget,
     // How many rows were offered.
     offered: u64,
-    // How many there will be, as far as is known.
+    // How many rows there are at most, or 0 if that is unknown.
     expected: usize,
     ghost within: { len (listed groups.pairs) ≤ budget.entries },
 }
@@ -33,39 +34,35 @@ pub(crate) struct ResidentTable<H: KeyHash<Key>> {
 pub(crate) enum Offered {
     // It is in its group.
     Taken,
-    // Its key has no group, and there is no space for one: the hash of that key.
+    // Its key has no group, and the budget is full. Carries the key's hash.
     Left(u64),
 }
 
 impl<H: KeyHash<Key> + Copy> ResidentTable<H> {
-    // The groups of no row: without columns to group by there is that of the empty key.
+    // The groups of no rows: none, or without columns to group by that of the empty key.
     pub(crate) fn start(
-        alloc: Global,
-        hasher: H,
+        context: GroupContext<H>,
         spec: &GroupSpec,
-        budget: Budget,
         expected: usize,
     ) -> Result<ResidentTable<H>, AllocError>
         ensures resident { IfOk result (λ table.
-            Resident spec.now budget.entries [] table.groups.pairs) }
+            Resident spec.now context.budget.entries [] table.groups.pairs) }
         ensures each { IfOk result (λ table. table.groups.each ≡ length spec.now.aggs) }
-        ensures budget { IfOk result (λ table. table.budget ≡ budget) }
-        ensures hasher { IfOk result (λ table. table.groups.hasher ≡ hasher) }
+        ensures budget { IfOk result (λ table. table.budget ≡ context.budget) }
+        ensures hasher { IfOk result (λ table. table.groups.hasher ≡ context.hasher) }
     {
-        let mut groups = GroupMap::start(alloc, hasher, spec)?;
-        groups.expect(expected.min(budget.entries() as usize));
+        let mut groups = GroupMap::start(context.alloc, context.hasher, spec)?;
+        groups.expect(expected.min(context.budget.entries() as usize));
         Ok(ResidentTable {
             groups,
-            budget,
+            budget: context.budget,
             offered: 0,
             expected,
         })
     }
 
-    // For how many groups room is to be made behind the next one. Where the table is full with it,
-    // at least a fifth of the rows came, and hardly one of them to a group that was there, hardly
-    // one of the others is expected to: room for all of them spares the growths on the way. Else 0,
-    // and the table grows as groups come.
+    // The room to make after the next group, or 0. If the table is then full, a fifth of the rows came
+    // and nearly each began a group, the others are expected to: with room for all no growth moves keys.
     fn room_wanted(&self) -> usize {
         let groups = self.groups.len() as u64 + 1;
         let is_full = groups == self.groups.room() as u64;
@@ -77,8 +74,8 @@ impl<H: KeyHash<Key> + Copy> ResidentTable<H> {
         }
     }
 
-    // Groups one row more where its key has a group, or where there is space for one more: one
-    // look-up, by one hash, tells.
+    // Adds a row to the group of its key, or to a new one if the budget allows it, by one look-up and
+    // one hash.
     #[inline(always)]
     pub(crate) fn offer(
         &mut self,

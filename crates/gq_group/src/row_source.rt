@@ -26,8 +26,8 @@ pub trait RowSource<S: RunStore> {
     /// Whether it may make runs.
     ghost makes_runs: { Bool };
 
-    /// Writes the next row over another, whose values are dropped and whose memory it may take, and tells whether
-    /// there was one. After a refusal nothing is said of it.
+    /// Writes the next row over `row`, whose values are dropped and whose memory it may use, and returns
+    /// whether there was one. After a refusal the source's state is unspecified.
     fn next(&mut self, store: &mut S, row: &mut Row) -> Result<bool, Refusal>
         requires { is_ready self.old (S.runs store.old) }
         ensures rows { IsTrue (S.runs store.old).honest →
@@ -44,8 +44,7 @@ pub trait RowSource<S: RunStore> {
         ensures owned { makes_runs ≡ false → (run : ℕ) → IsTrue (owns self.new run) →
             IsTrue (owns self.old run) };
 
-    /// At most how many rows are left, as far as is known, and 0 where it is not. Only speed rests
-    /// on it.
+    /// How many rows are left at most, or 0 if that is unknown. Only speed depends on it.
     fn rows_hint(&self) -> usize
         ensures { result ≤ bound self.now };
 

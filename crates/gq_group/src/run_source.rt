@@ -5,7 +5,7 @@ use gq_row::Row;
 use gq_spill::{RunReader, RunStore};
 use std::alloc::Global;
 
-// The rows that are left of a run.
+// The remaining rows of a run.
 #[derive(Drop)]
 pub(crate) struct RunSource {
     pub(crate) alloc: Global,

@@ -1,4 +1,4 @@
-//! Passes one after the other: over a source, and then over each run that is begun.
+//! One pass after another: over a source, and then over each run that was begun.
 ghost use Rattle.std.specs.Prelude.{◌≡◌, ◌+◌, ◌<◌, ◌≤◌, ◌^◌, [], false, List, IsTrue};
 ghost use Rattle.gq_row.specs.declared.value.Value.{Value as Cell};
 ghost use Rattle.gq_group.specs.Access.{Apart};
@@ -6,31 +6,26 @@ ghost use Rattle.gq_group.specs.PassResults.{RunRead, PassesRan};
 ghost use Rattle.gq_group.specs.Passes.{AreRows, Fit};
 ghost use Rattle.gq_group.specs.Partitions.{HasRun};
 
-use crate::budget::Budget;
+use crate::context::GroupContext;
 use crate::group_sink::GroupSink;
 use crate::group_spec::GroupSpec;
 use crate::grouping::Spent;
 use crate::partition::Partition;
-use crate::pass::{PassStats, run_pass};
+use crate::pass::{Pass, PassStats, run_pass};
 use crate::refusal::Refusal;
 use crate::row_source::RowSource;
 use crate::run_source::RunSource;
 use gq_row::Key;
 use gq_spill::{RunReader, RunStore, RunWriter};
-use std::alloc::Global;
 use sw_probe::KeyHash;
 
 // Reads a run as a source, and discards it. At every exit the runs that were begun are in the partitions.
 fn read_run<H: KeyHash<Key> + Copy, S: RunStore, K: GroupSink<S>>(
-    alloc: Global,
-    hasher: H,
-    spec: &GroupSpec,
-    depth: u32,
+    pass: &Pass<'_, H>,
     columns: usize,
     writer: RunWriter,
     sink: &mut K,
     store: &mut S,
-    budget: Budget,
     partitions: &mut Vec<Partition>,
 ) -> Result<PassStats, Refusal>
     requires live { IsTrue ((S.runs store.old).live writer.mark.id.number) }
@@ -38,44 +33,32 @@ fn read_run<H: KeyHash<Key> + Copy, S: RunStore, K: GroupSink<S>>(
     requires sink { K.is_ready sink.old (S.runs store.old) }
     requires apart { K.owns sink.old writer.mark.id.number ≡ false }
     requires rows { IsTrue (S.runs store.old).honest → (rows : List (List Cell)) ×
-        HasRun writer (S.runs store.old) rows × Fit spec.now columns rows }
+        HasRun writer (S.runs store.old) rows × Fit pass.now.spec.now columns rows }
     requires none { partitions.old.items ≡ [] }
-    ensures { RunRead spec.now budget.entries columns writer (K.holds sink.old (S.runs store.old))
-        (K.holds sink.new (S.runs store.new)) (K.owns sink.old) (K.owns sink.new) (K.is_ready
-        sink.new (S.runs store.new)) K.makes_runs (S.runs store.old) (S.runs store.new)
-        partitions.new.items result }
+    ensures { RunRead pass.now.spec.now pass.now.context.budget.entries columns writer
+        (K.holds sink.old (S.runs store.old)) (K.holds sink.new (S.runs store.new)) (K.owns sink.old)
+        (K.owns sink.new) (K.is_ready sink.new (S.runs store.new)) K.makes_runs (S.runs store.old)
+        (S.runs store.new) partitions.new.items result }
 {
+    let alloc = pass.context.alloc;
     let mark = writer.finish();
     let mut source = RunSource {
         alloc,
         reader: RunReader::open(alloc, mark, columns),
     };
-    let outcome = run_pass(
-        alloc,
-        hasher,
-        spec,
-        depth,
-        &mut source,
-        sink,
-        store,
-        budget,
-        partitions,
-    );
+    let outcome = run_pass(pass, &mut source, sink, store, partitions);
     store.discard(mark.id);
     outcome
 }
 
-// The groups of a source's rows, one for each of their keys, to the sink: those of a table, and then
-// those of each run that was begun, which is read and discarded. The stack has room for the runs of a
-// pass before it begins, and at every exit all runs that remain are there.
+// Pushes the groups of a source's rows to the sink: those of a first pass, and then those of each run,
+// which is discarded once it was read. At every exit all runs that remain are on the stack.
 pub(crate) fn run_passes<H: KeyHash<Key> + Copy, S: RunStore, R: RowSource<S>, K: GroupSink<S>>(
-    alloc: Global,
-    hasher: H,
+    context: GroupContext<H>,
     spec: &GroupSpec,
     source: &mut R,
     sink: &mut K,
     store: &mut S,
-    budget: Budget,
     stack: &mut Vec<Partition>,
 ) -> Result<Spent, Refusal>
     requires source { R.is_ready source.old (S.runs store.old) }
@@ -85,18 +68,23 @@ pub(crate) fn run_passes<H: KeyHash<Key> + Copy, S: RunStore, R: RowSource<S>, K
     requires rows { IsTrue (S.runs store.old).honest → (rows : List (List Cell)) ×
         R.gives source.old (S.runs store.old) rows × AreRows spec.now rows }
     requires none { stack.old.items ≡ [] }
-    ensures { PassesRan spec.now budget.entries (R.bound source.old) (R.gives source.old
+    ensures { PassesRan spec.now context.budget.entries (R.bound source.old) (R.gives source.old
         (S.runs store.old)) (K.holds sink.old (S.runs store.old)) (K.holds sink.new (S.runs store.new))
         (R.owns source.old) (R.owns source.new) (K.owns sink.old) (K.owns sink.new) (R.is_ready
         source.new (S.runs store.new)) (K.is_ready sink.new (S.runs store.new)) R.makes_runs
         K.makes_runs (S.runs store.old) (S.runs store.new) stack.new.items result }
 {
-    let first = run_pass(alloc, hasher, spec, 0, source, sink, store, budget, stack)?;
+    let pass = Pass {
+        context,
+        spec,
+        depth: 0,
+    };
+    let first = run_pass(&pass, source, sink, store, stack)?;
     let mut rows_written = first.rows_written;
     let mut groups = first.groups;
     let mut runs = first.runs;
     'runs: loop {
-        // Room for the partitions of one pass,
+        // Room for the partitions of the next pass.
         let Ok(()) = stack.reserve(16) else {
             return Err(Refusal::Memory);
         };
@@ -105,21 +93,14 @@ pub(crate) fn run_passes<H: KeyHash<Key> + Copy, S: RunStore, R: RowSource<S>, K
         };
         let Partition { depth, writer } = partition;
         if let Some(writer) = writer {
-            let mut partitions = Vec::new(alloc);
-            let columns = first.columns;
-            let outcome = read_run(
-                alloc,
-                hasher,
+            let pass = Pass {
+                context,
                 spec,
                 depth,
-                columns,
-                writer,
-                sink,
-                store,
-                budget,
-                &mut partitions,
-            );
-            // so that they go on the stack whatever the outcome.
+            };
+            let mut partitions = Vec::new(context.alloc);
+            let outcome = read_run(&pass, first.columns, writer, sink, store, &mut partitions);
+            // There is room, so that all of them get on the stack, whatever the outcome.
             let _ = stack.append(&mut partitions);
             let done = outcome?;
             rows_written += done.rows_written;

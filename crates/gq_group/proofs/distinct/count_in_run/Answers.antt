@@ -20,7 +20,7 @@ returns-in_default g c =
     let a = g.R.RowSource.owns c.args.source.now in
     let k = g.K.GroupSink.owns c.args.sink.now in
     let n = c.args.keys.writer.mark.id.number in
-    counted-refused c.args.by.now c.args.column c.args.budget.entries n _ _ _ a a k k _ _ _ _ r r _ Memory refl
+    counted-refused c.args.asked.now.by.now c.args.asked.now.column c.args.context.budget.entries n _ _ _ a a k k _ _ _ _ r r _ Memory refl
     (leaves-refl _ _) (apart-either (only n) a k (apart-flip a (only n) c.requires.apart_source) c.requires.apart_sink) (λ run h. h) tt
 
 pub returns-in-Err : goal.returns-in-Err
@@ -33,14 +33,14 @@ returns-in-Err g c =
     let n = c.args.keys.writer.mark.id.number in
     let m = c.group.new.sink.writer.mark.id.number in
     let told = c.in-Err.ensures in
-    counted-refused c.args.by.now c.args.column c.args.budget.entries n _ _ _ a b k k _ _ _ _ r s _ c.as_damaged.result refl
+    counted-refused c.args.asked.now.by.now c.args.asked.now.column c.args.context.budget.entries n _ _ _ a b k k _ _ _ _ r s _ c.as_damaged.result refl
     (leaves-phases n m m a b k k r s s told.grows_sink refl told.others (leaves-refl (either (only m) k) s))
     (apart-grown (only n) (only m) b k told.apart told.grows_sink c.requires.apart_sink) (either-grows a b k k told.grows_source (λ run h. h))
     (subst (λ (e : Refusal). HasCause e r s) (sym c.as_damaged.ensures)
     (cause-damaged c.in-Err.refusal r s told.cause (λ is h.
     let known = g.met.R.RowSource.has_rows c.args.source.now r c.requires.source h in
     let over : out_of_range c.in-Ok.spec known.0 ≡ true = told.overflow h (ap Err is) known.0 known.1 in
-    true≢false (sym over ∙ ap (λ (it : Spec). out_of_range it known.0) c.in-Ok.ensures ∙ pairs_range c.args.by.now c.args.column known.0))))
+    true≢false (sym over ∙ ap (λ (it : Spec). out_of_range it known.0) c.in-Ok.ensures ∙ pairs_range c.args.asked.now.by.now c.args.asked.now.column known.0))))
 
 pub returns-then-mark-first : goal.returns-then-mark-first
 returns-then-mark-first g c =
@@ -52,11 +52,11 @@ returns-then-mark-first g c =
     let n = c.args.keys.writer.mark.id.number in
     let m = c.group.new.sink.writer.mark.id.number in
     let told = c.in-Ok-group.ensures in
-    counted-refused c.args.by.now c.args.column c.args.budget.entries n _ _ _ a b k k _ _ _ _ r s _ Damaged refl
+    counted-refused c.args.asked.now.by.now c.args.asked.now.column c.args.context.budget.entries n _ _ _ a b k k _ _ _ _ r s _ Damaged refl
     (leaves-phases n m m a b k k r s s told.grows_sink refl told.others (leaves-refl (either (only m) k) s))
     (apart-grown (only n) (only m) b k told.apart told.grows_sink c.requires.apart_sink) (either-grows a b k k told.grows_source (λ run h. h))
     (λ h.
-    let p : Pairing = record { by = c.args.by.now; column = c.args.column } in
+    let p : Pairing = record { by = c.args.asked.now.by.now; column = c.args.asked.now.column } in
     let w = c.group.new.sink.writer in
     let known = g.met.R.RowSource.has_rows c.args.source.now r c.requires.source h in
     let it = between p known.0 w s c.in-Ok.spec c.in-Ok.ensures (told.groups h known.0 known.1 [] (c.requires.empty h)) in
@@ -78,7 +78,7 @@ returns-in_err-second g c =
     let told = c.in-Ok-group.ensures in
     let later = subst (λ (x : RunMark). Apart (only x.id.number) l) c.finish-mark.ensures c.count_pairs.ensures.apart in
     let e = c.in_err-second.field-0.0 in
-    counted-refused c.args.by.now c.args.column c.args.budget.entries n _ _ _ a b k l _ _ _ _ r t c.from_residual.result e c.from_residual.ensures.1
+    counted-refused c.args.asked.now.by.now c.args.asked.now.column c.args.context.budget.entries n _ _ _ a b k l _ _ _ _ r t c.from_residual.result e c.from_residual.ensures.1
     (leaves-phases n m c.finish-mark.result.id.number a b k l r s t told.grows_sink (ap (λ (x : RunMark). x.id.number) c.finish-mark.ensures) told.others c.count_pairs.ensures.others)
     (apart-grown (only n) (only m) b l told.apart told.grows_sink (λ run h. later run (told.grows_sink run h))) (either-grows a b k l told.grows_source c.count_pairs.ensures.grows)
     (cause-later e (either a (only n)) (either b (only m)) r s t told.others c.in_err-second.ensures.cause)
@@ -97,7 +97,7 @@ returns g c =
     let told = c.in-Ok-group.ensures in
     let later = subst (λ (x : RunMark). Apart (only x.id.number) l) c.finish-mark.ensures c.count_pairs.ensures.apart in
     let then = c.in_ok-second.ensures in
-    let p : Pairing = record { by = c.args.by.now; column = c.args.column } in
+    let p : Pairing = record { by = c.args.asked.now.by.now; column = c.args.asked.now.column } in
     let w = c.group.new.sink.writer in
     let live = g.met.K.GroupSink.own_live c.args.sink.now r c.requires.sink in
     let out : Apart (either a (only n)) k = apart-both a (only n) k c.requires.apart c.requires.apart_sink in
@@ -118,7 +118,7 @@ returns g c =
           let left = left_between p known.0 w s c.finish-mark.result c.finish-mark.ensures it in
           let read = (then.count (told.others.same_honest ∙ h) _ left).0 in
           let count = (told.counts h known.0 known.1).1 ∙ ap (λ (it : Spec). length (keys_of it.by known.0)) c.in-Ok.ensures in
-          taken_twice c.args.budget.entries c.in-Ok-group.first c.in_ok-second.second c.in_all.result (told.spills h) (then.spills (told.others.same_honest ∙ h))
+          taken_twice c.args.context.budget.entries c.in-Ok-group.first c.in_ok-second.second c.in_all.result (told.spills h) (then.spills (told.others.same_honest ∙ h))
           (read ∙ as_many_keys p known.0 it.out it.are ∙ sym count) c.in_all.ensures.read c.in_all.ensures.written c.in_all.ensures.groups c.in_all.ensures.runs;
       made = λ none no. made_twice r.made s.made t.made c.in-Ok-group.first.runs c.in_ok-second.second.runs c.in_all.result (told.made none refl) (then.made no) c.in_all.ensures.runs;
       others = leaves-phases n m c.finish-mark.result.id.number a b k l r s t told.grows_sink (ap (λ (x : RunMark). x.id.number) c.finish-mark.ensures) told.others c.count_pairs.ensures.others;
@@ -148,7 +148,7 @@ count_pairs-requires-clause-pairs g c = λ honest.
     let runs = g.S.RunStore.runs in
     let r = runs c.args.store.now in
     let s = runs c.group.new.store in
-    let p : Pairing = record { by = c.args.by.now; column = c.args.column } in
+    let p : Pairing = record { by = c.args.asked.now.by.now; column = c.args.asked.now.column } in
     let w = c.group.new.sink.writer in
     let h = sym c.in-Ok-group.ensures.others.same_honest ∙ honest in
     let known = g.met.R.RowSource.has_rows c.args.source.now r c.requires.source h in
@@ -177,7 +177,7 @@ group-requires-clause-widths g c = c.requires.widths
 
 pub group-requires-clause-rows : goal.group-requires-clause-rows
 group-requires-clause-rows g c = λ h rows given.
-    subst (λ (it : Spec). IsTrue (all_fit it rows)) (sym c.in-Ok.ensures) (pairs_fit (record { by = c.args.by.now; column = c.args.column }) rows (c.requires.rows h rows given))
+    subst (λ (it : Spec). IsTrue (all_fit it rows)) (sym c.in-Ok.ensures) (pairs_fit (record { by = c.args.asked.now.by.now; column = c.args.asked.now.column }) rows (c.requires.rows h rows given))
 
 pub count_pairs-requires-clause-live : goal.count_pairs-requires-clause-live
 count_pairs-requires-clause-live g c =

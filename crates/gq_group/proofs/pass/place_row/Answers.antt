@@ -18,18 +18,18 @@ use Rattle.gq_group.proofs.pass.place_row.Goals as goal
 
 pub returns-clause-places : goal.returns-clause-places
 returns-clause-places g c =
-    let spec = c.args.spec.now in
+    let spec = c.args.pass.now.spec.now in
     let row = c.args.row.now in
     let budget = c.args.table.now.budget.entries in
     let old = c.args.table.now.groups.pairs in
     let new = c.offer.new.self.groups.pairs in
     let hash : List ℕ → ℕ = g.H.KeyHash.hash_of c.args.table.now.groups.hasher in
-    let part_of : List Value → ℕ = partition_by hash c.args.depth in
-    let n : ℕ = fan_out c.args.depth in
-    let place : ℕ = c.partition_of.result in
+    let part_of : List Value → ℕ = partition_by hash c.args.pass.now.depth in
+    let n : ℕ = fan_out c.args.pass.now.depth in
+    let place : ℕ = c.partition_of-place.result in
     let told : c.in-Left.hash ≡ hash (class_of (key_of spec.by row)) = subst (λ o. HasHash (hash (class_of (key_of spec.by row))) o) c.in-Left.is c.in-Ok.ensures.hash in
-    let here : part_of (key_of spec.by row) ≡ place = ap (partition_of c.args.depth) (sym told) ∙ sym c.partition_of.ensures in
-    let within = subst (λ (k : ℕ). k < n) here (partition_less hash c.args.depth (key_of spec.by row)) in
+    let here : part_of (key_of spec.by row) ≡ place = ap (partition_of c.args.pass.now.depth) (sym told) ∙ sym c.partition_of-place.ensures in
+    let within = subst (λ (k : ℕ). k < n) here (partition_less hash c.args.pass.now.depth (key_of spec.by row)) in
     let moved = λ (done : List (List Value)) (t : Resident spec budget done old).
     (c.in-Ok.ensures.offers done t).left ∙ ap (λ o. left_over spec old done ++ left_row o row) c.in-Left.is in
     let pushed = λ (done : List (List Value)) (t : Resident spec budget done old).
@@ -162,11 +162,11 @@ returns-in_default-offered-clause-made g c = no_more _
 
 pub returns-in_default-offered-clause-places : goal.returns-in_default-offered-clause-places
 returns-in_default-offered-clause-places g c =
-    let spec = c.args.spec.now in
+    let spec = c.args.pass.now.spec.now in
     let row = c.args.row.now in
     let old = c.args.table.now.groups.pairs in
-    let part_of : List Value → ℕ = partition_by (g.H.KeyHash.hash_of c.args.table.now.groups.hasher) c.args.depth in
-    let n : ℕ = fan_out c.args.depth in
+    let part_of : List Value → ℕ = partition_by (g.H.KeyHash.hash_of c.args.table.now.groups.hasher) c.args.pass.now.depth in
+    let n : ℕ = fan_out c.args.pass.now.depth in
     let moved = λ (done : List (List Value)) (t : Resident spec c.args.table.now.budget.entries done old).
     (c.in-Ok.ensures.offers done t).left ∙ ap (λ o. left_over spec old done ++ left_row o row) c.in_default-offered.is ∙ append-nil (left_over spec old done) in
     record {
@@ -180,11 +180,11 @@ returns-in_default-offered-clause-places g c =
 
 pub spill-requires-clause-within : goal.spill-requires-clause-within
 spill-requires-clause-within g c =
-    let key = key_of c.args.spec.now.by c.args.row.now in
+    let key = key_of c.args.pass.now.spec.now.by c.args.row.now in
     let hash : List ℕ → ℕ = g.H.KeyHash.hash_of c.args.table.now.groups.hasher in
     let told : c.in-Left.hash ≡ hash (class_of key) = subst (λ o. HasHash (hash (class_of key)) o) c.in-Left.is c.in-Ok.ensures.hash in
-    let here : partition_by hash c.args.depth key ≡ c.partition_of.result = ap (partition_of c.args.depth) (sym told) ∙ sym c.partition_of.ensures in
-    subst (λ (k : ℕ). c.partition_of.result < k) (sym c.requires.places) (subst (λ (k : ℕ). k < fan_out c.args.depth) here (partition_less hash c.args.depth key))
+    let here : partition_by hash c.args.pass.now.depth key ≡ c.partition_of-place.result = ap (partition_of c.args.pass.now.depth) (sym told) ∙ sym c.partition_of-place.ensures in
+    subst (λ (k : ℕ). c.partition_of-place.result < k) (sym c.requires.places) (subst (λ (k : ℕ). k < fan_out c.args.pass.now.depth) here (partition_less hash c.args.pass.now.depth key))
 
 pub spill-requires-clause-storable : goal.spill-requires-clause-storable
 spill-requires-clause-storable g c = c.is_storable.ensures.0 c.if-not-is_storable.false

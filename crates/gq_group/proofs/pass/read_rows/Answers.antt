@@ -8,7 +8,7 @@ use Rattle.gq_group.proofs.pass.read_rows.Goals as goal
 
 pub rows-init : goal.rows-init
 rows-init g c = record {
-  done = rows-none c.args.spec.now c.args.table.now.budget.entries _ _ _ _ _ _ (g.S.RunStore.runs c.args.store.now) _ c.args.table.now.groups.pairs c.args.partitions.now.items c.requires.source c.requires.start c.requires.places c.requires.empty;
+  done = rows-none c.args.pass.now.spec.now c.args.table.now.budget.entries _ _ _ _ _ _ (g.S.RunStore.runs c.args.store.now) _ c.args.table.now.groups.pairs c.args.partitions.now.items c.requires.source c.requires.start c.requires.places c.requires.empty;
   budget = refl;
   each = c.requires.each;
   hasher = refl;
@@ -17,7 +17,7 @@ rows-init g c = record {
 pub returns-in_err-more-clause-read : goal.returns-in_err-more-clause-read
 returns-in_err-more-clause-read g c =
     let s = g.S.RunStore.runs c.next.new.store in
-    rows-stopped c.args.spec.now c.args.table.now.budget.entries _ _ _ _ (g.R.RowSource.owns c.args.source.now) _ (g.S.RunStore.runs c.args.store.now) (g.R.RowSource.owns c.rows.source) (g.R.RowSource.owns c.next.new.self) (g.R.RowSource.bound c.rows.source) _ _
+    rows-stopped c.args.pass.now.spec.now c.args.table.now.budget.entries _ _ _ _ (g.R.RowSource.owns c.args.source.now) _ (g.S.RunStore.runs c.args.store.now) (g.R.RowSource.owns c.rows.source) (g.R.RowSource.owns c.next.new.self) (g.R.RowSource.bound c.rows.source) _ _
     (g.S.RunStore.runs c.rows.store) s c.rows.rows_read c.rows.rows_written c.rows.runs c.rows.columns c.rows.table.groups.pairs c.rows.partitions.items c.rows.invariant.done c.in_err-more.ensures.others c.in_err-more.ensures.owned
     _ c.from_residual.result c.in_err-more.field-0.0 c.from_residual.ensures.1 c.in_err-more.ensures.cause
 
@@ -25,7 +25,7 @@ pub returns-clause-read : goal.returns-clause-read
 returns-clause-read g c =
     let s = g.S.RunStore.runs c.next.new.store in
     let told = c.in_ok-more.ensures in
-    rows-done c.args.spec.now c.args.table.now.budget.entries _ _ _ _ (g.R.RowSource.owns c.args.source.now) _ (g.S.RunStore.runs c.args.store.now) (g.R.RowSource.owns c.rows.source) (g.R.RowSource.owns c.next.new.self) (g.R.RowSource.bound c.rows.source) _ _
+    rows-done c.args.pass.now.spec.now c.args.table.now.budget.entries _ _ _ _ (g.R.RowSource.owns c.args.source.now) _ (g.S.RunStore.runs c.args.store.now) (g.R.RowSource.owns c.rows.source) (g.R.RowSource.owns c.next.new.self) (g.R.RowSource.bound c.rows.source) _ _
     (g.S.RunStore.runs c.rows.store) s c.rows.rows_read c.rows.rows_written c.rows.runs c.rows.columns c.rows.table.groups.pairs c.rows.partitions.items c.rows.invariant.done told.others told.owned
     _ told.ready (λ h rows now. let over = rw c.if-not-more.true at (told.rows h) in (over rows now).0) told.made
 
@@ -33,7 +33,7 @@ pub returns-then-not-fits-clause-read : goal.returns-then-not-fits-clause-read
 returns-then-not-fits-clause-read g c =
     let s = g.S.RunStore.runs c.next.new.store in
     let told = c.in_ok-more.ensures in
-    rows-damaged c.args.spec.now c.args.table.now.budget.entries _ _ _ _ (g.R.RowSource.owns c.args.source.now) _ (g.S.RunStore.runs c.args.store.now) (g.R.RowSource.owns c.rows.source) (g.R.RowSource.owns c.next.new.self) (g.R.RowSource.bound c.rows.source) _ _
+    rows-damaged c.args.pass.now.spec.now c.args.table.now.budget.entries _ _ _ _ (g.R.RowSource.owns c.args.source.now) _ (g.S.RunStore.runs c.args.store.now) (g.R.RowSource.owns c.rows.source) (g.R.RowSource.owns c.next.new.self) (g.R.RowSource.bound c.rows.source) _ _
     (g.S.RunStore.runs c.rows.store) s c.rows.rows_read c.rows.rows_written c.rows.runs c.rows.columns c.rows.table.groups.pairs c.rows.partitions.items c.rows.invariant.done told.others told.owned
     c.next.new.row (g.R.RowSource.gives c.next.new.self s) (rw c.if-not-more.false at told.rows) _ c.requires.rows (sym c.fits.ensures ∙ c.if-not-fits.true)
 
@@ -44,7 +44,7 @@ returns-in_err-placed-clause-read g c =
     let source = c.next.new.self in
     let told = c.in_ok-more.ensures in
     let placed = c.in_err-placed.ensures in
-    rows-unplaced c.args.spec.now c.args.table.now.budget.entries _ _ _ _ (g.R.RowSource.owns c.args.source.now) _ (g.S.RunStore.runs c.args.store.now) (g.R.RowSource.owns c.rows.source) (g.R.RowSource.owns c.next.new.self) (g.R.RowSource.bound c.rows.source) _ _
+    rows-unplaced c.args.pass.now.spec.now c.args.table.now.budget.entries _ _ _ _ (g.R.RowSource.owns c.args.source.now) _ (g.S.RunStore.runs c.args.store.now) (g.R.RowSource.owns c.rows.source) (g.R.RowSource.owns c.next.new.self) (g.R.RowSource.bound c.rows.source) _ _
     (g.S.RunStore.runs c.rows.store) s c.rows.rows_read c.rows.rows_written c.rows.runs c.rows.columns c.rows.table.groups.pairs c.rows.partitions.items c.rows.invariant.done told.others told.owned
     c.next.new.row (g.R.RowSource.gives c.next.new.self s) (rw c.if-not-more.false at told.rows) c.place_row.new.table.groups.pairs c.place_row.new.partitions.items t placed.same_length placed.ours placed.others (g.met.R.RowSource.own_live source s told.ready)
     _ c.from_residual-in_err-placed.result c.in_err-placed.field-0.0 c.from_residual-in_err-placed.ensures.1 placed.cause
@@ -58,11 +58,11 @@ rows-preserved g c =
     let placed = c.in_ok-placed.ensures in
     let inv = c.rows.invariant in
     record {
-      done = rows-more c.args.spec.now c.args.table.now.budget.entries _ _ _ _ (g.R.RowSource.owns c.args.source.now) _ (g.S.RunStore.runs c.args.store.now) (g.R.RowSource.owns c.rows.source) (g.R.RowSource.owns c.next.new.self) (g.R.RowSource.bound c.rows.source) _ _
+      done = rows-more c.args.pass.now.spec.now c.args.table.now.budget.entries _ _ _ _ (g.R.RowSource.owns c.args.source.now) _ (g.S.RunStore.runs c.args.store.now) (g.R.RowSource.owns c.rows.source) (g.R.RowSource.owns c.next.new.self) (g.R.RowSource.bound c.rows.source) _ _
           (g.S.RunStore.runs c.rows.store) s c.rows.rows_read c.rows.rows_written c.rows.runs c.rows.columns c.rows.table.groups.pairs c.rows.partitions.items c.rows.invariant.done told.others told.owned
           c.next.new.row (g.R.RowSource.gives c.next.new.self s) (rw c.if-not-more.false at told.rows) c.place_row.new.table.groups.pairs c.place_row.new.partitions.items t placed.same_length placed.ours placed.others (g.met.R.RowSource.own_live source s told.ready)
-          _ (g.R.RowSource.gives source t) c.rows.table.budget.entries (partition_by (g.H.KeyHash.hash_of c.rows.table.groups.hasher) c.args.depth) c.in_ok-placed.placed.written c.in_ok-placed.placed.began (g.R.RowSource.bound source) c.width-columns.result
-          (ap (λ (x : Budget). x.entries) inv.budget) (ap (λ h. partition_by (g.H.KeyHash.hash_of h) c.args.depth) inv.hasher) placed.places c.width-columns.ensures (rw c.if-not-more.false at told.bound)
+          _ (g.R.RowSource.gives source t) c.rows.table.budget.entries (partition_by (g.H.KeyHash.hash_of c.rows.table.groups.hasher) c.args.pass.now.depth) c.in_ok-placed.placed.written c.in_ok-placed.placed.began (g.R.RowSource.bound source) c.width-columns.result
+          (ap (λ (x : Budget). x.entries) inv.budget) (ap (λ h. partition_by (g.H.KeyHash.hash_of h) c.args.pass.now.depth) inv.hasher) placed.places c.width-columns.ensures (rw c.if-not-more.false at told.bound)
           (λ kept. g.met.R.RowSource.stays_ready source s t kept told.ready) (λ kept. g.met.R.RowSource.keeps_rows source s t kept told.ready) told.made placed.made;
       budget = placed.budget ∙ inv.budget;
       each = placed.each ∙ inv.each;
@@ -85,7 +85,7 @@ place_row-requires-clause-ours g c =
 pub place_row-requires-clause-resident : goal.place_row-requires-clause-resident
 place_row-requires-clause-resident g c =
     let done = c.rows.invariant.done in
-    (done.read.done, omega (arith, done.read.counted, done.bound, c.requires.few), subst (λ (b : Budget). Resident c.args.spec.now b.entries done.read.done c.rows.table.groups.pairs) (sym c.rows.invariant.budget) done.read.resident)
+    (done.read.done, omega (arith, done.read.counted, done.bound, c.requires.few), subst (λ (b : Budget). Resident c.args.pass.now.spec.now b.entries done.read.done c.rows.table.groups.pairs) (sym c.rows.invariant.budget) done.read.resident)
 
 pub overflow_add-rows_read : goal.overflow_add-rows_read
 overflow_add-rows_read g c = omega (arith, c.rows.invariant.done.bound, c.requires.few)

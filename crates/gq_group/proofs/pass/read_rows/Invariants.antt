@@ -8,11 +8,11 @@ invariant-rows g l =
     let old = g.S.RunStore.runs l.fn.store in
     let new = g.S.RunStore.runs l.store in
     record {
-      done : RowsSoFar l.spec l.fn.table.budget.entries (partition_by (g.H.KeyHash.hash_of l.fn.table.groups.hasher) l.depth) (fan_out l.depth) (g.R.RowSource.bound l.fn.source) (g.R.RowSource.bound l.source)
+      done : RowsSoFar l.pass.spec.now l.fn.table.budget.entries (partition_by (g.H.KeyHash.hash_of l.fn.table.groups.hasher) l.pass.depth) (fan_out l.pass.depth) (g.R.RowSource.bound l.fn.source) (g.R.RowSource.bound l.source)
           (g.R.RowSource.gives l.fn.source old) (g.R.RowSource.gives l.source new) (g.R.RowSource.owns l.fn.source) (g.R.RowSource.owns l.source) (g.R.RowSource.is_ready l.source new) g.R.RowSource.makes_runs old new
           l.rows_read l.rows_written l.runs l.columns l.table.groups.pairs l.partitions.items;
       budget : l.table.budget ≡ l.fn.table.budget;
-      each : l.table.groups.each ≡ length l.spec.aggs;
+      each : l.table.groups.each ≡ length l.pass.spec.now.aggs;
       hasher : l.table.groups.hasher ≡ l.fn.table.groups.hasher;
     }
 

@@ -25,22 +25,22 @@ run_pass-requires-clause-none g c = c.requires.none
 
 pub runs-init : goal.runs-init
 runs-init g c =
-    so_far-first c.args.spec.now c.args.budget.entries (g.R.RowSource.bound c.args.source.now) _ _ _ _ _ _ _ (g.S.RunStore.runs c.args.store.now) _ _ _ _ (g.S.RunStore.runs c.run_pass.new.store) c.run_pass.new.partitions.items c.in_ok-first.first
-    c.requires.few c.args.budget.some c.args.budget.few c.in_ok-first.ensures
+    so_far-first c.args.spec.now c.args.context.budget.entries (g.R.RowSource.bound c.args.source.now) _ _ _ _ _ _ _ (g.S.RunStore.runs c.args.store.now) _ _ _ _ (g.S.RunStore.runs c.run_pass.new.store) c.run_pass.new.partitions.items c.in_ok-first.first
+    c.requires.few c.args.context.budget.some c.args.context.budget.few c.in_ok-first.ensures
 
 pub returns-in_err-first : goal.returns-in_err-first
 returns-in_err-first g c =
-    passes-first c.args.spec.now c.args.budget.entries (g.R.RowSource.bound c.args.source.now) _ _ _ _ _ _ _ (g.S.RunStore.runs c.args.store.now) _ _ _ _ (g.S.RunStore.runs c.run_pass.new.store) c.run_pass.new.partitions.items
+    passes-first c.args.spec.now c.args.context.budget.entries (g.R.RowSource.bound c.args.source.now) _ _ _ _ _ _ _ (g.S.RunStore.runs c.args.store.now) _ _ _ _ (g.S.RunStore.runs c.run_pass.new.store) c.run_pass.new.partitions.items
     c.from_residual.result c.in_err-first.field-0.0 c.from_residual.ensures.1 c.in_err-first.ensures
 
 pub returns-in_default : goal.returns-in_default
 returns-in_default g c =
-    passes-full c.args.spec.now c.args.budget.entries _ _ _ _ _ _ _ _ _ _ _ _ _ _ c.in_ok-first.first.columns c.runs.stack.items _ c.runs.invariant c.reserve.new.self.items c.reserve.ensures.items
+    passes-full c.args.spec.now c.args.context.budget.entries _ _ _ _ _ _ _ _ _ _ _ _ _ _ c.in_ok-first.first.columns c.runs.stack.items _ c.runs.invariant c.reserve.new.self.items c.reserve.ensures.items
 
 pub returns : goal.returns
 returns g c =
     let was = nil_from_length c.reserve.new.self.items (omega (arith, c.in_default-pop.ensures.cases)) in
-    passes-done c.args.spec.now c.args.budget.entries _ _ _ _ _ _ _ _ _ _ _ _ _ _ c.in_ok-first.first.columns c.runs.stack.items _ c.runs.invariant c.pop.new.self.items
+    passes-done c.args.spec.now c.args.context.budget.entries _ _ _ _ _ _ _ _ _ _ _ _ _ _ c.in_ok-first.first.columns c.runs.stack.items _ c.runs.invariant c.pop.new.self.items
     (popped-from c.runs.stack.items c.reserve.new.self.items [] c.reserve.ensures.items was) (nil_from_length c.pop.new.self.items (omega (arith, c.in_default-pop.ensures.cases)))
 
 pub read_run-outcome-requires-clause-live : goal.read_run-outcome-requires-clause-live
@@ -63,7 +63,7 @@ pub read_run-outcome-requires-clause-rows : goal.read_run-outcome-requires-claus
 read_run-outcome-requires-clause-rows g c = λ h.
     let before = sym c.runs.invariant.on.others.same_honest ∙ h in
     let known = c.requires.rows before in
-    let top = on_top c.args.spec.now c.args.budget.entries known.0 c.in_ok-first.first.columns c.runs.stack.items c.pop.new.self.items c.in-Some.partition c.in-Some-writer.writer
+    let top = on_top c.args.spec.now c.args.context.budget.entries known.0 c.in_ok-first.first.columns c.runs.stack.items c.pop.new.self.items c.in-Some.partition c.in-Some-writer.writer
     (g.S.RunStore.runs c.runs.store) _ _ (popped-from c.runs.stack.items c.reserve.new.self.items (c.pop.new.self.items ++ c.in-Some.partition ∷ []) c.reserve.ensures.items c.in-Some.ensures.items) c.in-Some-writer.is (c.runs.invariant.waits before known.0 known.1 known.2) in
     (top.part, top.has, top.fit)
 
@@ -72,7 +72,7 @@ read_run-outcome-requires-clause-none g c = c.new-partitions.ensures.items
 
 pub runs-preserved : goal.runs-preserved
 runs-preserved g c =
-    so_far-skip c.args.spec.now c.args.budget.entries _ _ _ _ _ _ _ _ _ _ _ _ _ _ c.in_ok-first.first.columns c.runs.stack.items _ c.runs.invariant c.pop.new.self.items c.in-Some.partition
+    so_far-skip c.args.spec.now c.args.context.budget.entries _ _ _ _ _ _ _ _ _ _ _ _ _ _ c.in_ok-first.first.columns c.runs.stack.items _ c.runs.invariant c.pop.new.self.items c.in-Some.partition
     (popped-from c.runs.stack.items c.reserve.new.self.items (c.pop.new.self.items ++ c.in-Some.partition ∷ []) c.reserve.ensures.items c.in-Some.ensures.items) c.in_default-writer.is
 
 pub runs-preserved-in-Some-writer : goal.runs-preserved-in-Some-writer
@@ -85,10 +85,10 @@ runs-preserved-in-Some-writer g c =
     let partitions = c.read_run-outcome.new.partitions.items in
     let source = c.run_pass.new.source in
     let fits = c.append.ensures.succeeds (omega (arith, c.in-Ok.ensures.ok, c.pop.ensures.capacity, c.pop.ensures.len, told.places)) in
-    so_far-read c.args.spec.now c.args.budget.entries _ _ _ _ _ _ _ _ _ _ _ _ _ s c.in_ok-first.first.columns c.runs.stack.items _ c.runs.invariant front partitions c.in-Some.partition c.in-Some-writer.writer
+    so_far-read c.args.spec.now c.args.context.budget.entries _ _ _ _ _ _ _ _ _ _ _ _ _ s c.in_ok-first.first.columns c.runs.stack.items _ c.runs.invariant front partitions c.in-Some.partition c.in-Some-writer.writer
     (popped-from c.runs.stack.items c.reserve.new.self.items (c.pop.new.self.items ++ c.in-Some.partition ∷ []) c.reserve.ensures.items c.in-Some.ensures.items) c.in-Some-writer.is (g.K.GroupSink.holds sink t) (g.K.GroupSink.owns sink) (g.K.GroupSink.is_ready sink t) t c.read_run-outcome.result told
     c.append.new.self.items (appended c.append.result _ front partitions fits c.append.ensures.items) (g.met.R.RowSource.own_live source s c.runs.invariant.source)
-    (g.R.RowSource.is_ready source t) c.in_ok-done.done c.args.budget.some c.args.budget.few c.in_ok-done.was (λ kept. g.met.R.RowSource.stays_ready source s t kept c.runs.invariant.source)
+    (g.R.RowSource.is_ready source t) c.in_ok-done.done c.args.context.budget.some c.args.context.budget.few c.in_ok-done.was (λ kept. g.met.R.RowSource.stays_ready source s t kept c.runs.invariant.source)
 
 pub runs-smaller : goal.runs-smaller
 runs-smaller g c = work-skip c.runs.stack.items c.pop.new.self.items c.in-Some.partition (popped-from c.runs.stack.items c.reserve.new.self.items (c.pop.new.self.items ++ c.in-Some.partition ∷ []) c.reserve.ensures.items c.in-Some.ensures.items) c.in_default-writer.is
@@ -102,7 +102,7 @@ runs-smaller-in-Some-writer g c =
     let partitions = c.read_run-outcome.new.partitions.items in
     let fits = c.append.ensures.succeeds (omega (arith, c.in-Ok.ensures.ok, c.pop.ensures.capacity, c.pop.ensures.len, told.places)) in
     work-read c.runs.stack.items c.append.new.self.items c.in_ok-done.done
-    (shrunk c.args.spec.now c.args.budget.entries _ _ _ _ _ _ _ _ _ _ _ _ _ _ c.in_ok-first.first.columns c.runs.stack.items _ c.runs.invariant front partitions c.in-Some.partition c.in-Some-writer.writer
+    (shrunk c.args.spec.now c.args.context.budget.entries _ _ _ _ _ _ _ _ _ _ _ _ _ _ c.in_ok-first.first.columns c.runs.stack.items _ c.runs.invariant front partitions c.in-Some.partition c.in-Some-writer.writer
     (popped-from c.runs.stack.items c.reserve.new.self.items (c.pop.new.self.items ++ c.in-Some.partition ∷ []) c.reserve.ensures.items c.in-Some.ensures.items) c.in-Some-writer.is (g.K.GroupSink.holds sink t) (g.K.GroupSink.owns sink) (g.K.GroupSink.is_ready sink t) t c.read_run-outcome.result told
     c.append.new.self.items (appended c.append.result _ front partitions fits c.append.ensures.items) c.in_ok-done.done c.in_ok-done.was)
 
@@ -116,7 +116,7 @@ returns-in_err-done g c =
     let partitions = c.read_run-outcome.new.partitions.items in
     let source = c.run_pass.new.source in
     let fits = c.append.ensures.succeeds (omega (arith, c.in-Ok.ensures.ok, c.pop.ensures.capacity, c.pop.ensures.len, told.places)) in
-    passes-stopped c.args.spec.now c.args.budget.entries _ _ _ _ _ _ _ _ _ _ _ _ _ s c.in_ok-first.first.columns c.runs.stack.items _ c.runs.invariant front partitions c.in-Some.partition c.in-Some-writer.writer
+    passes-stopped c.args.spec.now c.args.context.budget.entries _ _ _ _ _ _ _ _ _ _ _ _ _ s c.in_ok-first.first.columns c.runs.stack.items _ c.runs.invariant front partitions c.in-Some.partition c.in-Some-writer.writer
     (popped-from c.runs.stack.items c.reserve.new.self.items (c.pop.new.self.items ++ c.in-Some.partition ∷ []) c.reserve.ensures.items c.in-Some.ensures.items) c.in-Some-writer.is (g.K.GroupSink.holds sink t) (g.K.GroupSink.owns sink) (g.K.GroupSink.is_ready sink t) t c.read_run-outcome.result told
     c.append.new.self.items (appended c.append.result _ front partitions fits c.append.ensures.items) (g.met.R.RowSource.own_live source s c.runs.invariant.source)
     (g.R.RowSource.is_ready source t) c.from_residual-in_err-done.result c.in_err-done.field-0.0 c.from_residual-in_err-done.ensures.1 c.in_err-done.was
@@ -125,22 +125,22 @@ pub overflow_add-rows_written : goal.overflow_add-rows_written
 overflow_add-rows_written g c =
     let t = g.S.RunStore.runs c.read_run-outcome.new.store in
     let sink = c.read_run-outcome.new.sink in
-    let all = room c.args.spec.now c.args.budget.entries _ _ _ _ _ _ _ _ _ _ _ _ _ _ c.in_ok-first.first.columns c.runs.stack.items _ c.runs.invariant c.pop.new.self.items c.read_run-outcome.new.partitions.items c.in-Some.partition c.in-Some-writer.writer
-    (popped-from c.runs.stack.items c.reserve.new.self.items (c.pop.new.self.items ++ c.in-Some.partition ∷ []) c.reserve.ensures.items c.in-Some.ensures.items) c.in-Some-writer.is (g.K.GroupSink.holds sink t) (g.K.GroupSink.owns sink) (g.K.GroupSink.is_ready sink t) t c.read_run-outcome.result c.read_run-outcome.ensures c.in_ok-done.done c.args.budget.few c.in_ok-done.was in
+    let all = room c.args.spec.now c.args.context.budget.entries _ _ _ _ _ _ _ _ _ _ _ _ _ _ c.in_ok-first.first.columns c.runs.stack.items _ c.runs.invariant c.pop.new.self.items c.read_run-outcome.new.partitions.items c.in-Some.partition c.in-Some-writer.writer
+    (popped-from c.runs.stack.items c.reserve.new.self.items (c.pop.new.self.items ++ c.in-Some.partition ∷ []) c.reserve.ensures.items c.in-Some.ensures.items) c.in-Some-writer.is (g.K.GroupSink.holds sink t) (g.K.GroupSink.owns sink) (g.K.GroupSink.is_ready sink t) t c.read_run-outcome.result c.read_run-outcome.ensures c.in_ok-done.done c.args.context.budget.few c.in_ok-done.was in
     all.for_rows
 
 pub overflow_add-groups : goal.overflow_add-groups
 overflow_add-groups g c =
     let t = g.S.RunStore.runs c.read_run-outcome.new.store in
     let sink = c.read_run-outcome.new.sink in
-    let all = room c.args.spec.now c.args.budget.entries _ _ _ _ _ _ _ _ _ _ _ _ _ _ c.in_ok-first.first.columns c.runs.stack.items _ c.runs.invariant c.pop.new.self.items c.read_run-outcome.new.partitions.items c.in-Some.partition c.in-Some-writer.writer
-    (popped-from c.runs.stack.items c.reserve.new.self.items (c.pop.new.self.items ++ c.in-Some.partition ∷ []) c.reserve.ensures.items c.in-Some.ensures.items) c.in-Some-writer.is (g.K.GroupSink.holds sink t) (g.K.GroupSink.owns sink) (g.K.GroupSink.is_ready sink t) t c.read_run-outcome.result c.read_run-outcome.ensures c.in_ok-done.done c.args.budget.few c.in_ok-done.was in
+    let all = room c.args.spec.now c.args.context.budget.entries _ _ _ _ _ _ _ _ _ _ _ _ _ _ c.in_ok-first.first.columns c.runs.stack.items _ c.runs.invariant c.pop.new.self.items c.read_run-outcome.new.partitions.items c.in-Some.partition c.in-Some-writer.writer
+    (popped-from c.runs.stack.items c.reserve.new.self.items (c.pop.new.self.items ++ c.in-Some.partition ∷ []) c.reserve.ensures.items c.in-Some.ensures.items) c.in-Some-writer.is (g.K.GroupSink.holds sink t) (g.K.GroupSink.owns sink) (g.K.GroupSink.is_ready sink t) t c.read_run-outcome.result c.read_run-outcome.ensures c.in_ok-done.done c.args.context.budget.few c.in_ok-done.was in
     all.for_groups
 
 pub overflow_add-runs : goal.overflow_add-runs
 overflow_add-runs g c =
     let t = g.S.RunStore.runs c.read_run-outcome.new.store in
     let sink = c.read_run-outcome.new.sink in
-    let all = room c.args.spec.now c.args.budget.entries _ _ _ _ _ _ _ _ _ _ _ _ _ _ c.in_ok-first.first.columns c.runs.stack.items _ c.runs.invariant c.pop.new.self.items c.read_run-outcome.new.partitions.items c.in-Some.partition c.in-Some-writer.writer
-    (popped-from c.runs.stack.items c.reserve.new.self.items (c.pop.new.self.items ++ c.in-Some.partition ∷ []) c.reserve.ensures.items c.in-Some.ensures.items) c.in-Some-writer.is (g.K.GroupSink.holds sink t) (g.K.GroupSink.owns sink) (g.K.GroupSink.is_ready sink t) t c.read_run-outcome.result c.read_run-outcome.ensures c.in_ok-done.done c.args.budget.few c.in_ok-done.was in
+    let all = room c.args.spec.now c.args.context.budget.entries _ _ _ _ _ _ _ _ _ _ _ _ _ _ c.in_ok-first.first.columns c.runs.stack.items _ c.runs.invariant c.pop.new.self.items c.read_run-outcome.new.partitions.items c.in-Some.partition c.in-Some-writer.writer
+    (popped-from c.runs.stack.items c.reserve.new.self.items (c.pop.new.self.items ++ c.in-Some.partition ∷ []) c.reserve.ensures.items c.in-Some.ensures.items) c.in-Some-writer.is (g.K.GroupSink.holds sink t) (g.K.GroupSink.owns sink) (g.K.GroupSink.is_ready sink t) t c.read_run-outcome.result c.read_run-outcome.ensures c.in_ok-done.done c.args.context.budget.few c.in_ok-done.was in
     all.for_runs

@@ -66,7 +66,7 @@ returns-clause-taken c = if_some_so _ c.next.result (λ key is.
     let asked = ap (λ (l : Leaving). l.asked) c.self.view_is in
     let values = c.take_values.new.values in
     let list = c.if-len-self.values in
-    let as_long : length values ≡ list.len = c.take_values.auto.values ∙ ap length c.as_mut_slice-partitions.ensures.value ∙ sym list.ok.0 in
+    let as_long : length values ≡ list.len = c.take_values.auto.values ∙ ap length c.as_mut_slice-over.ensures.value ∙ sym list.ok.0 in
     let whole : take list.len (values ++ drop (length values) list.items) ≡ values = take-append-le list.len values (drop (length values) list.items) (omega (arith, as_long)) ∙ take_all list.len values (omega (arith, as_long)) in
     record {
       running = chunk own.each items n;

@@ -6,5 +6,5 @@ use Rattle.gq_group.proofs.resident_table.ResidentTable.start.Goals as goal
 
 pub returns-clause-resident : goal.returns-clause-resident
 returns-clause-resident g c =
-    let P : MapView _ → Type 0 = λ v. Resident c.args.spec.now c.args.budget.entries [] v.pairs in
-    subst P (sym c.expect.ensures) (resident-start c.args.spec.now c.args.budget.entries c.in_ok-groups.groups.pairs c.in_ok-groups.ensures.grouped c.in_ok-groups.ensures.few c.args.budget.some)
+    let P : MapView _ → Type 0 = λ v. Resident c.args.spec.now c.args.context.budget.entries [] v.pairs in
+    subst P (sym c.expect.ensures) (resident-start c.args.spec.now c.args.context.budget.entries c.in_ok-groups.groups.pairs c.in_ok-groups.ensures.grouped c.in_ok-groups.ensures.few c.args.context.budget.some)
