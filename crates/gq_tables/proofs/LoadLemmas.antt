@@ -31,7 +31,7 @@ use Rattle.gq_reply.specs.Replies.{is_refusal}
 use Rattle.gq_engine.specs.Databases.{Database, table_at, with_table, without_table}
 use Rattle.gq_engine.specs.Loading.{refused_by, rows_told}
 use Rattle.gq_engine.specs.Refusing.{put_all_within}
-use Rattle.gq_engine.specs.Runs.{LegalAnswer, AsListsAnswer, WantsMemory, StoreFailed, StoreLied, SameTables, Setting}
+use Rattle.gq_engine.specs.Runs.{AnsweredAsLists, LegalAnswer, AsListsAnswer, WantsMemory, StoreFailed, StoreLied, SameTables, Setting}
 use Rattle.gq_engine.specs.Steps.{Outcome, create, drop_table, load_table, settle, table_in, with_rows}
 use Rattle.gq_engine.proofs.MapLemmas.{is_finite_map, itself}
 use Rattle.gq_engine.proofs.OrderLemmas.{AlikeTables, changed_alike, keys_differ-put_all, no_rows_differ, tables_trans, without_alike}
@@ -60,6 +60,15 @@ without_last (entry ∷ before) name t none = by (bytes_eq entry.0 name) refl no
         → cond (not b) (entry ∷ without_table (before ++ (name, t) ∷ []) name) (without_table (before ++ (name, t) ∷ []) name) ≡ entry ∷ before
     by true e none again = let no : ⊥ = cc in absurd no
     by false e none again = ap (λ db. entry ∷ db) (again none)
+
+at_last : (before : Database) (name : Bytes) (t : PlainTable) → table_at before name ≡ None → table_at (before ++ (name, t) ∷ []) name ≡ Some t
+at_last [] name t none = ap (λ b. cond b (Some t) None) (itself name)
+at_last (entry ∷ before) name t none = by (bytes_eq entry.0 name) refl none (at_last before name t)
+  where
+    by : (b : Bool) → bytes_eq entry.0 name ≡ b → cond b (Some entry.1) (table_at before name) ≡ None → (table_at before name ≡ None → table_at (before ++ (name, t) ∷ []) name ≡ Some t)
+        → cond b (Some entry.1) (table_at (before ++ (name, t) ∷ []) name) ≡ Some t
+    by true e none again = let no : ⊥ = cc in absurd no
+    by false e none again = again none
 
 -- a table of a database that is the same but for the order of rows
 pub record FoundSame (s : PlainTable) (b : Database) (name : Bytes) : Type 0 where
@@ -136,25 +145,22 @@ created setting old new name columns key h = by h.alike.legal
     by (StoreFailed e g m) = absurd (not_refused h.answer _ m h.fine)
     by (StoreLied e g l) = absurd (true≢false (sym g.0))
 
--- a drop that was carried out
-dropped : (setting : Setting) (old new : Database) (name : Bytes) → HasDone setting old (Drop name) new → SameTables (without_table old name) new
-dropped setting old new name h = by h.alike.legal
+-- a drop of the last table
+dropped_now : (limits : Bounds) (old new : Database) (name : Bytes) (table : PlainTable) (answer : Reply) → AnsweredAsLists limits old (item.Command (Drop name)) answer new → table_at old name ≡ Some table → SameTables (without_table old name) new
+dropped_now limits old new name table answer h there = subst (λ (db : Database). SameTables db new) (by (table_at old name) refl there) h.same
   where
-    by : LegalAnswer setting old (item.Command (Drop name)) h.answer h.alike.last → SameTables (without_table old name) new
-    by (AsListsAnswer e) =
-        let s = settled old (drop_table old name) h.alike.last h.answer e h.fine in
-        let a = bound (table_in old name) _ (h.alike.last, s.answer) s.done in
-        let last : without_table old name ≡ h.alike.last = ap (λ (p : Database × Reply). p.0) (ok_same _ _ a.2) in
-        subst (λ (db : Database). SameTables db new) (sym last) h.alike.same
-    by (WantsMemory e m) = absurd (not_refused h.answer _ m h.fine)
-    by (StoreFailed e g m) = absurd (not_refused h.answer _ m h.fine)
-    by (StoreLied e g l) = absurd (true≢false (sym g.0))
+    by : (o : Option PlainTable) → table_at old name ≡ o → o ≡ Some table → (settle old (some_or NoTable o >>= λ t. Ok (without_table old name, reply.Done 0))).0 ≡ without_table old name
+    by None e s = let none : ⊥ = cc in absurd none
+    by (Some t) e s = refl
 
-pub dropped_last : (setting : Setting) (old new before : Database) (name : Bytes) (table : PlainTable) → HasDone setting old (Drop name) new → table_at before name ≡ None → SameTables (before ++ (name, table) ∷ []) old → SameTables before new
-dropped_last setting old new before name table h none same =
+pub dropped_last : (limits : Bounds) (old new before : Database) (name : Bytes) (table : PlainTable) (answer : Reply) → AnsweredAsLists limits old (item.Command (Drop name)) answer new → table_at before name ≡ None → SameTables (before ++ (name, table) ∷ []) old → SameTables before new
+dropped_last limits old new before name table answer h none same =
     tables_trans before (without_table old name) new
     (subst (λ (db : Database). SameTables db (without_table old name)) (without_last before name table none) (without_alike (before ++ (name, table) ∷ []) old name same))
-    (dropped setting old new name h)
+    (dropped_now limits old new name (there.table) answer h there.found)
+  where
+    there : FoundSame table old name
+    there = found_same (before ++ (name, table) ∷ []) old name table same (at_last before name table none)
 
 -- ---- a load that was carried out
 

@@ -10,15 +10,19 @@ use Rattle.gq_command.specs.Commands.{Bytes}
 use Rattle.gq_command.specs.declared.command.Command.{Command}
 use Rattle.gq_command.specs.declared.command.Payload.TheVariants as payload
 use Rattle.gq_command.specs.declared.reader.Item.TheVariants as Item
+use Rattle.gq_reply.specs.declared.refusal.Refusal.TheVariants.{Memory}
 use Rattle.gq_reply.specs.declared.reply.Reply.{Reply}
 use Rattle.gq_reply.specs.declared.reply.Reply.TheVariants as reply
+use Rattle.gq_reply.specs.Refusals.{told}
 use Rattle.gq_reply.specs.Replies.{is_refusal}
 use Rattle.gq_engine.specs.Databases.{Database}
 use Rattle.gq_engine.specs.Runs.{AnsweredAlike, SameTables, Setting}
 use Rattle.gq_engine.specs.Serving.{CarriedOut}
 use Rattle.gq_engine.specs.Steps.{load_table}
 use Rattle.gq_infer.specs.declared.word.TableWord.{TableWord}
+use Rattle.gq_tables.specs.declared.fault.Why.{Why}
 use Rattle.gq_tables.specs.Made.{HasRowsOf, IsTableOf, files_of, of_name}
+use Rattle.gq_tables.specs.Reasons.{IfRefused}
 
 -- a database is the one before and a table of a name, but for the order of rows
 pub record IsWith (before : Database) (name : Bytes) (P : PlainTable → Type 0) (db : Database) : Type 0 where
@@ -44,6 +48,10 @@ pub record HasDone (setting : Setting) (old : Database) (command : Command) (new
   pub answer : Reply
   pub alike : AnsweredAlike setting old (Item.Command command) answer new
   pub fine : is_refusal answer ≡ false
+
+-- a command was refused, other than by an allocation
+abbrev pub HasRefused : Setting → Database → Command → Database → Why → Type 0
+HasRefused setting old command new why = IfRefused why (λ refused. AnsweredAlike setting old (Item.Command command) (told refused) new × (refused.why ≡ Memory → ⊥))
 
 -- a load of a file was carried out
 pub record HasLoadedFile (short : Short) (limits : Bounds) (old : Database) (name bytes : Bytes) (new : Database) : Type 0 where

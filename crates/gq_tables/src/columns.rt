@@ -1,6 +1,7 @@
 //! Columns that are inferred from the files of a table.
-ghost use Rattle.std.specs.Prelude.{◌≡◌, ◌<◌, ◌≤◌, ◌+◌, ◌∷◌, ◌++◌, ℕ, List, [], true, None, IfOk, IfSome, OnErr, OnOk, length, drop, take, slice_index_or};
+ghost use Rattle.std.specs.Prelude.{◌≡◌, ◌<◌, ◌≤◌, ◌+◌, ◌∷◌, ◌++◌, ℕ, List, [], true, None, IfErr, IfOk, IfSome, OnErr, OnOk, length, drop, take, slice_index_or};
 ghost use Rattle.std.specs.Fn.{FnReturnsAt};
+ghost use Rattle.gq_row.specs.declared.limits.Bounds.{Bounds};
 ghost use Rattle.gq_command.specs.Commands.{is_command};
 ghost use Rattle.gq_command.specs.declared.command.Command.TheVariants.{Create};
 ghost use Rattle.gq_infer.specs.declared.word.TableWord.{TableWord};
@@ -9,6 +10,7 @@ ghost use Rattle.gq_infer.specs.Guesses.{AreRightIfLoaded};
 ghost use Rattle.gq_tables.specs.declared.source.Source.{Source};
 ghost use Rattle.gq_tables.specs.Files.{HasBytes, Knows};
 ghost use Rattle.gq_tables.specs.Made.{files_of, of_name};
+ghost use Rattle.gq_tables.specs.Reasons.{IsFaultAt, is_failure};
 
 use crate::fault::{TableFault, Why, at_word, of_inference};
 use crate::files::{Files, is_same};
@@ -80,6 +82,14 @@ where
         (files_of contents (of_name first.name (drop (at + 1) (take found.end files.now.words.now))))) }
     ensures table { IfOk result (λ found. (table : List ℕ)
         → is_command (Create table found.columns []) ≡ true) }
+    ensures refused { IfErr result (λ fault. (limits : Bounds)
+        → IsFaultAt R.remaining (λ name opened. FnReturnsAt F.Fn files.now.opener.now name opened)
+        files.now.words.now files.now.sources.now files.now.short limits fault.word fault.why) }
+    ensures ended { IfOk result (λ found. IfSome found.why_ended (λ why. (limits : Bounds)
+        → IsFaultAt R.remaining (λ name opened. FnReturnsAt F.Fn files.now.opener.now name opened)
+        files.now.words.now files.now.sources.now files.now.short limits found.end why)) }
+    ensures within { IfErr result (λ fault. fault.word < length files.now.words.now) }
+    ensures before { IfOk result (λ found. IfSome found.why_ended (λ why. found.end < end)) }
 {
     let mut inference = at_word(infer_first(alloc, files, at), at)?;
     let (end, why_ended) = infer_others(alloc, files, at, end, &mut inference);
@@ -99,11 +109,14 @@ where
     requires callable { F.IsAlwaysCallable files.now.opener.now }
     requires at { at < length files.now.sources.now }
     requires sources { length files.now.sources.now ≤ length files.now.words.now }
-    ensures { IfOk result (λ inference. (d : TableWord) (e : Source) (bytes : List ℕ)
+    ensures inferred { IfOk result (λ inference. (d : TableWord) (e : Source) (bytes : List ℕ)
         → HasBytes R.remaining (λ name opened. FnReturnsAt F.Fn files.now.opener.now name opened)
         (slice_index_or files.now.words.now at d).file.now
         (slice_index_or files.now.sources.now at e) bytes
         → inference ≡ inferred bytes []) }
+    ensures refused { IfErr result (λ why. (limits : Bounds)
+        → IsFaultAt R.remaining (λ name opened. FnReturnsAt F.Fn files.now.opener.now name opened)
+        files.now.words.now files.now.sources.now files.now.short limits at why) }
 {
     let limits = Limits::greatest();
     let file = open(files.words[at].file, &files.sources[at], files.opener)?;
@@ -136,6 +149,10 @@ where
         → inference.old ≡ inferred (contents first.file.now) []
         → inference.new ≡ inferred (contents first.file.now)
         (files_of contents (of_name first.name (drop (at + 1) (take result.0 files.now.words.now)))) }
+    ensures refused { IfSome result.1 (λ why. (limits : Bounds)
+        → IsFaultAt R.remaining (λ name opened. FnReturnsAt F.Fn files.now.opener.now name opened)
+        files.now.words.now files.now.sources.now files.now.short limits result.0 why) }
+    ensures before { IfSome result.1 (λ why. result.0 < end) }
 {
     for word in at + 1..end {
         match infer_other(alloc, files, at, word, inference) {
@@ -169,6 +186,9 @@ where
         → inference.new ≡ inferred file
         (files_of contents (of_name first.name (drop (at + 1) (take (word + 1) files.now.words.now))))) }
     ensures unchanged { OnErr result (inference.new ≡ inference.old) }
+    ensures refused { IfErr result (λ why. (limits : Bounds)
+        → IsFaultAt R.remaining (λ name opened. FnReturnsAt F.Fn files.now.opener.now name opened)
+        files.now.words.now files.now.sources.now files.now.short limits word why) }
 {
     if !is_same(files.words, at, word) {
         return Ok(());
@@ -196,6 +216,9 @@ where
         → (first : List ℕ) (others : List (List ℕ)) → inference.old ≡ inferred first others
         → inference.new ≡ inferred first (others ++ bytes ∷ [])) }
     ensures unchanged { OnErr result (inference.new ≡ inference.old) }
+    ensures refused { IfErr result (λ why. (limits : Bounds)
+        → IsFaultAt R.remaining (λ name opened. FnReturnsAt F.Fn files.now.opener.now name opened)
+        files.now.words.now files.now.sources.now files.now.short limits word why) }
 {
     let file = open(files.words[word].file, &files.sources[word], files.opener)?;
     match inference.add(alloc, file) {
@@ -209,6 +232,7 @@ fn columns_of(alloc: Global, inference: &Inference) -> Result<Sequence<Column>, 
         → inference.now ≡ inferred first others → columns ≡ table_columns first others) }
     ensures table { IfOk result (λ columns. (table : List ℕ)
         → is_command (Create table columns []) ≡ true) }
+    ensures failed { IfErr result (λ why. is_failure why ≡ true) }
 {
     Ok(inference.columns(alloc)?)
 }

@@ -1,6 +1,10 @@
 //! Why tables could not be made, and what is said of it.
 ghost use Rattle.std.specs.Prelude.{◌≡◌, ◌++◌, Ok, Err, IfErr, IfOk, OnOk, string_bytes};
 ghost use Rattle.gq_reply.specs.Replies.{record_number};
+ghost use Rattle.gq_reply.specs.declared.refusal.Refused.{Refused};
+ghost use Rattle.gq_engine.specs.declared.csv_fault.CsvFault.TheVariants as CsvFault;
+ghost use Rattle.gq_tables.specs.declared.fault.Why.TheVariants as Why;
+ghost use Rattle.gq_tables.specs.Reasons.{IsWhyOf, why_of_header};
 ghost use Rattle.gq_tables.specs.Faults.{can_complete, code_and_name, hint, meaning, refusal_told};
 
 use gq_engine::{CsvFault, Refusal, Refused, Short};
@@ -58,7 +62,9 @@ pub(crate) fn at_word<T: Drop>(outcome: Result<T, Why>, word: usize) -> Result<T
 }
 
 /// The refusal of a text that names no columns.
-pub(crate) fn of_inference(fault: InferFault) -> Why {
+pub(crate) fn of_inference(fault: InferFault) -> Why
+    ensures { result ≡ why_of_header fault }
+{
     match fault {
         InferFault::Header => Why::Refused(Refused::from(Refusal::Header)),
         InferFault::Limit => Why::Refused(Refused::from(Refusal::Limit)),
@@ -68,7 +74,10 @@ pub(crate) fn of_inference(fault: InferFault) -> Why {
 }
 
 /// The refusal of a load.
-pub(crate) fn of_load(fault: CsvFault) -> Why {
+pub(crate) fn of_load(fault: CsvFault) -> Why
+    ensures read { fault ≡ CsvFault.Read → result ≡ Why.ReadFault }
+    ensures refused { (refused : Refused) → fault ≡ CsvFault.Refused refused → IsWhyOf refused result }
+{
     match fault {
         CsvFault::Read => Why::ReadFault,
         CsvFault::Refused(refused) => of_refused(refused),
@@ -76,7 +85,9 @@ pub(crate) fn of_load(fault: CsvFault) -> Why {
 }
 
 /// The refusal of a table.
-pub(crate) fn of_refused(refused: Refused) -> Why {
+pub(crate) fn of_refused(refused: Refused) -> Why
+    ensures { IsWhyOf refused result }
+{
     if refused.why == Refusal::Memory {
         Why::Memory
     } else {

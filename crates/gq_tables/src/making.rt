@@ -1,10 +1,11 @@
 //! Tables from the files of words.
-ghost use Rattle.std.specs.Prelude.{◌≡◌, ◌<◌, ◌≤◌, ◌+◌, ℕ, List, [], false, None, OnOk, length};
+ghost use Rattle.std.specs.Prelude.{◌≡◌, ◌<◌, ◌≤◌, ◌+◌, ℕ, List, [], false, true, None, IfErr, IfSome, OnOk, length};
 ghost use Rattle.std.specs.Fn.{FnReturnsAt};
 ghost use Rattle.std.specs.List.{list_any};
 ghost use Rattle.gq_engine.specs.Engines.{database, setting_of};
 ghost use Rattle.gq_tables.specs.Files.{AreFiles, HaveBytes, is_input};
 ghost use Rattle.gq_tables.specs.Made.{AreTablesOf};
+ghost use Rattle.gq_tables.specs.Reasons.{IsFaultAt, IsFaultOf, is_failure};
 ghost use Rattle.gq_tables.specs.Steps.{MadeUpTo};
 
 use crate::fault::TableFault;
@@ -44,6 +45,12 @@ where
         (database engine.new)) }
     ensures input { list_any is_input words.now ≡ false → input.new ≡ input.old }
     ensures setting { setting_of S.runs engine.new ≡ setting_of S.runs engine.old }
+    // Each fault is one of its word, if it is known what the files hold.
+    ensures refused { IfErr result (λ fault. (contents : List ℕ → List ℕ)
+        → AreFiles R.remaining (λ name opened. FnReturnsAt F.Fn opener.now name opened)
+        (I.remaining input.old) words.now contents
+        → IsFaultOf contents short (setting_of S.runs engine.old).limits words.now fault) }
+    ensures within { IfErr result (λ fault. fault.word < length words.now) }
 {
     let (sources, stop) = find_sources(alloc, words, opener, input);
     let files = Files {
@@ -89,6 +96,14 @@ where
         → MadeUpTo contents files.now.short (setting_of S.runs engine.old).limits files.now.words.now
         (at + 1) (database engine.new) }
     ensures setting { setting_of S.runs engine.new ≡ setting_of S.runs engine.old }
+    ensures refused { IfSome fault (λ found. IsFaultAt R.remaining (λ name opened. FnReturnsAt F.Fn files.now.opener.now name opened)
+        files.now.words.now files.now.sources.now files.now.short
+        (setting_of S.runs engine.old).limits found.word found.why)
+        → IfSome result (λ found. IsFaultAt R.remaining (λ name opened. FnReturnsAt F.Fn files.now.opener.now name opened)
+        files.now.words.now files.now.sources.now files.now.short
+        (setting_of S.runs engine.old).limits found.word found.why) }
+    ensures within { IfSome fault (λ found. found.word < length files.now.words.now)
+        → IfSome result (λ found. found.word < length files.now.words.now) }
 {
     let end = end_before(fault, files.sources.len());
     if end <= at {
@@ -134,6 +149,8 @@ where
         → HaveBytes R.remaining (λ name opened. FnReturnsAt F.Fn opener.now name opened)
         contents words.now result.0.items }
     ensures input { list_any is_input words.now ≡ false → input.new ≡ input.old }
+    ensures failed { IfSome result.1 (λ fault. is_failure fault.why ≡ true) }
+    ensures within { IfSome result.1 (λ fault. fault.word < length words.now) }
 {
     let mut sources = Vec::new(alloc);
     for word in 0..words.len() {

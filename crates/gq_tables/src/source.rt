@@ -1,7 +1,8 @@
 //! The files of words: opened for each read, or held.
-ghost use Rattle.std.specs.Prelude.{◌≡◌, ℕ, List, IfOk, IfSome, OnErr, OnOk, Some, false, true};
+ghost use Rattle.std.specs.Prelude.{◌≡◌, ℕ, List, IfErr, IfOk, IfSome, OnErr, OnOk, Some, false, true};
 ghost use Rattle.std.specs.Fn.{FnReturnsAt};
 ghost use Rattle.gq_tables.specs.Files.{HasAdded, HasBytes, HoldsLeft, is_input, left_in};
+ghost use Rattle.gq_tables.specs.Reasons.{is_failure};
 
 use crate::fault::Why;
 use gq_infer::TableWord;
@@ -83,6 +84,7 @@ where
         word.now.file.now Source.Path bytes
         → HasBytes R.remaining (λ name opened. FnReturnsAt F.Fn opener.now name opened)
         word.now.file.now source bytes) }
+    ensures failed { IfErr result (λ why. is_failure why ≡ true) }
 {
     if word.file == "-" {
         return Ok(Source::Held(read_whole(alloc, input)?));
@@ -111,6 +113,7 @@ where
         (λ name opened. FnReturnsAt F.Fn opener.now name opened) (I.remaining input.old)
         word.now sources.old.items sources.new.items) }
     ensures kept { OnErr result (sources.new.items ≡ sources.old.items) }
+    ensures failed { IfErr result (λ why. is_failure why ≡ true) }
 {
     let source = find_source(alloc, word, opener, input)?;
     Ok(sources.push(source)?)
@@ -118,7 +121,8 @@ where
 
 // The source of a file that was opened.
 fn source_of<R: Read + Reopen + Drop>(alloc: Global, file: R) -> Result<Source, Why>
-    ensures { IfOk result (HoldsLeft (R.remaining file)) }
+    ensures holds { IfOk result (HoldsLeft (R.remaining file)) }
+    ensures failed { IfErr result (λ why. is_failure why ≡ true) }
 {
     if file.can_reopen() {
         return Ok(Source::Path);
@@ -129,7 +133,8 @@ fn source_of<R: Read + Reopen + Drop>(alloc: Global, file: R) -> Result<Source, 
 
 // All bytes of a reader.
 fn read_whole<R: Read>(alloc: Global, reader: &mut R) -> Result<Vec<u8>, Why>
-    ensures { IfOk result (λ bytes. IfSome (R.remaining reader.old) (λ left. bytes.items ≡ left)) }
+    ensures read { IfOk result (λ bytes. IfSome (R.remaining reader.old) (λ left. bytes.items ≡ left)) }
+    ensures failed { IfErr result (λ why. is_failure why ≡ true) }
 {
     let mut bytes = Vec::new(alloc);
     match reader.read_to_end(&mut bytes) {
@@ -148,9 +153,10 @@ where
     F: Fn(&str) -> io::Result<R>,
     R: Read + Drop,
     requires { F.IsAlwaysCallable opener.now }
-    ensures { (bytes : List ℕ) → HasBytes R.remaining
+    ensures opened { (bytes : List ℕ) → HasBytes R.remaining
         (λ name opened. FnReturnsAt F.Fn opener.now name opened) path.now source.now bytes
         → IfOk result (λ file. left_in R.remaining file ≡ Some bytes) }
+    ensures failed { IfErr result (λ why. is_failure why ≡ true) }
 {
     match source {
         Source::Held(bytes) => Ok(Opened::Held(bytes.as_slice())),
@@ -162,7 +168,9 @@ where
 }
 
 // Out of memory as such, and any other error by what was tried.
-fn why_not(error: &io::Error, otherwise: Why) -> Why {
+fn why_not(error: &io::Error, otherwise: Why) -> Why
+    ensures { is_failure otherwise ≡ true → is_failure result ≡ true }
+{
     if error.kind() == ErrorKind::OutOfMemory {
         Why::Memory
     } else {

@@ -1,8 +1,9 @@
 //! One table, from the files of the words with its name.
-ghost use Rattle.std.specs.Prelude.{◌≡◌, ◌<◌, ◌≤◌, ◌∷◌, ◌++◌, ◌+◌, ℕ, List, [], true, None, Some, IfOk, MatchResult, OnErr, OnOk, length, take, slice_index_or};
+ghost use Rattle.std.specs.Prelude.{◌≡◌, ◌<◌, ◌≤◌, ◌∷◌, ◌++◌, ◌+◌, ℕ, List, [], true, None, Some, IfErr, IfOk, MatchResult, OnErr, OnOk, length, take, slice_index_or};
 ghost use Rattle.std.specs.Fn.{FnReturnsAt};
 ghost use Rattle.gq_row.specs.declared.schema.Column.{Column};
 ghost use Rattle.gq_row.specs.Tables.{PlainTable};
+ghost use Rattle.gq_load.specs.declared.short_records.Short.{Short};
 ghost use Rattle.gq_command.specs.Commands.{as_said, is_command};
 ghost use Rattle.gq_command.specs.declared.command.Command.TheVariants.{Create};
 ghost use Rattle.gq_engine.specs.Databases.{Database, table_at};
@@ -12,7 +13,8 @@ ghost use Rattle.gq_infer.specs.declared.word.TableWord.{TableWord};
 ghost use Rattle.gq_tables.specs.Files.{HasBytes, Knows};
 ghost use Rattle.gq_tables.specs.declared.source.Source.{Source};
 ghost use Rattle.gq_tables.specs.Made.{IsTableOf, of_name};
-ghost use Rattle.gq_tables.specs.Steps.{HasDone, HasLoadedFile, IsEmpty, IsFilled, IsWith, MadeOrSame};
+ghost use Rattle.gq_tables.specs.Reasons.{IsFaultAt, IsReason, is_failure};
+ghost use Rattle.gq_tables.specs.Steps.{HasDone, HasLoadedFile, HasRefused, IsEmpty, IsFilled, IsWith, MadeOrSame};
 
 use crate::columns::{guess, infer_all};
 use crate::fault::{TableFault, Why, at_word, of_load, of_refused};
@@ -52,6 +54,10 @@ where
         (setting_of S.runs engine.old).limits (of_name first.name (take end files.now.words.now)))
         (database engine.new)) }
     ensures setting { setting_of S.runs engine.new ≡ setting_of S.runs engine.old }
+    ensures refused { IfErr result (λ fault. IsFaultAt R.remaining (λ name opened. FnReturnsAt F.Fn files.now.opener.now name opened)
+        files.now.words.now files.now.sources.now files.now.short
+        (setting_of S.runs engine.old).limits fault.word fault.why) }
+    ensures within { IfErr result (λ fault. fault.word < length files.now.words.now) }
 {
     match &files.words[at].columns {
         Some(given) => make_given(alloc, engine, files, at, end, given),
@@ -86,6 +92,10 @@ where
         (setting_of S.runs engine.old).limits (of_name first.name (take end files.now.words.now)))
         (database engine.new)) }
     ensures setting { setting_of S.runs engine.new ≡ setting_of S.runs engine.old }
+    ensures refused { IfErr result (λ fault. IsFaultAt R.remaining (λ name opened. FnReturnsAt F.Fn files.now.opener.now name opened)
+        files.now.words.now files.now.sources.now files.now.short
+        (setting_of S.runs engine.old).limits fault.word fault.why) }
+    ensures within { IfErr result (λ fault. fault.word < length files.now.words.now) }
 {
     let (columns, key) = at_word(copy_given(alloc, given), at)?.into_parts();
     at_word(create(alloc, engine, &files.words[at], columns, key), at)?;
@@ -119,6 +129,10 @@ where
         (setting_of S.runs engine.old).limits (of_name first.name (take end files.now.words.now)))
         (database engine.new)) }
     ensures setting { setting_of S.runs engine.new ≡ setting_of S.runs engine.old }
+    ensures refused { IfErr result (λ fault. IsFaultAt R.remaining (λ name opened. FnReturnsAt F.Fn files.now.opener.now name opened)
+        files.now.words.now files.now.sources.now files.now.short
+        (setting_of S.runs engine.old).limits fault.word fault.why) }
+    ensures within { IfErr result (λ fault. fault.word < length files.now.words.now) }
 {
     if make_guessed(alloc, engine, files, at, end)? {
         return Ok(());
@@ -152,6 +166,10 @@ where
         (setting_of S.runs engine.old).limits (of_name first.name (take end files.now.words.now)))
         (database engine.new)) (database engine.old) (database engine.new)) }
     ensures setting { setting_of S.runs engine.new ≡ setting_of S.runs engine.old }
+    ensures refused { IfErr result (λ fault. IsFaultAt R.remaining (λ name opened. FnReturnsAt F.Fn files.now.opener.now name opened)
+        files.now.words.now files.now.sources.now files.now.short
+        (setting_of S.runs engine.old).limits fault.word fault.why) }
+    ensures within { IfErr result (λ fault. fault.word < length files.now.words.now) }
 {
     let Some(columns) = guess(alloc, files, at) else {
         return Ok(false);
@@ -194,6 +212,10 @@ where
         (setting_of S.runs engine.old).limits (of_name first.name (take end files.now.words.now)))
         (database engine.new)) }
     ensures setting { setting_of S.runs engine.new ≡ setting_of S.runs engine.old }
+    ensures refused { IfErr result (λ fault. IsFaultAt R.remaining (λ name opened. FnReturnsAt F.Fn files.now.opener.now name opened)
+        files.now.words.now files.now.sources.now files.now.short
+        (setting_of S.runs engine.old).limits fault.word fault.why) }
+    ensures within { IfErr result (λ fault. fault.word < length files.now.words.now) }
 {
     let inferred = infer_all(alloc, files, at, end)?;
     let key = Sequence::new(Vec::new(alloc));
@@ -212,7 +234,8 @@ where
 }
 
 fn copy_given(alloc: Global, given: &GivenColumns) -> Result<GivenColumns, Why>
-    ensures { IfOk result (λ copy. copy ≡ given.now) }
+    ensures copied { IfOk result (λ copy. copy ≡ given.now) }
+    ensures failed { IfErr result (λ why. is_failure why ≡ true) }
 {
     Ok(given.copy(alloc)?)
 }
@@ -231,6 +254,8 @@ where
     requires { (table : List ℕ) → is_command (Create table columns key) ≡ true }
     ensures created { OnOk result (IsWith (database engine.old) word.now.name (IsEmpty columns key)
         (database engine.new)) }
+    ensures refused { IfErr result (λ why. (short : Short) (file : List ℕ)
+        → IsReason short (setting_of S.runs engine.old).limits word.now file why) }
     ensures setting { setting_of S.runs engine.new ≡ setting_of S.runs engine.old }
 {
     let table = word.name.copy(alloc)?;
@@ -244,11 +269,12 @@ where
     )
 }
 
-// Takes out the table of a word, which is the last one.
+// Takes out the table of a word, which is the last one. A drop takes no memory, and isn't refused.
 fn drop_table<H, S>(alloc: Global, engine: &mut Engine<H, S>, word: &TableWord) -> Result<(), Why>
 where
     H: KeyHash<Key> + Copy,
     S: RunStore,
+    ensures failed { IfErr result (λ why. is_failure why ≡ true) }
     ensures dropped { OnOk result ((before : Database) (table : PlainTable)
         → table_at before word.now.name ≡ None
         → SameTables (before ++ (word.now.name, table) ∷ []) (database engine.old)
@@ -256,7 +282,8 @@ where
     ensures setting { setting_of S.runs engine.new ≡ setting_of S.runs engine.old }
 {
     let table = word.name.copy(alloc)?;
-    carry_out(engine, Command::Drop { table })
+    let _done = engine.execute(Command::Drop { table });
+    Ok(())
 }
 
 // Carries out a command that has no rows to show.
@@ -267,6 +294,8 @@ where
     requires { is_command (as_said command) ≡ true }
     ensures done { OnOk result (HasDone (setting_of S.runs engine.old) (database engine.old) command
         (database engine.new)) }
+    ensures refused { IfErr result (HasRefused (setting_of S.runs engine.old) (database engine.old)
+        command (database engine.new)) }
     ensures setting { setting_of S.runs engine.new ≡ setting_of S.runs engine.old }
 {
     match engine.execute(command) {
@@ -303,6 +332,10 @@ where
         (of_name first.name (take end files.now.words.now))) (database engine.new))
         (λ _. IsWith before first.name (λ _. Unit) (database engine.new)) }
     ensures setting { setting_of S.runs engine.new ≡ setting_of S.runs engine.old }
+    ensures refused { IfErr result (λ fault. IsFaultAt R.remaining (λ name opened. FnReturnsAt F.Fn files.now.opener.now name opened)
+        files.now.words.now files.now.sources.now files.now.short
+        (setting_of S.runs engine.old).limits fault.word fault.why) }
+    ensures within { IfErr result (λ fault. fault.word < length files.now.words.now) }
 {
     for word in at..end {
         at_word(load_word(engine, files, at, word), word)?;
@@ -339,6 +372,9 @@ where
         (of_name first.name (take (word + 1) files.now.words.now))) (database engine.new)) }
     ensures kept { OnErr result (SameTables (database engine.old) (database engine.new)) }
     ensures setting { setting_of S.runs engine.new ≡ setting_of S.runs engine.old }
+    ensures refused { IfErr result (IsFaultAt R.remaining (λ name opened. FnReturnsAt F.Fn files.now.opener.now name opened)
+        files.now.words.now files.now.sources.now files.now.short
+        (setting_of S.runs engine.old).limits word) }
 {
     if !is_same(files.words, at, word) {
         return Ok(());
@@ -372,6 +408,9 @@ where
         (slice_index_or files.now.words.now word d).name bytes (database engine.new)) }
     ensures kept { OnErr result (SameTables (database engine.old) (database engine.new)) }
     ensures setting { setting_of S.runs engine.new ≡ setting_of S.runs engine.old }
+    ensures refused { IfErr result (IsFaultAt R.remaining (λ name opened. FnReturnsAt F.Fn files.now.opener.now name opened)
+        files.now.words.now files.now.sources.now files.now.short
+        (setting_of S.runs engine.old).limits word) }
 {
     let this = &files.words[word];
     if at < word && this.columns.is_some() {

@@ -12,7 +12,7 @@ returns-in-Ok-guess_columns-clause-right g c =
     if_some c.in-Ok-guess_columns.guess (λ columns. IfSome (left_in g.R.Read.remaining c.in-Ok.file) (AreRightIfLoaded columns)) _
     (λ columns right d e bytes has.
     subst (λ (o : Option (List ℕ)). IfSome o (AreRightIfLoaded columns))
-    (c.in-Ok.ensures bytes
+    (c.in-Ok.ensures.opened bytes
     (bytes_here g.R.Read.remaining (λ name opened. FnReturnsAt g.F.Fn c.args.files.now.opener.now name opened) c.args.files.now.words.now c.args.files.now.sources.now c.args.at c.index-files-at.result d c.index-files-at-2.result e bytes
     c.requires.at c.requires.sources has))
     right)

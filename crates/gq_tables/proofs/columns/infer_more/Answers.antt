@@ -1,14 +1,23 @@
 use Rattle.std.proofs.Common.{◌≡◌, ◌++◌, ◌∷◌, subst, ℕ, List, [], Option}
-use Rattle.std.specs.Prelude.{IfSome}
+use Rattle.std.specs.Prelude.{IfSome, slice_index_or}
 use Rattle.std.specs.Fn.{FnReturnsAt}
 use Rattle.gq_infer.specs.Files.{inferred}
 use Rattle.gq_tables.proofs.WordLemmas.{bytes_here}
+use Rattle.gq_tables.proofs.ReasonLemmas.{other_refused}
 use Rattle.gq_tables.proofs.columns.infer_more.Goals as goal
 
 pub returns-in-Ok-clause-more : goal.returns-in-Ok-clause-more
 returns-in-Ok-clause-more g c = λ d e bytes has.
     subst (λ (o : Option (List ℕ)). IfSome o (λ known. (first : List ℕ) (others : List (List ℕ)) → c.args.inference.now ≡ inferred first others → c.add.new.self ≡ inferred first (others ++ known ∷ [])))
-    (c.in_ok-file.ensures bytes
+    (c.in_ok-file.ensures.opened bytes
     (bytes_here g.R.Read.remaining (λ name opened. FnReturnsAt g.F.Fn c.args.files.now.opener.now name opened) c.args.files.now.words.now c.args.files.now.sources.now c.args.word c.index-files-word.result d c.index-files-word-2.result e bytes
     c.requires.word c.requires.sources has))
     c.in-Ok.ensures.more
+
+pub returns-in-Err-clause-refused : goal.returns-in-Err-clause-refused
+returns-in-Err-clause-refused g c = λ limits d e bytes has.
+    other_refused c.args.files.now.short limits (slice_index_or c.args.files.now.words.now c.args.word d) bytes c.args.inference.now.names c.in-Err.fault _ _
+    (c.in_ok-file.ensures.opened bytes
+    (bytes_here g.R.Read.remaining (λ name opened. FnReturnsAt g.F.Fn c.args.files.now.opener.now name opened) c.args.files.now.words.now c.args.files.now.sources.now c.args.word c.index-files-word.result d c.index-files-word-2.result e bytes
+    c.requires.word c.requires.sources has))
+    c.of_inference.ensures c.in-Err.ensures.refused

@@ -17,6 +17,7 @@ use Rattle.gq_command.specs.Commands.{is_command}
 use Rattle.gq_command.specs.declared.command.Command.TheVariants.{Create}
 use Rattle.gq_tables.proofs.TableLemmas.{first_here, guessed_made}
 use Rattle.gq_tables.proofs.WordLemmas.{bytes_at}
+use Rattle.gq_tables.specs.Reasons.{IsFaultAt}
 use Rattle.gq_tables.proofs.table.make_guessed.Goals as goal
 
 pub create-requires : goal.create-requires
@@ -62,3 +63,8 @@ returns-in_ok-at_word-in-Err-clause-made g c = λ contents first knows none.
     let dropped = subst (λ (w : TableWord). (before : Database) (table : PlainTable) → table_at before w.name ≡ None → SameTables (before ++ (w.name, table) ∷ []) (database c.load_files.new.engine) → SameTables before (database c.drop_table.new.engine)) that
     (IfOk-at_ok _ c.in_ok-at_word-in-Err.ensures.ok c.drop_table.ensures.dropped) in
     dropped old left.table none left.same
+
+pub returns-in-Err-2-clause-refused : goal.returns-in-Err-2-clause-refused
+returns-in-Err-2-clause-refused g c =
+    let fault = c.in-Err.fault in
+    subst (λ (limits : Bounds). IsFaultAt g.R.Read.remaining (λ name opened. FnReturnsAt g.F.Fn c.args.files.now.opener.now name opened) c.args.files.now.words.now c.args.files.now.sources.now c.args.files.now.short limits fault.word fault.why) (ap (λ s. s.limits) c.create.ensures.setting) c.in-Err.ensures.refused

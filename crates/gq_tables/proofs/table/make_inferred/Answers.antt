@@ -5,6 +5,10 @@ use Rattle.gq_engine.specs.Engines.{database, setting_of}
 use Rattle.gq_tables.specs.Made.{IsTableOf, of_name}
 use Rattle.gq_tables.specs.Steps.{IsWith, MadeOrSame}
 use Rattle.gq_tables.proofs.TableLemmas.{if_ok, none_same, with_same}
+use Rattle.gq_tables.specs.Reasons.{IsFaultAt}
+use Rattle.gq_tables.specs.declared.fault.TableFault.{TableFault}
+use Rattle.std.specs.Fn.{FnReturnsAt}
+use Rattle.std.specs.Prelude.{IfErr}
 use Rattle.gq_tables.proofs.table.make_inferred.Goals as goal
 
 pub returns-then-branch-clause-made : goal.returns-then-branch-clause-made
@@ -29,3 +33,7 @@ returns-clause-made g c =
     let made = IfOk-at_ok _ e c.make_by_all.ensures.made contents first knows (none_same old mid first.name same none) in
     with_same old mid (database c.make_by_all.new.engine) first.name (IsTableOf contents c.args.files.now.short limits asked) same
     (subst (λ (b : Bounds). IsWith mid first.name (IsTableOf contents c.args.files.now.short b asked) (database c.make_by_all.new.engine)) (ap (λ s. s.limits) c.make_guessed.ensures.setting) made))
+
+pub returns-clause-refused : goal.returns-clause-refused
+returns-clause-refused g c =
+    subst (λ (limits : Bounds). IfErr c.make_by_all.result (λ (fault : TableFault). IsFaultAt g.R.Read.remaining (λ name opened. FnReturnsAt g.F.Fn c.args.files.now.opener.now name opened) c.args.files.now.words.now c.args.files.now.sources.now c.args.files.now.short limits fault.word fault.why)) (ap (λ s. s.limits) c.make_guessed.ensures.setting) c.make_by_all.ensures.refused
