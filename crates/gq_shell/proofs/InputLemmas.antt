@@ -1,12 +1,14 @@
 -- A script that isn't the standard input doesn't depend on it.
-use Rattle.std.proofs.Common.{◌≡◌, ◌∙◌, ◌+◌, ◌<◌, get_or, take, ℕ, Bool, true, false, List, [], ◌∷◌, ◌++◌, length, Option, Some, None, Result, inl, refl, sym, ap, subst, arith}
-use Rattle.std.specs.Prelude.{◌==◌, ◌&&◌, ◌||◌, MatchOption, codes, flat_map, is_some, map, not}
+use Rattle.std.proofs.Common.{◌≡◌, ◌∙◌, ◌+◌, ◌<◌, get_or, take, All, ℕ, zero, suc, Bool, true, false, List, [], ◌∷◌, ◌++◌, length, Option, Some, None, Result, inl, inr, refl, sym, ap, subst, arith}
+use Rattle.std.specs.Prelude.{◌==◌, ◌⊎◌, ◌&&◌, ◌||◌, AllPairs, MatchOption, codes, flat_map, is_some, map, not}
 use Rattle.std.specs.Option.{option_map}
 use Rattle.std.specs.Borrow.{Bor}
 use Rattle.std.proofs.lemmas.Bool.{true≢false}
 use Rattle.std.proofs.lemmas.Bool.Decides.{nat_tests}
 use Rattle.std.specs.List.{AllZip, list_any}
 use Rattle.std.proofs.lemmas.List.{map-append, take_more}
+use Rattle.std.proofs.lemmas.List.Kept.{AllPairs-cons}
+use Rattle.std.proofs.lemmas.List.Elements.{All-append}
 use Rattle.std.proofs.lemmas.List.Folds.{flat_map-map, list_any-append}
 use Rattle.std.specs.declared.io.Error.{Error}
 use Rattle.gq_command.specs.Commands.{Bytes}
@@ -17,7 +19,11 @@ use Rattle.gq_row.specs.Limits.{GREATEST}
 use Rattle.gq_infer.specs.declared.word.TableWord.{TableWord}
 use Rattle.gq_infer.specs.Said.{SaysFront, SaysWord}
 use Rattle.gq_infer.specs.Words.{SaysTable, file_of, front_of, has_columns, is_name, name_of}
-use Rattle.gq_shell.specs.Program.{RanGiven, RanNamed, RanScript}
+use Rattle.gq_tables.specs.declared.fault.TableFault.{TableFault}
+use Rattle.gq_tables.specs.Faults.{fault_text, status_of}
+use Rattle.gq_tables.specs.Files.{AreFiles}
+use Rattle.gq_tables.specs.Reasons.{IsFaultOf}
+use Rattle.gq_shell.specs.Program.{HadNoTables, IsSeedFor, NoMemory, NotMade, RanAsked, RanFrom, RanGiven, RanNamed, RanScript, Stopped, StoppedForMemory, WrongFile, short_by}
 use Rattle.gq_shell.specs.Checking.{CheckedGiven, CheckedScript}
 use Rattle.gq_shell.specs.Sources.{Sources, script_of}
 use Rattle.gq_shell.specs.Streams.{Stream}
@@ -101,6 +107,36 @@ taken_more p words more word taken now was e n t =
     by false false true = refl
     by false false false = refl
 
+or_true : (b : Bool) → (b || true) ≡ true
+or_true true = refl
+or_true false = refl
+
+-- at most one word takes the standard input, also with one more
+pub once_more : (p : TableWord → Bool) (words more : List TableWord) (word : TableWord) → more ≡ words ++ word ∷ [] → (list_any p words ≡ true → p word ≡ false)
+    → AllPairs (λ (a b : TableWord). (p a && p b) ≡ false) words → AllPairs (λ (a b : TableWord). (p a && p b) ≡ false) more
+once_more p words more word e none once = subst (AllPairs (λ (a b : TableWord). (p a && p b) ≡ false)) (sym e) (with_last words none once)
+  where
+    all : (x : TableWord) (rest : List TableWord) → All (λ (b : TableWord). (p x && p b) ≡ false) rest → (p x && p word) ≡ false → All (λ (b : TableWord). (p x && p b) ≡ false) (rest ++ word ∷ [])
+    all x rest h new = All-append (λ (b : TableWord). (p x && p b) ≡ false) rest (word ∷ []) h (λ k d l. by k d l)
+      where
+        by : (k : ℕ) (d : TableWord) → k < 1 → (p x && p (get_or (word ∷ []) k d)) ≡ false
+        by zero d l = new
+        by (suc k) d l = absurd (omega (arith, l))
+
+    with_last : (words : List TableWord) → (list_any p words ≡ true → p word ≡ false) → AllPairs (λ (a b : TableWord). (p a && p b) ≡ false) words → AllPairs (λ (a b : TableWord). (p a && p b) ≡ false) (words ++ word ∷ [])
+    with_last [] none once = λ i j d i_less j_less. absurd (omega (arith, i_less, j_less))
+    with_last (x ∷ rest) none once =
+        AllPairs-cons (λ (a b : TableWord). (p a && p b) ≡ false) x (rest ++ word ∷ [])
+        (all x rest (λ k d l. once 0 (suc k) d (omega arith) (omega (arith, l))) (by (p x) refl none))
+        (with_last rest (λ any. none (ap (λ b. p x || b) any ∙ or_true (p x))) (λ i j d i_less j_less. once (suc i) (suc j) d (omega (arith, i_less)) (omega (arith, j_less))))
+      where
+        by : (b : Bool) → p x ≡ b → (p x || list_any p rest ≡ true → p word ≡ false) → (p x && p word) ≡ false
+        by true e none = ap (λ b. b && p word) e ∙ none (ap (λ b. b || list_any p rest) e)
+        by false e none = ap (λ b. b && p word) e
+
+pub was_taken : (was any now : Bool) → now ≡ (was || any) → any ≡ true → now ≡ true
+was_taken was any now n a = n ∙ ap (λ b. was || b) a ∙ or_true was
+
 -- what a word says, by how it begins
 pub says : (bounds : Bounds) (text : Text) (word : TableWord) → bounds ≡ GREATEST → word.file.now ≡ file_of text → (has_columns text ≡ false → (word.name ≡ name_of text) × (is_name bounds.name word.name ≡ true) × (word.columns ≡ None))
     → (has_columns text ≡ true → MatchOption word.columns ⊥ (λ given. SaysTable bounds (front_of text) word.name given.columns given.key)) → SaysWord GREATEST text word
@@ -122,3 +158,21 @@ next_said texts i text words more word l before e said =
     let Q : List TableWord → Type 0 = λ ws. AllZip (SaysWord GREATEST) (map (λ (text : Bor Text). text.now) (take i texts) ++ (get_or texts i text).now ∷ []) ws in
     subst P (sym (ap (map (λ (text : Bor Text). text.now)) (take_more texts i text l) ∙ map-append (λ (text : Bor Text). text.now) (take i texts) (get_or texts i text ∷ [])))
     (subst Q (sym e) (zip_push (SaysWord GREATEST) (map (λ (text : Bor Text). text.now) (take i texts)) words (get_or texts i text).now word before said))
+
+-- ---- tables that could not be made
+
+-- the file of a word has a fault, or there was no memory to report it
+pub not_made : {S : Type 0} (sources : Sources S) (asked : Asked) (errors : Stream) (status : ℕ) (words : List TableWord) (fault : TableFault)
+    → AllZip (SaysWord GREATEST) asked.tables words
+    → ((contents : Bytes → Bytes) → AreFiles sources.remaining sources.opens sources.input words contents → IsFaultOf contents (short_by asked.ragged) GREATEST words fault)
+    → fault.word < length words
+    → StoppedForMemory errors status ⊎ ((word : TableWord) → fault.word < length words → Stopped errors (fault_text (short_by asked.ragged) (get_or words fault.word word).file.now fault.why) (status_of fault.why) status)
+    → NotMade sources asked errors status
+not_made sources asked errors status words fault said reason within (inl memory) = NoMemory memory
+not_made sources asked errors status words fault said reason within (inr told) =
+    WrongFile (record { words = words; said = said; fault = fault; reason = reason; within = within; told = λ word. told word within })
+
+pub ran_asked : {S : Type 0} (sources : Sources S) (asked : Asked) (seed : RunSeed) (replies errors : Stream) (status : ℕ)
+    → IsSeedFor asked.seed seed → RanFrom sources asked seed replies errors status ⊎ HadNoTables sources asked replies errors status → RanAsked sources asked replies errors status
+ran_asked sources asked seed replies errors status is (inl ran) = inl (seed, is, ran)
+ran_asked sources asked seed replies errors status is (inr without) = inr (inr (inr without))

@@ -1,4 +1,4 @@
--- What checking a script came to.
+-- What checking a script did.
 use Rattle.std.specs.Prelude.{◌≡◌, ◌⊎◌, ℕ, Bool, true, false, List, [], ◌∷◌, ◌++◌, codes, flat_map, Option, Some, None, Result, Ok, Err, IfSome}
 use Rattle.std.specs.declared.io.Error.{Error}
 use Rattle.gq_row.specs.Limits.{GREATEST}
@@ -17,7 +17,7 @@ use Rattle.gq_shell.specs.declared.checking.CheckStop.TheVariants as stop
 abbrev pub texts : Bytes → List Report → Bytes
 texts name reports = flat_map (report_text name) reports
 
--- The reports of a script went to the standard output, one for each item that reading refuses, and this tells whether there is one.
+-- The reports of a script went to the standard output, one for each item that reading refuses; `any` is whether there is one.
 pub record ToldAll (name script : Bytes) (replies : Stream) (any : Bool) : Type 0 where
   pub reports : List Report
   pub are : Reports GREATEST (numbered GREATEST script) reports
@@ -37,7 +37,7 @@ abbrev pub ToldReports : Bytes → Option Bytes → Stream → Result Bool Check
 ToldReports name script replies (Ok any) = IfSome script (λ bytes. ToldAll name bytes replies any)
 ToldReports name script replies (Err why) = IfSome script (λ bytes. ToldFront name bytes replies)
 
--- a report was written, or a front of it
+-- a report was written, or a prefix of it
 abbrev pub ToldReport : Bytes → Report → Stream → Result (Unit {0}) CheckStop → Type 0
 ToldReport name r replies (Ok done) = Got replies (report_text name r)
 ToldReport name r replies (Err why) = GotFront replies (report_text name r)
@@ -55,7 +55,7 @@ EndedCheck (Err stop.Read) errors status = Stopped errors (codes "groupsh: read 
 EndedCheck (Err stop.Write) errors status = Stopped errors (codes "groupsh: write fault\n") 3 status
 EndedCheck (Err stop.Memory) errors status = StoppedForMemory errors status
 
--- A script was checked: its reports were told, and the status stands for how that ended.
+-- A script was checked: its reports were written, and the status says how that ended.
 pub record CheckedScript (name : Bytes) (script : Option Bytes) (replies errors : Stream) (status : ℕ) : Type 0 where
   pub ended : Result Bool CheckStop
   pub told : ToldReports name script replies ended

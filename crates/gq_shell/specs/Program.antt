@@ -1,5 +1,5 @@
--- What the program did, told by the words of its command line, what opening a path gives, its two streams and its exit status.
-use Rattle.std.specs.Prelude.{◌≡◌, ◌≢◌, ◌∷◌, ◌⊎◌, ℕ, Bool, true, false, IsTrue, not, List, [], codes, string_bytes, is_some, Option, Some, None, Result, Ok, Err}
+-- What the program did, by the words of its command line, what opening a path gives, its two streams and its exit status.
+use Rattle.std.specs.Prelude.{◌≡◌, ◌≢◌, ◌<◌, ◌∷◌, ◌⊎◌, ◌&&◌, AllPairs, length, slice_index_or, ℕ, Bool, true, false, IsTrue, not, List, [], codes, string_bytes, is_some, Option, Some, None, Result, Ok, Err}
 use Rattle.std.specs.List.{AllZip}
 use Rattle.std.specs.declared.io.Error.{Error}
 use Rattle.gq_row.specs.Limits.{GREATEST}
@@ -15,8 +15,11 @@ use Rattle.gq_engine.specs.Runs.{Setting}
 use Rattle.gq_options.specs.CommandLine.{Asked, Text}
 use Rattle.gq_infer.specs.declared.word.TableWord.{TableWord}
 use Rattle.gq_infer.specs.Said.{SaysWord}
-use Rattle.gq_tables.specs.Files.{AreFiles}
+use Rattle.gq_tables.specs.declared.fault.TableFault.{TableFault}
+use Rattle.gq_tables.specs.Faults.{fault_text, status_of}
+use Rattle.gq_tables.specs.Files.{AreFiles, is_input}
 use Rattle.gq_tables.specs.Made.{AreTablesOf}
+use Rattle.gq_tables.specs.Reasons.{IsFaultOf}
 use Rattle.gq_shell.specs.Session.{EndedWith, report_of}
 use Rattle.gq_shell.specs.Checking.{CheckedGiven}
 use Rattle.gq_shell.specs.Streams.{Stream, IsUntouched, Got, GotFront}
@@ -32,13 +35,13 @@ use Rattle.gq_options.specs.declared.options.Seed.TheVariants.{Number, Random}
 use Rattle.gq_shell.specs.declared.seeding.RunSeed.{RunSeed}
 use Rattle.gq_shell.specs.declared.seeding.RunSeed.TheVariants.{Given, Drawn}
 
--- the whole of this text went to the standard output; or it was cut short, and that is told as a write fault
+-- the whole of this text went to the standard output; or it was cut short, and that is reported as a write fault
 abbrev pub Printed : Bytes → Stream → Stream → ℕ → Type 0
 Printed text replies errors status =
     (Got replies text × IsUntouched errors × (status ≡ 0))
     ⊎ (GotFront replies text × Stopped errors (codes "groupsh: write fault\n") 3 status)
 
--- what a command line that asks for no run came to
+-- what was done about a command line that asks for no run
 abbrev pub AnsweredBadLine : BadLine → Stream → Stream → ℕ → Type 0
 AnsweredBadLine (Help text) replies errors status = Printed (string_bytes text) replies errors status
 AnsweredBadLine (Version text) replies errors status = Printed (string_bytes text) replies errors status
@@ -71,20 +74,17 @@ abbrev pub DrawsFor : Seed → Result RunSeed Error → Type 0
 DrawsFor asked (Ok seed) = IsSeedFor asked seed
 DrawsFor asked (Err e) = asked ≡ Random
 
--- the program stopped before a run: it said why, and the status isn't 0
-abbrev pub IsStopped : Stream → ℕ → Type 0
-IsStopped errors status = ((text : Bytes) × GotFront errors text) × (status ≢ 0)
-
 -- a record with fewer fields than the header is refused, or completed if that was asked for
 abbrev pub short_by : Bool → Short
 short_by true = Completed
 short_by false = Refused
 
--- The tables that a run started with: those that the words after `-t` ask for, if it is known what their files hold; none if there are no such words.
+-- The tables that a run started with: those that the words after `-t` ask for, if it is known what their files hold; none if there are no such words. At most one word's file is the standard input.
 pub record StartedWith {S : Type 0} (sources : Sources S) (asked : Asked) (old : State) : Type 0 where
   pub no_others : asked.tables ≡ [] → old ≡ NOTHING
   pub words : List TableWord
   pub said : AllZip (SaysWord GREATEST) asked.tables words
+  pub once : AllPairs (λ (a b : TableWord). (is_input a && is_input b) ≡ false) words
   pub made : (contents : Bytes → Bytes) → AreFiles sources.remaining sources.opens sources.input words contents → AreTablesOf contents (short_by asked.ragged) GREATEST words old.database
 
 -- A session of an engine read this script, from these tables, and reported its work if that was asked for, and this seed if it was drawn.
@@ -124,9 +124,28 @@ abbrev pub HadNoSeed : Asked → Stream → Stream → ℕ → Type 0
 HadNoSeed asked replies errors status =
     (asked.seed ≡ Random) × IsUntouched replies × ((e : Error) × StoppedBy e (codes "groupsh: no random seed\n") 3 errors status)
 
+-- a word after `-t` is wrong, which is reported, or there was no memory to read it
+abbrev pub IsRefusedWord : Stream → ℕ → Type 0
+IsRefusedWord errors status = ((text : Bytes) × Stopped errors text 2 status) ⊎ StoppedForMemory errors status
+
+-- The file of a word has a fault: the file and the fault are reported in fixed words, and the status is the fault's.
+pub record HadFault {S : Type 0} (sources : Sources S) (asked : Asked) (errors : Stream) (status : ℕ) : Type 0 where
+  pub words : List TableWord
+  pub said : AllZip (SaysWord GREATEST) asked.tables words
+  pub fault : TableFault
+  pub reason : (contents : Bytes → Bytes) → AreFiles sources.remaining sources.opens sources.input words contents → IsFaultOf contents (short_by asked.ragged) GREATEST words fault
+  pub within : fault.word < length words
+  pub told : (word : TableWord) → Stopped errors (fault_text (short_by asked.ragged) (slice_index_or words fault.word word).file.now fault.why) (status_of fault.why) status
+
+-- why the tables that were asked for could not be made: a word is wrong, an allocation failed, or a file has a fault
+pub data NotMade {S : Type 0} (sources : Sources S) (asked : Asked) (errors : Stream) (status : ℕ) : Type 0 where
+  WrongWord : (stopped : IsRefusedWord errors status) → NotMade sources asked errors status
+  NoMemory : (stopped : StoppedForMemory errors status) → NotMade sources asked errors status
+  WrongFile : (had : HadFault sources asked errors status) → NotMade sources asked errors status
+
 -- the tables that were asked for could not be made
-abbrev pub HadNoTables : Asked → Stream → Stream → ℕ → Type 0
-HadNoTables asked replies errors status = (asked.tables ≢ []) × IsUntouched replies × IsStopped errors status
+abbrev pub HadNoTables : {S : Type 0} → Sources S → Asked → Stream → Stream → ℕ → Type 0
+HadNoTables sources asked replies errors status = (asked.tables ≢ []) × IsUntouched replies × NotMade sources asked errors status
 
 -- what was asked for was run, with such a seed; or none came, or there was no memory for a run store in a folder, or the tables could not be made
 abbrev pub RanAsked : {S : Type 0} → Sources S → Asked → Stream → Stream → ℕ → Type 0
@@ -134,7 +153,7 @@ RanAsked sources asked replies errors status =
     ((seed : RunSeed) × IsSeedFor asked.seed seed × RanFrom sources asked seed replies errors status)
     ⊎ (HadNoSeed asked replies errors status
     ⊎ ((IsTrue (is_some asked.spill) × HadNoMemory replies errors status)
-    ⊎ HadNoTables asked replies errors status))
+    ⊎ HadNoTables sources asked replies errors status))
 
 -- a script was checked where that was asked for, and otherwise run
 abbrev pub DidAsked : {S : Type 0} → Bool → Sources S → Asked → Stream → Stream → ℕ → Type 0
@@ -152,7 +171,7 @@ pub record Obeyed {S : Type 0} (sources : Sources S) (words : List Text) (replie
   pub reads : Reads words read
   pub did : Did sources read replies errors status
 
--- the words were obeyed; or they could not be had: for want of memory, or since they are not UTF-8
+-- the words were obeyed; or they could not be had: an allocation failed, or they are not UTF-8
 abbrev pub RanProgram : {S : Type 0} → Sources S → Result (List Text) Error → Stream → Stream → ℕ → Type 0
 RanProgram sources (Ok words) replies errors status = Obeyed sources words replies errors status
 RanProgram sources (Err e) replies errors status = IsUntouched replies × StoppedBy e (codes "error: the arguments are not UTF-8\n") 2 errors status

@@ -6,7 +6,7 @@ use Rattle.gq_infer.specs.Said.{SaysWord}
 use Rattle.gq_options.specs.CommandLine.{Text}
 use Rattle.gq_tables.specs.Files.{is_input}
 
--- a word was read and added to those before, and tells whether the standard input is taken now: by a word only if it wasn't taken
+-- a word was read and added to those before; `now` is whether the standard input is taken: by this word only if it wasn't taken
 pub record HasRead (text : Text) (was : Bool) (old new : List TableWord) (now : Bool) : Type 0 where
   pub word : TableWord
   pub said : SaysWord GREATEST text word

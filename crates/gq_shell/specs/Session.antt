@@ -1,4 +1,4 @@
--- What a session did, and what its status stands for.
+-- What a session did, and what its status means.
 use Rattle.std.specs.Prelude.{◌≡◌, ◌==◌, ◌++◌, ℕ, Bool, [], if◌then◌else◌, codes, decimal, Option, Result, Ok, Err}
 use Rattle.gq_command.specs.Commands.{Bytes}
 use Rattle.gq_group.specs.declared.grouping.Spent.{Spent}
@@ -25,7 +25,7 @@ abbrev pub number_of : RunSeed → ℕ
 number_of (Given number) = number
 number_of (Drawn number) = number
 
--- what a line tells of the seed: the number, where it was drawn
+-- what a line shows of the seed: the number, if it was drawn
 abbrev pub seed_told : RunSeed → Bytes
 seed_told (Given number) = []
 seed_told (Drawn number) = codes ", seed " ++ decimal number
@@ -44,7 +44,7 @@ errors_text report (Ok summary) = report
 errors_text report (Err Read) = codes "groupsh: read fault\n"
 errors_text report (Err Write) = codes "groupsh: write fault\n"
 
--- The engine ran and ended in the way for which the status stands. The standard error was told of refusals, and of none where replies are written; then of a fault, or otherwise the report, as far as it took it.
+-- The engine ran and ended as the status says. The standard error got the refusals, and none of them if replies are written; then a fault, or otherwise the report, as far as it took it.
 pub record EndedWith (output : Output) (setting : Setting) (old : State) (script : Option Bytes) (new : State) (report : Bytes) (replies errors : Stream) (status : ℕ) : Type 0 where
   pub ended : Result Summary Fault
   pub refusals : Option Bytes

@@ -15,7 +15,7 @@ pub record Stopped (errors : Stream) (text : Bytes) (wanted status : ℕ) : Type
 abbrev pub StoppedForMemory : Stream → ℕ → Type 0
 StoppedForMemory errors status = Stopped errors (codes "groupsh: out of memory\n") 3 status
 
--- by an error: for want of memory as such, and else by this text and status
+-- by an error: a failed allocation as such, and any other by this text and status
 abbrev pub StoppedBy : Error → Bytes → ℕ → Stream → ℕ → Type 0
 StoppedBy e text wanted errors status =
     (error_kind e ≡ kind.OutOfMemory → StoppedForMemory errors status)

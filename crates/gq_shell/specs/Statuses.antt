@@ -1,4 +1,4 @@
--- What each exit status tells of a session whose script is known.
+-- What each exit status means for a session whose script is known.
 use Rattle.std.specs.Prelude.{◌≡◌, ◌≢◌, ◌⊎◌, ℕ, Some}
 use Rattle.gq_command.specs.Commands.{Bytes}
 use Rattle.gq_engine.specs.declared.run.Summary.{Summary}

@@ -22,11 +22,11 @@ IsUntouched s = s.after ≡ s.before
 abbrev pub Got : Stream → Bytes → Type 0
 Got s bytes = Appends s.before s.after bytes
 
--- a front of this was written to it, and nothing else
+-- a prefix of this was written to it, and nothing else
 abbrev pub GotFront : Stream → Bytes → Type 0
 GotFront s bytes = AppendsFront s.before s.after bytes
 
--- it took all of a text, or a front of it
+-- it took all of a text, or a prefix of it
 abbrev pub Told : Stream → Bytes → Result (Unit {0}) CutShort → Type 0
 Told s text (Ok done) = Got s text
 Told s text (Err fault) = GotFront s text

@@ -26,8 +26,8 @@ pub enum CheckStop {
     Memory,
 }
 
-/// Tells what reading refuses of a script, and answers the exit status: 0 where it refuses nothing, 1
-/// where it does, 3 after a fault. The script is the commands of the command line, or what `opener`
+/// Reports what reading refuses of a script, and returns the exit status: 0 if it refuses nothing, 1
+/// if it does, 3 after a fault. The script is the commands of the command line, or what `opener`
 /// gives for the path, or `input`.
 pub fn check_script<R, S, F, W, E>(
     alloc: Global,
@@ -116,8 +116,8 @@ fn check_open<R: Read + Drop, W: Write, E: Write>(
     }
 }
 
-// Writes the reports of a script one by one, each as soon as its item was read, and tells whether there
-// was one.
+// Writes the reports of a script one by one, each as soon as its item was read, and returns whether
+// there was one.
 fn tell_reports<R: Read + Drop, W: Write>(
     alloc: Global,
     name: &str,

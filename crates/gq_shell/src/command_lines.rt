@@ -231,7 +231,7 @@ fn command_lines_with_folders_and_reports(rt: HostRuntime) -> Result<(), Fail> {
     Ok(())
 }
 
-/// Each command line that is none, and what is wrong with it.
+/// Each wrong command line, and what is wrong with it.
 #[test]
 fn mistakes(rt: HostRuntime) -> Result<(), Fail> {
     let cases: [(&[&str], &str); 29] = [

@@ -1,7 +1,7 @@
 //! A law: what the definitions come to. It is the contract of a function that does nothing.
 ghost use Rattle.gq_shell.specs.Statuses.{StatusesTell};
 
-/// What a session's status tells: all accepted, some refused, or stopped by a fault.
+/// What a session's status means: all accepted, some refused, or stopped by a fault.
 pub fn statuses_tell()
     ensures { StatusesTell }
 {}

@@ -18,6 +18,8 @@ mod checking;
 mod command_lines;
 pub mod laws;
 mod program;
+#[cfg(test)]
+mod read_tests;
 mod report;
 mod script;
 mod seeding;

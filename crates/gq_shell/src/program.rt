@@ -15,7 +15,7 @@ use std::fs::Files;
 use std::io::{self, Read, Write};
 use std::random::RandomSource;
 
-/// Reads the command line, opens the script and runs or checks it, and answers the exit status.
+/// Reads the command line, opens the script and runs or checks it, and returns the exit status.
 ///
 /// `words` begin with the program's name, or are the error in reading them; `files` has the folder
 /// of a run store, `source` gives the bytes of a random seed, and `opener` opens a script's path;

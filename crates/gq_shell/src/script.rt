@@ -100,7 +100,13 @@ where
         })
         (asked_by options.now) seed (stream W.contents replies.old replies.new)
         (stream E.contents errors.old errors.new) result
-        ⊎ HadNoTables (asked_by options.now) (stream W.contents replies.old replies.new)
+        ⊎ HadNoTables
+        (record {
+          input = R.remaining input;
+          remaining = S.remaining;
+          opens = λ name opened. FnReturnsAt F.Fn opener name opened;
+        })
+        (asked_by options.now) (stream W.contents replies.old replies.new)
         (stream E.contents errors.old errors.new) result }
 {
     let mut engine = engine_over(alloc, options, seed, store);
@@ -125,7 +131,7 @@ fn make_and_run<T, R, S, F, W, E>(
     options: &Options,
     seed: RunSeed,
     opener: F,
-    input: R,
+    mut input: R,
     replies: &mut W,
     errors: &mut E,
 ) -> u8
@@ -147,10 +153,15 @@ where
         })
         (asked_by options.now) seed (stream W.contents replies.old replies.new)
         (stream E.contents errors.old errors.new) result
-        ⊎ HadNoTables (asked_by options.now) (stream W.contents replies.old replies.new)
+        ⊎ HadNoTables
+        (record {
+          input = R.remaining input;
+          remaining = S.remaining;
+          opens = λ name opened. FnReturnsAt F.Fn opener name opened;
+        })
+        (asked_by options.now) (stream W.contents replies.old replies.new)
         (stream E.contents errors.old errors.new) result }
 {
-    let mut input = input;
     match make_asked(alloc, engine, options, &opener, &mut input, errors) {
         Err(status) => status,
         Ok(()) => run_in(alloc, engine, options, seed, opener, input, replies, errors),

@@ -12,7 +12,7 @@ use std::random::RandomSource;
 pub enum RunSeed {
     /// It was given.
     Given(u64),
-    /// It was drawn from the system, so the report tells it.
+    /// It was drawn from the system, so the report shows it.
     Drawn(u64),
 }
 

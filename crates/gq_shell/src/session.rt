@@ -24,7 +24,7 @@ pub fn session<H: KeyHash<Key> + Copy, S: RunStore, R: Read + Drop, W: Write, E:
     stats: bool,
     seed: RunSeed,
 ) -> u8
-    // What was written is as the engine ran, and the status stands for how that ended.
+    // What was written is as the engine ran, and the status says how that ended.
     ensures ended { EndedWith output (setting_of S.runs engine.old) (state_of S.runs engine.old) (R.remaining reader)
         (state_of S.runs engine.new) (report_of stats seed (spent_of engine.new))
         (stream W.contents writer.old writer.new) (stream E.contents errors.old errors.new) result }

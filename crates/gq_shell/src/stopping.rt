@@ -22,7 +22,7 @@ pub fn answer_bad_line<W: Write, E: Write>(bad: &BadLine, replies: &mut W, error
     }
 }
 
-/// Answers an error before a run: want of memory as such, all else by the text and the status.
+/// Reports an error before a run: a failed allocation as such, any other by the text and the status.
 pub fn answer_error<E: Write>(error: &Error, text: &str, status: u8, errors: &mut E) -> u8
     ensures { StoppedBy error.now text.now status (stream E.contents errors.old errors.new) result }
 {
@@ -33,14 +33,14 @@ pub fn answer_error<E: Write>(error: &Error, text: &str, status: u8, errors: &mu
     }
 }
 
-/// Tells want of memory before a run, and answers its status.
+/// Reports a failed allocation before a run, and returns its status.
 pub fn stop_for_memory<E: Write>(errors: &mut E) -> u8
     ensures { StoppedForMemory (stream E.contents errors.old errors.new) result }
 {
     stop("groupsh: out of memory\n", 3, errors)
 }
 
-/// Tells why the program stops, and answers the status. A fault in telling it is passed over.
+/// Reports why the program stops, and returns the status. A write fault then is ignored.
 pub fn stop<E: Write>(text: &str, status: u8, errors: &mut E) -> u8
     ensures { Stopped (stream E.contents errors.old errors.new) text.now status result }
 {

@@ -1,13 +1,15 @@
 //! Tables that the command line asks for, made before the script runs.
-ghost use Rattle.std.specs.Prelude.{◌≡◌, ◌≢◌, ◌==◌, ◌&&◌, ◌||◌, IfErr, IfOk, OnOk, [], None, false, is_some, length, not};
+ghost use Rattle.std.specs.Prelude.{◌≡◌, ◌≢◌, ◌⊎◌, ◌<◌, ◌==◌, ◌&&◌, ◌||◌, AllPairs, slice_index_or, IfErr, IfOk, OnOk, [], None, false, is_some, length, not};
 ghost use Rattle.std.specs.Fn.{FnReturnsAt};
 ghost use Rattle.std.specs.List.{AllZip, list_any};
 ghost use Rattle.gq_row.specs.Limits.{GREATEST};
 ghost use Rattle.gq_engine.specs.Engines.{setting_of, state_of};
 ghost use Rattle.gq_options.specs.Words.{asked_by};
+ghost use Rattle.gq_infer.specs.declared.word.TableWord.{TableWord};
 ghost use Rattle.gq_infer.specs.Said.{SaysWord};
 ghost use Rattle.gq_tables.specs.Files.{is_input};
-ghost use Rattle.gq_shell.specs.Program.{IsStopped, NOTHING, StartedWith, short_by};
+ghost use Rattle.gq_tables.specs.Faults.{fault_text, status_of};
+ghost use Rattle.gq_shell.specs.Program.{IsRefusedWord, NOTHING, NotMade, StartedWith, Stopped, StoppedForMemory, short_by};
 ghost use Rattle.gq_shell.specs.Reading.{HasRead};
 ghost use Rattle.gq_shell.specs.Streams.{stream};
 
@@ -53,7 +55,13 @@ where
         → OnOk result (input.new ≡ input.old) }
     ensures quiet { OnOk result (errors.new ≡ errors.old) }
     ensures stopped { IfErr result (λ status. ((asked_by options.now).tables ≢ [])
-        × IsStopped (stream E.contents errors.old errors.new) status) }
+        × NotMade
+        (record {
+          input = R.remaining input.old;
+          remaining = S.remaining;
+          opens = λ name opened. FnReturnsAt F.Fn opener.now name opened;
+        })
+        (asked_by options.now) (stream E.contents errors.old errors.new) status) }
 {
     if options.tables.is_empty() {
         return Ok(());
@@ -93,10 +101,12 @@ fn read_words<'a, E: Write>(
 ) -> Result<Vec<TableWord<'a>>, u8>
     ensures said { IfOk result (λ words. AllZip (SaysWord GREATEST)
         (asked_by options.now).tables words.items) }
+    ensures once { IfOk result (λ words. AllPairs (λ (a b : TableWord). (is_input a && is_input b) ≡ false)
+        words.items) }
     ensures left { (asked_by options.now).commands ≡ [] → (asked_by options.now).script ≡ None
         → IfOk result (λ words. list_any is_input words.items ≡ false) }
     ensures quiet { OnOk result (errors.new ≡ errors.old) }
-    ensures stopped { IfErr result (λ status. IsStopped (stream E.contents errors.old errors.new) status) }
+    ensures stopped { IfErr result (IsRefusedWord (stream E.contents errors.old errors.new)) }
 {
     let mut words = Vec::new(alloc);
     let mut takes_input = takes_input(options);
@@ -117,7 +127,7 @@ fn read_word<'a, E: Write>(
 ) -> Result<bool, u8>
     ensures read { IfOk result (HasRead text.now is_taken words.old.items words.new.items) }
     ensures quiet { OnOk result (errors.new ≡ errors.old) }
-    ensures stopped { IfErr result (λ status. IsStopped (stream E.contents errors.old errors.new) status) }
+    ensures stopped { IfErr result (IsRefusedWord (stream E.contents errors.old errors.new)) }
 {
     let limits = Limits::greatest();
     let word = match table_word(alloc, text, &limits) {
@@ -152,7 +162,7 @@ fn takes_also(is_taken: bool, word: &TableWord) -> bool
 
 // Says what is wrong with a word.
 fn stop_for_word<E: Write>(alloc: Global, word: &str, why: &BadTable, errors: &mut E) -> u8
-    ensures { IsStopped (stream E.contents errors.old errors.new) result }
+    ensures { IsRefusedWord (stream E.contents errors.old errors.new) result }
 {
     if matches!(why, BadTable::Memory) {
         return stop_for_memory(errors);
@@ -171,7 +181,11 @@ fn stop_for_fault<E: Write>(
     short: Short,
     errors: &mut E,
 ) -> u8
-    ensures { IsStopped (stream E.contents errors.old errors.new) result }
+    ensures { StoppedForMemory (stream E.contents errors.old errors.new) result
+        ⊎ ((word : TableWord) → fault.now.word < length words.now
+        → Stopped (stream E.contents errors.old errors.new)
+        (fault_text short (slice_index_or words.now fault.now.word word).file.now fault.now.why)
+        (status_of fault.now.why) result) }
 {
     let file = match words.get(fault.word) {
         Some(word) => word.file,

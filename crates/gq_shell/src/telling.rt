@@ -8,8 +8,8 @@ use std::io::Write;
 #[error("cut short")]
 pub struct CutShort;
 
-/// Writes a text, and flushes. Any error ends it, of an interrupted call too; then a front of the
-/// text was written.
+/// Writes a text, and flushes. Any error ends it, also an interrupted call; a prefix of the text was
+/// written then.
 pub fn tell<W: Write>(text: &str, writer: &mut W) -> Result<(), CutShort>
     ensures { Told (stream W.contents writer.old writer.new) text.now result }
 {

@@ -203,14 +203,14 @@ fn write_faults(rt: HostRuntime) -> Result<(), Fail> {
     Ok(())
 }
 
-/// Asserts what a session with a fault answers and tells, and that it wrote a front of what was due.
+/// Asserts what a session with a fault returns and reports, and that it wrote a prefix of the replies.
 fn assert_fault(rt: &impl Abort, status: u8, replies: &[u8], errors: &[u8], told: &[u8]) {
     assert_eq!(rt; status, 3);
     assert!(rt; b"ok 0\nok 1\n".as_slice().starts_with(replies));
     assert_eq!(rt; errors, told);
 }
 
-/// A read that fails behind each byte of a script, and a writer that takes a byte less at each time, or
+/// A read that fails after each byte of a script, and a writer that takes a byte less each time, or
 /// nothing.
 #[test]
 fn faults_at_each_call(rt: HostRuntime) -> Result<(), Fail> {
@@ -231,7 +231,7 @@ fn faults_at_each_call(rt: HostRuntime) -> Result<(), Fail> {
         let told = b"groupsh: read fault\n";
         assert_fault(&rt, status, replies.as_slice(), errors.as_slice(), told);
     }
-    // Each of the two replies has five bytes, which go by two, two and one.
+    // Each of the two replies has five bytes, which are written by two, two and one.
     for room in 0..6usize {
         for error in [None, Some(ErrorKind::Other)] {
             let mut engine = fresh(rt.alloc(), Limits::greatest())?;
@@ -259,7 +259,7 @@ fn faults_at_each_call(rt: HostRuntime) -> Result<(), Fail> {
     Ok(())
 }
 
-/// A fault in telling a fault is passed over.
+/// A write fault while a fault is reported is ignored.
 #[test]
 fn a_standard_error_that_takes_little(rt: HostRuntime) -> Result<(), Fail> {
     for error in [None, Some(ErrorKind::Other)] {
@@ -329,7 +329,7 @@ fn reports(rt: HostRuntime) -> Result<(), Fail> {
     Ok(())
 }
 
-/// The line of the greatest numbers, and a standard error that takes a front of it.
+/// The line of the greatest numbers, and a standard error that takes a prefix of it.
 #[test]
 fn long_reports(rt: HostRuntime) -> Result<(), Fail> {
     let line = report_of(
@@ -381,7 +381,7 @@ impl RandomSource for Source {
     }
 }
 
-/// What the program answers and writes, where its scripts are these and its random bytes are all 5.
+/// What the program returns and writes, over these scripts and random bytes that are all 5.
 fn run_in_memory(
     rt: &HostRuntime,
     words: io::Result<Vec<String>>,
@@ -390,7 +390,7 @@ fn run_in_memory(
     run_with_source(rt, Source { byte: Ok(5) }, words, input)
 }
 
-/// What it answers and writes with this source of random bytes.
+/// What it returns and writes, over this source of random bytes.
 fn run_with_source(
     rt: &HostRuntime,
     source: Source,
@@ -421,7 +421,7 @@ fn run_with_source(
     (status, replies, errors)
 }
 
-/// Each command line, the status, and what stands on each stream.
+/// Each command line, the status, and the bytes of each stream.
 #[test]
 fn programs(rt: HostRuntime) -> Result<(), Fail> {
     let input = b"creat\n".as_slice();
@@ -455,7 +455,7 @@ fn programs(rt: HostRuntime) -> Result<(), Fail> {
     Ok(())
 }
 
-/// Random seeds: a report tells them, nothing else does, and where there is none nothing is run.
+/// Random seeds: only a report shows them, and if none can be drawn nothing is run.
 #[test]
 fn random_seeds(rt: HostRuntime) -> Result<(), Fail> {
     let script = b"creat\n".as_slice();
@@ -564,8 +564,8 @@ fn fresh_folder(rt: &HostRuntime) -> Result<String, Fail> {
     Ok(String::from_str(rt.alloc(), text)?)
 }
 
-/// Rows that are put aside stand in the folder, and are gone at the end; where there is no such
-/// folder that is told, and the tables stay.
+/// Spilled rows are in the folder, and are gone at the end. If there is no such folder, that is
+/// reported, and the tables stay.
 #[test]
 fn folders(rt: HostRuntime) -> Result<(), Fail> {
     let alloc = rt.alloc();
