@@ -33,6 +33,7 @@ use Rattle.gq_infer.specs.Files.{IsFailure, header_fault, same_columns}
 use Rattle.gq_tables.specs.declared.fault.TableFault.{TableFault}
 use Rattle.gq_tables.specs.declared.fault.Why.{Why}
 use Rattle.gq_tables.specs.declared.fault.Why.TheVariants as why
+use Rattle.gq_tables.specs.declared.files.Files.{Files}
 use Rattle.gq_tables.specs.declared.source.Source.{Source}
 use Rattle.gq_tables.specs.declared.source.Source.TheVariants.{Path}
 use Rattle.gq_tables.specs.Files.{AreFiles, HasBytes, HaveBytes}
@@ -45,10 +46,6 @@ if_failed P why.CannotOpen e = tt
 if_failed P why.ReadFault e = tt
 if_failed P why.Memory e = tt
 if_failed P (why.Refused refused) e = absurd (true≢false (sym e))
-
-pub failed_at : {S : Type 0} (remaining : S → Option Bytes) (opens : Bytes → Result S Error → Type 0) (words : List TableWord) (sources : List Source) (short : Short) (limits : Bounds) (at : ℕ) (found : Why)
-    → is_failure found ≡ true → IsFaultAt remaining opens words sources short limits at found
-failed_at remaining opens words sources short limits at found e = λ d s bytes has. if_failed (IsRefused short limits (slice_index_or words at d) bytes) found e
 
 -- a refusal that isn't for memory is passed on
 pub if_why : (P : Refused → Type 0) (refused : Refused) (found : Why) → IsWhyOf refused found → ((refused.why ≡ Memory → ⊥) → P refused) → IfRefused found P
@@ -168,6 +165,6 @@ module _ {S : Type 0} (remaining : S → Option Bytes) (opens : Bytes → Result
   bytes_or_path (word ∷ words) (source ∷ sources) zero d h opened = h.0
   bytes_or_path (word ∷ words) (source ∷ sources) (suc at) d h opened = bytes_or_path words sources at d h.1 opened
 
-  pub fault_of : (input : Option Bytes) (words : List TableWord) (sources : List Source) (short : Short) (limits : Bounds) (fault : TableFault) → AreFiles remaining opens input words contents → HaveBytes remaining opens contents words sources
-      → IsFaultAt remaining opens words sources short limits fault.word fault.why → IsFaultOf contents short limits words fault
-  fault_of input words sources short limits fault files have reason = λ d. reason d Path (contents (get_or words fault.word d).file.now) (bytes_or_path words sources fault.word d have files.opened)
+  pub fault_of : {F : Type 0} (input : Option Bytes) (files : Files F) (limits : Bounds) (fault : TableFault) → AreFiles remaining opens input files.words.now contents → HaveBytes remaining opens contents files.words.now files.sources.now
+      → IsFaultAt remaining opens files limits fault.word fault.why → IsFaultOf contents files.short limits files.words.now fault
+  fault_of input files limits fault are have reason = λ d. reason d Path (contents (get_or files.words.now fault.word d).file.now) (bytes_or_path files.words.now files.sources.now fault.word d have are.opened)

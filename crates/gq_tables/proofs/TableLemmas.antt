@@ -34,9 +34,6 @@ if_ok (Err e) P f = tt
 pub match_at_ok : {T E : Type 0} (r : Result T E) (x : T) (P Q : Type 0) → r ≡ Ok x → MatchResult r (λ _. P) (λ _. Q) → P
 match_at_ok {T} {E} r x P Q e h = let M : Result T E → Type 0 = λ s. MatchResult s (λ _. P) (λ _. Q) in subst M e h
 
-pub match_at_err : {T E : Type 0} (r : Result T E) (e : E) (P Q : Type 0) → r ≡ Err e → MatchResult r (λ _. P) (λ _. Q) → Q
-match_at_err {T} {E} r e P Q h m = let M : Result T E → Type 0 = λ s. MatchResult s (λ _. P) (λ _. Q) in subst M h m
-
 pub match_err : {T E : Type 0} (r : Result T E) (e : E) (P Q : Type 0) → r ≡ Err e → Q → MatchResult r (λ _. P) (λ _. Q)
 match_err {T} {E} r e P Q h q = let M : Result T E → Type 0 = λ s. MatchResult s (λ _. P) (λ _. Q) in subst M (sym h) q
 

@@ -22,7 +22,7 @@ abbrev pub hint : Bool → List ℕ
 hint true = codes "; --ragged completes short records with nulls"
 hint false = []
 
--- whether that way is open
+-- whether that way is open: for a wrong number of fields alone, whatever other refusals there are
 abbrev pub can_complete : Short → Refusal → Bool
 can_complete short.Refused refusal.FieldCount = true
 can_complete short.Refused other = false

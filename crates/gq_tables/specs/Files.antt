@@ -4,6 +4,7 @@ use Rattle.std.specs.List.{list_any}
 use Rattle.std.specs.declared.io.Error.{Error}
 use Rattle.gq_command.specs.Commands.{Bytes}
 use Rattle.gq_infer.specs.declared.word.TableWord.{TableWord}
+use Rattle.gq_tables.specs.declared.files.Files.{Files}
 use Rattle.gq_tables.specs.declared.source.Source.{Source}
 use Rattle.gq_tables.specs.declared.source.Source.TheVariants.{Held, Path}
 use Rattle.gq_tables.specs.declared.source.Opened.{Opened}
@@ -48,7 +49,13 @@ HaveBytes remaining opens contents [] (source ∷ sources) = ⊥
 HaveBytes remaining opens contents (word ∷ words) (source ∷ sources) = HasBytes remaining opens word.file.now source (contents word.file.now) × HaveBytes remaining opens contents words sources
 
 -- What is known of a table: the first of its words, which is at this place, and the bytes of all files.
-pub record Knows {S : Type 0} (remaining : S → Option Bytes) (opens : Bytes → Result S Error → Type 0) (words : List TableWord) (sources : List Source) (at : ℕ) (contents : Bytes → Bytes) (first : TableWord) : Type 0 where
-  pub bytes : HaveBytes remaining opens contents words sources
-  pub here : slice_index_or words at first ≡ first
-  pub earliest : list_any (λ (other : TableWord). bytes_eq other.name first.name) (take at words) ≡ false
+pub record Knows {S F : Type 0} (remaining : S → Option Bytes) (opens : Bytes → Result S Error → Type 0) (files : Files F) (at : ℕ) (contents : Bytes → Bytes) (first : TableWord) : Type 0 where
+  pub bytes : HaveBytes remaining opens contents files.words.now files.sources.now
+  pub here : slice_index_or files.words.now at first ≡ first
+  pub earliest : list_any (λ (other : TableWord). bytes_eq other.name first.name) (take at files.words.now) ≡ false
+
+-- this holds of a word and of its file's bytes, whatever bytes its source has
+abbrev pub OfFile : {S F : Type 0} → (S → Option Bytes) → (Bytes → Result S Error → Type 0) → Files F → ℕ → (TableWord → Bytes → Type 0) → Type 0
+OfFile remaining opens files at P =
+    (d : TableWord) (e : Source) (bytes : Bytes)
+    → HasBytes remaining opens (slice_index_or files.words.now at d).file.now (slice_index_or files.sources.now at e) bytes → P (slice_index_or files.words.now at d) bytes

@@ -18,8 +18,8 @@ use Rattle.gq_infer.specs.Files.{header_fault, same_columns}
 use Rattle.gq_tables.specs.declared.fault.TableFault.{TableFault}
 use Rattle.gq_tables.specs.declared.fault.Why.{Why}
 use Rattle.gq_tables.specs.declared.fault.Why.TheVariants as why
-use Rattle.gq_tables.specs.declared.source.Source.{Source}
-use Rattle.gq_tables.specs.Files.{HasBytes}
+use Rattle.gq_tables.specs.declared.files.Files.{Files}
+use Rattle.gq_tables.specs.Files.{OfFile}
 
 -- what is known of a refusal
 abbrev pub IfRefused : Why → (Refused → Type 0) → Type 0
@@ -58,11 +58,9 @@ pub data IsRefused (short : Short) (limits : Bounds) (word : TableWord) (file : 
 abbrev pub IsReason : Short → Bounds → TableWord → Bytes → Why → Type 0
 IsReason short limits word file found = IfRefused found (IsRefused short limits word file)
 
--- a fault is one of the word at a position and of its source, if the source has bytes
-abbrev pub IsFaultAt : {S : Type 0} → (S → Option Bytes) → (Bytes → Result S Error → Type 0) → List TableWord → List Source → Short → Bounds → ℕ → Why → Type 0
-IsFaultAt remaining opens words sources short limits at found =
-    (d : TableWord) (e : Source) (bytes : Bytes)
-    → HasBytes remaining opens (slice_index_or words at d).file.now (slice_index_or sources at e) bytes → IsReason short limits (slice_index_or words at d) bytes found
+-- a fault is one of the word at a position and of its file
+abbrev pub IsFaultAt : {S F : Type 0} → (S → Option Bytes) → (Bytes → Result S Error → Type 0) → Files F → Bounds → ℕ → Why → Type 0
+IsFaultAt remaining opens files limits at found = OfFile remaining opens files at (λ word file. IsReason files.short limits word file found)
 
 -- a fault is one of its word and of the bytes of the word's file
 abbrev pub IsFaultOf : (Bytes → Bytes) → Short → Bounds → List TableWord → TableFault → Type 0

@@ -1,5 +1,6 @@
 -- Contracts of single functions: a database with one table more.
-use Rattle.std.specs.Prelude.{◌≡◌, ℕ, Bool, true, false, List, [], ◌∷◌, ◌++◌, All, bytes_eq, drop, map, take, Some, None}
+use Rattle.std.specs.Prelude.{◌≡◌, ℕ, Bool, true, false, List, [], ◌∷◌, ◌++◌, All, bytes_eq, drop, map, take, Option, Some, None, Result}
+use Rattle.std.specs.declared.io.Error.{Error}
 use Rattle.gq_row.specs.declared.limits.Bounds.{Bounds}
 use Rattle.gq_row.specs.declared.schema.Column.{Column}
 use Rattle.gq_row.specs.Schemas.{positions_of}
@@ -15,12 +16,14 @@ use Rattle.gq_reply.specs.declared.reply.Reply.{Reply}
 use Rattle.gq_reply.specs.declared.reply.Reply.TheVariants as reply
 use Rattle.gq_reply.specs.Refusals.{told}
 use Rattle.gq_reply.specs.Replies.{is_refusal}
-use Rattle.gq_engine.specs.Databases.{Database}
+use Rattle.gq_engine.specs.Databases.{Database, table_at}
 use Rattle.gq_engine.specs.Runs.{AnsweredAlike, SameTables, Setting}
 use Rattle.gq_engine.specs.Serving.{CarriedOut}
 use Rattle.gq_engine.specs.Steps.{load_table}
 use Rattle.gq_infer.specs.declared.word.TableWord.{TableWord}
 use Rattle.gq_tables.specs.declared.fault.Why.{Why}
+use Rattle.gq_tables.specs.declared.files.Files.{Files}
+use Rattle.gq_tables.specs.Files.{Knows}
 use Rattle.gq_tables.specs.Made.{HasRowsOf, IsTableOf, files_of, of_name}
 use Rattle.gq_tables.specs.Reasons.{IfRefused}
 
@@ -67,3 +70,9 @@ pub record MadeUpTo (contents : Bytes → Bytes) (short : Short) (limits : Bound
 abbrev pub MadeOrSame : Bool → Type 0 → Database → Database → Type 0
 MadeOrSame true Made old new = Made
 MadeOrSame false Made old new = SameTables old new
+
+-- the table of the word at a position was made, from the files of the words before `end`
+abbrev pub HasMade : {S F : Type 0} → (S → Option Bytes) → (Bytes → Result S Error → Type 0) → Files F → ℕ → ℕ → Bounds → Database → Database → Type 0
+HasMade remaining opens files at end limits old new =
+    (contents : Bytes → Bytes) (first : TableWord) → Knows remaining opens files at contents first → table_at old first.name ≡ None
+    → IsWith old first.name (IsTableOf contents files.short limits (of_name first.name (take end files.words.now))) new

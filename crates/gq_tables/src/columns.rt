@@ -8,7 +8,7 @@ ghost use Rattle.gq_infer.specs.declared.word.TableWord.{TableWord};
 ghost use Rattle.gq_infer.specs.Files.{inferred, table_columns};
 ghost use Rattle.gq_infer.specs.Guesses.{AreRightIfLoaded};
 ghost use Rattle.gq_tables.specs.declared.source.Source.{Source};
-ghost use Rattle.gq_tables.specs.Files.{HasBytes, Knows};
+ghost use Rattle.gq_tables.specs.Files.{Knows, OfFile};
 ghost use Rattle.gq_tables.specs.Made.{files_of, of_name};
 ghost use Rattle.gq_tables.specs.Reasons.{IsFaultAt, is_failure};
 
@@ -31,11 +31,9 @@ where
     requires callable { F.IsAlwaysCallable files.now.opener.now }
     requires at { at < length files.now.sources.now }
     requires sources { length files.now.sources.now ≤ length files.now.words.now }
-    ensures right { IfSome result (λ columns. (d : TableWord) (e : Source) (bytes : List ℕ)
-        → HasBytes R.remaining (λ name opened. FnReturnsAt F.Fn files.now.opener.now name opened)
-        (slice_index_or files.now.words.now at d).file.now
-        (slice_index_or files.now.sources.now at e) bytes
-        → AreRightIfLoaded columns bytes) }
+    ensures right { IfSome result (λ columns. OfFile R.remaining
+        (λ name opened. FnReturnsAt F.Fn files.now.opener.now name opened) files.now at
+        (λ this file. AreRightIfLoaded columns file)) }
     ensures table { IfSome result (λ columns. (table : List ℕ)
         → is_command (Create table columns []) ≡ true) }
 {
@@ -77,17 +75,17 @@ where
         × (found.why_ended ≡ None → found.end ≡ end)) }
     ensures columns { IfOk result (λ found. (contents : List ℕ → List ℕ) (first : TableWord)
         → Knows R.remaining (λ name opened. FnReturnsAt F.Fn files.now.opener.now name opened)
-        files.now.words.now files.now.sources.now at contents first
+        files.now at contents first
         → found.columns ≡ table_columns (contents first.file.now)
         (files_of contents (of_name first.name (drop (at + 1) (take found.end files.now.words.now))))) }
     ensures table { IfOk result (λ found. (table : List ℕ)
         → is_command (Create table found.columns []) ≡ true) }
     ensures refused { IfErr result (λ fault. (limits : Bounds)
-        → IsFaultAt R.remaining (λ name opened. FnReturnsAt F.Fn files.now.opener.now name opened)
-        files.now.words.now files.now.sources.now files.now.short limits fault.word fault.why) }
+        → IsFaultAt R.remaining
+        (λ name opened. FnReturnsAt F.Fn files.now.opener.now name opened) files.now limits fault.word fault.why) }
     ensures ended { IfOk result (λ found. IfSome found.why_ended (λ why. (limits : Bounds)
-        → IsFaultAt R.remaining (λ name opened. FnReturnsAt F.Fn files.now.opener.now name opened)
-        files.now.words.now files.now.sources.now files.now.short limits found.end why)) }
+        → IsFaultAt R.remaining
+        (λ name opened. FnReturnsAt F.Fn files.now.opener.now name opened) files.now limits found.end why)) }
     ensures within { IfErr result (λ fault. fault.word < length files.now.words.now) }
     ensures before { IfOk result (λ found. IfSome found.why_ended (λ why. found.end < end)) }
 {
@@ -109,14 +107,12 @@ where
     requires callable { F.IsAlwaysCallable files.now.opener.now }
     requires at { at < length files.now.sources.now }
     requires sources { length files.now.sources.now ≤ length files.now.words.now }
-    ensures inferred { IfOk result (λ inference. (d : TableWord) (e : Source) (bytes : List ℕ)
-        → HasBytes R.remaining (λ name opened. FnReturnsAt F.Fn files.now.opener.now name opened)
-        (slice_index_or files.now.words.now at d).file.now
-        (slice_index_or files.now.sources.now at e) bytes
-        → inference ≡ inferred bytes []) }
+    ensures inferred { IfOk result (λ inference. OfFile R.remaining
+        (λ name opened. FnReturnsAt F.Fn files.now.opener.now name opened) files.now at
+        (λ this file. inference ≡ inferred file [])) }
     ensures refused { IfErr result (λ why. (limits : Bounds)
-        → IsFaultAt R.remaining (λ name opened. FnReturnsAt F.Fn files.now.opener.now name opened)
-        files.now.words.now files.now.sources.now files.now.short limits at why) }
+        → IsFaultAt R.remaining
+        (λ name opened. FnReturnsAt F.Fn files.now.opener.now name opened) files.now limits at why) }
 {
     let limits = Limits::greatest();
     let file = open(files.words[at].file, &files.sources[at], files.opener)?;
@@ -145,13 +141,13 @@ where
     ensures end { (at < result.0) × (result.0 ≤ end) × (result.1 ≡ None → result.0 ≡ end) }
     ensures inferred { (contents : List ℕ → List ℕ) (first : TableWord)
         → Knows R.remaining (λ name opened. FnReturnsAt F.Fn files.now.opener.now name opened)
-        files.now.words.now files.now.sources.now at contents first
+        files.now at contents first
         → inference.old ≡ inferred (contents first.file.now) []
         → inference.new ≡ inferred (contents first.file.now)
         (files_of contents (of_name first.name (drop (at + 1) (take result.0 files.now.words.now)))) }
     ensures refused { IfSome result.1 (λ why. (limits : Bounds)
-        → IsFaultAt R.remaining (λ name opened. FnReturnsAt F.Fn files.now.opener.now name opened)
-        files.now.words.now files.now.sources.now files.now.short limits result.0 why) }
+        → IsFaultAt R.remaining
+        (λ name opened. FnReturnsAt F.Fn files.now.opener.now name opened) files.now limits result.0 why) }
     ensures before { IfSome result.1 (λ why. result.0 < end) }
 {
     for word in at + 1..end {
@@ -180,15 +176,15 @@ where
     requires sources { length files.now.sources.now ≤ length files.now.words.now }
     ensures more { OnOk result ((contents : List ℕ → List ℕ) (first : TableWord) (file : List ℕ)
         → Knows R.remaining (λ name opened. FnReturnsAt F.Fn files.now.opener.now name opened)
-        files.now.words.now files.now.sources.now at contents first
+        files.now at contents first
         → inference.old ≡ inferred file
         (files_of contents (of_name first.name (drop (at + 1) (take word files.now.words.now))))
         → inference.new ≡ inferred file
         (files_of contents (of_name first.name (drop (at + 1) (take (word + 1) files.now.words.now))))) }
     ensures unchanged { OnErr result (inference.new ≡ inference.old) }
     ensures refused { IfErr result (λ why. (limits : Bounds)
-        → IsFaultAt R.remaining (λ name opened. FnReturnsAt F.Fn files.now.opener.now name opened)
-        files.now.words.now files.now.sources.now files.now.short limits word why) }
+        → IsFaultAt R.remaining
+        (λ name opened. FnReturnsAt F.Fn files.now.opener.now name opened) files.now limits word why) }
 {
     if !is_same(files.words, at, word) {
         return Ok(());
@@ -209,16 +205,14 @@ where
     requires callable { F.IsAlwaysCallable files.now.opener.now }
     requires word { word < length files.now.sources.now }
     requires sources { length files.now.sources.now ≤ length files.now.words.now }
-    ensures more { OnOk result ((d : TableWord) (e : Source) (bytes : List ℕ)
-        → HasBytes R.remaining (λ name opened. FnReturnsAt F.Fn files.now.opener.now name opened)
-        (slice_index_or files.now.words.now word d).file.now
-        (slice_index_or files.now.sources.now word e) bytes
-        → (first : List ℕ) (others : List (List ℕ)) → inference.old ≡ inferred first others
-        → inference.new ≡ inferred first (others ++ bytes ∷ [])) }
+    ensures more { OnOk result (OfFile R.remaining
+        (λ name opened. FnReturnsAt F.Fn files.now.opener.now name opened) files.now word
+        (λ this file. (first : List ℕ) (others : List (List ℕ)) → inference.old ≡ inferred first others
+        → inference.new ≡ inferred first (others ++ file ∷ []))) }
     ensures unchanged { OnErr result (inference.new ≡ inference.old) }
     ensures refused { IfErr result (λ why. (limits : Bounds)
-        → IsFaultAt R.remaining (λ name opened. FnReturnsAt F.Fn files.now.opener.now name opened)
-        files.now.words.now files.now.sources.now files.now.short limits word why) }
+        → IsFaultAt R.remaining
+        (λ name opened. FnReturnsAt F.Fn files.now.opener.now name opened) files.now limits word why) }
 {
     let file = open(files.words[word].file, &files.sources[word], files.opener)?;
     match inference.add(alloc, file) {

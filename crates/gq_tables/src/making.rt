@@ -96,12 +96,10 @@ where
         → MadeUpTo contents files.now.short (setting_of S.runs engine.old).limits files.now.words.now
         (at + 1) (database engine.new) }
     ensures setting { setting_of S.runs engine.new ≡ setting_of S.runs engine.old }
-    ensures refused { IfSome fault (λ found. IsFaultAt R.remaining (λ name opened. FnReturnsAt F.Fn files.now.opener.now name opened)
-        files.now.words.now files.now.sources.now files.now.short
-        (setting_of S.runs engine.old).limits found.word found.why)
-        → IfSome result (λ found. IsFaultAt R.remaining (λ name opened. FnReturnsAt F.Fn files.now.opener.now name opened)
-        files.now.words.now files.now.sources.now files.now.short
-        (setting_of S.runs engine.old).limits found.word found.why) }
+    ensures refused { IfSome fault (λ found. IsFaultAt R.remaining
+        (λ name opened. FnReturnsAt F.Fn files.now.opener.now name opened) files.now (setting_of S.runs engine.old).limits found.word found.why)
+        → IfSome result (λ found. IsFaultAt R.remaining
+        (λ name opened. FnReturnsAt F.Fn files.now.opener.now name opened) files.now (setting_of S.runs engine.old).limits found.word found.why) }
     ensures within { IfSome fault (λ found. found.word < length files.now.words.now)
         → IfSome result (λ found. found.word < length files.now.words.now) }
 {

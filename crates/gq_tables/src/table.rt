@@ -10,11 +10,11 @@ ghost use Rattle.gq_engine.specs.Databases.{Database, table_at};
 ghost use Rattle.gq_engine.specs.Engines.{database, setting_of};
 ghost use Rattle.gq_engine.specs.Runs.{SameTables};
 ghost use Rattle.gq_infer.specs.declared.word.TableWord.{TableWord};
-ghost use Rattle.gq_tables.specs.Files.{HasBytes, Knows};
+ghost use Rattle.gq_tables.specs.Files.{Knows, OfFile};
 ghost use Rattle.gq_tables.specs.declared.source.Source.{Source};
 ghost use Rattle.gq_tables.specs.Made.{IsTableOf, of_name};
 ghost use Rattle.gq_tables.specs.Reasons.{IsFaultAt, IsReason, is_failure};
-ghost use Rattle.gq_tables.specs.Steps.{HasDone, HasLoadedFile, HasRefused, IsEmpty, IsFilled, IsWith, MadeOrSame};
+ghost use Rattle.gq_tables.specs.Steps.{HasDone, HasLoadedFile, HasMade, HasRefused, IsEmpty, IsFilled, IsWith, MadeOrSame};
 
 use crate::columns::{guess, infer_all};
 use crate::fault::{TableFault, Why, at_word, of_load, of_refused};
@@ -46,16 +46,12 @@ where
     requires at { at < end }
     requires end { end ≤ length files.now.sources.now }
     requires sources { length files.now.sources.now ≤ length files.now.words.now }
-    ensures made { OnOk result ((contents : List ℕ → List ℕ) (first : TableWord)
-        → Knows R.remaining (λ name opened. FnReturnsAt F.Fn files.now.opener.now name opened)
-        files.now.words.now files.now.sources.now at contents first
-        → table_at (database engine.old) first.name ≡ None
-        → IsWith (database engine.old) first.name (IsTableOf contents files.now.short
-        (setting_of S.runs engine.old).limits (of_name first.name (take end files.now.words.now)))
-        (database engine.new)) }
+    ensures made { OnOk result (HasMade R.remaining
+        (λ name opened. FnReturnsAt F.Fn files.now.opener.now name opened) files.now at end
+        (setting_of S.runs engine.old).limits (database engine.old) (database engine.new)) }
     ensures setting { setting_of S.runs engine.new ≡ setting_of S.runs engine.old }
-    ensures refused { IfErr result (λ fault. IsFaultAt R.remaining (λ name opened. FnReturnsAt F.Fn files.now.opener.now name opened)
-        files.now.words.now files.now.sources.now files.now.short
+    ensures refused { IfErr result (λ fault. IsFaultAt R.remaining
+        (λ name opened. FnReturnsAt F.Fn files.now.opener.now name opened) files.now
         (setting_of S.runs engine.old).limits fault.word fault.why) }
     ensures within { IfErr result (λ fault. fault.word < length files.now.words.now) }
 {
@@ -84,16 +80,12 @@ where
     requires end { end ≤ length files.now.sources.now }
     requires sources { length files.now.sources.now ≤ length files.now.words.now }
     requires given { (word : TableWord) → (slice_index_or files.now.words.now at word).columns ≡ Some given.now }
-    ensures made { OnOk result ((contents : List ℕ → List ℕ) (first : TableWord)
-        → Knows R.remaining (λ name opened. FnReturnsAt F.Fn files.now.opener.now name opened)
-        files.now.words.now files.now.sources.now at contents first
-        → table_at (database engine.old) first.name ≡ None
-        → IsWith (database engine.old) first.name (IsTableOf contents files.now.short
-        (setting_of S.runs engine.old).limits (of_name first.name (take end files.now.words.now)))
-        (database engine.new)) }
+    ensures made { OnOk result (HasMade R.remaining
+        (λ name opened. FnReturnsAt F.Fn files.now.opener.now name opened) files.now at end
+        (setting_of S.runs engine.old).limits (database engine.old) (database engine.new)) }
     ensures setting { setting_of S.runs engine.new ≡ setting_of S.runs engine.old }
-    ensures refused { IfErr result (λ fault. IsFaultAt R.remaining (λ name opened. FnReturnsAt F.Fn files.now.opener.now name opened)
-        files.now.words.now files.now.sources.now files.now.short
+    ensures refused { IfErr result (λ fault. IsFaultAt R.remaining
+        (λ name opened. FnReturnsAt F.Fn files.now.opener.now name opened) files.now
         (setting_of S.runs engine.old).limits fault.word fault.why) }
     ensures within { IfErr result (λ fault. fault.word < length files.now.words.now) }
 {
@@ -121,16 +113,12 @@ where
     requires end { end ≤ length files.now.sources.now }
     requires sources { length files.now.sources.now ≤ length files.now.words.now }
     requires inferred { (word : TableWord) → (slice_index_or files.now.words.now at word).columns ≡ None }
-    ensures made { OnOk result ((contents : List ℕ → List ℕ) (first : TableWord)
-        → Knows R.remaining (λ name opened. FnReturnsAt F.Fn files.now.opener.now name opened)
-        files.now.words.now files.now.sources.now at contents first
-        → table_at (database engine.old) first.name ≡ None
-        → IsWith (database engine.old) first.name (IsTableOf contents files.now.short
-        (setting_of S.runs engine.old).limits (of_name first.name (take end files.now.words.now)))
-        (database engine.new)) }
+    ensures made { OnOk result (HasMade R.remaining
+        (λ name opened. FnReturnsAt F.Fn files.now.opener.now name opened) files.now at end
+        (setting_of S.runs engine.old).limits (database engine.old) (database engine.new)) }
     ensures setting { setting_of S.runs engine.new ≡ setting_of S.runs engine.old }
-    ensures refused { IfErr result (λ fault. IsFaultAt R.remaining (λ name opened. FnReturnsAt F.Fn files.now.opener.now name opened)
-        files.now.words.now files.now.sources.now files.now.short
+    ensures refused { IfErr result (λ fault. IsFaultAt R.remaining
+        (λ name opened. FnReturnsAt F.Fn files.now.opener.now name opened) files.now
         (setting_of S.runs engine.old).limits fault.word fault.why) }
     ensures within { IfErr result (λ fault. fault.word < length files.now.words.now) }
 {
@@ -160,14 +148,14 @@ where
     requires inferred { (word : TableWord) → (slice_index_or files.now.words.now at word).columns ≡ None }
     ensures made { IfOk result (λ is_made. (contents : List ℕ → List ℕ) (first : TableWord)
         → Knows R.remaining (λ name opened. FnReturnsAt F.Fn files.now.opener.now name opened)
-        files.now.words.now files.now.sources.now at contents first
+        files.now at contents first
         → table_at (database engine.old) first.name ≡ None
         → MadeOrSame is_made (IsWith (database engine.old) first.name (IsTableOf contents files.now.short
         (setting_of S.runs engine.old).limits (of_name first.name (take end files.now.words.now)))
         (database engine.new)) (database engine.old) (database engine.new)) }
     ensures setting { setting_of S.runs engine.new ≡ setting_of S.runs engine.old }
-    ensures refused { IfErr result (λ fault. IsFaultAt R.remaining (λ name opened. FnReturnsAt F.Fn files.now.opener.now name opened)
-        files.now.words.now files.now.sources.now files.now.short
+    ensures refused { IfErr result (λ fault. IsFaultAt R.remaining
+        (λ name opened. FnReturnsAt F.Fn files.now.opener.now name opened) files.now
         (setting_of S.runs engine.old).limits fault.word fault.why) }
     ensures within { IfErr result (λ fault. fault.word < length files.now.words.now) }
 {
@@ -204,16 +192,12 @@ where
     requires end { end ≤ length files.now.sources.now }
     requires sources { length files.now.sources.now ≤ length files.now.words.now }
     requires inferred { (word : TableWord) → (slice_index_or files.now.words.now at word).columns ≡ None }
-    ensures made { OnOk result ((contents : List ℕ → List ℕ) (first : TableWord)
-        → Knows R.remaining (λ name opened. FnReturnsAt F.Fn files.now.opener.now name opened)
-        files.now.words.now files.now.sources.now at contents first
-        → table_at (database engine.old) first.name ≡ None
-        → IsWith (database engine.old) first.name (IsTableOf contents files.now.short
-        (setting_of S.runs engine.old).limits (of_name first.name (take end files.now.words.now)))
-        (database engine.new)) }
+    ensures made { OnOk result (HasMade R.remaining
+        (λ name opened. FnReturnsAt F.Fn files.now.opener.now name opened) files.now at end
+        (setting_of S.runs engine.old).limits (database engine.old) (database engine.new)) }
     ensures setting { setting_of S.runs engine.new ≡ setting_of S.runs engine.old }
-    ensures refused { IfErr result (λ fault. IsFaultAt R.remaining (λ name opened. FnReturnsAt F.Fn files.now.opener.now name opened)
-        files.now.words.now files.now.sources.now files.now.short
+    ensures refused { IfErr result (λ fault. IsFaultAt R.remaining
+        (λ name opened. FnReturnsAt F.Fn files.now.opener.now name opened) files.now
         (setting_of S.runs engine.old).limits fault.word fault.why) }
     ensures within { IfErr result (λ fault. fault.word < length files.now.words.now) }
 {
@@ -323,7 +307,7 @@ where
     ensures filled { (contents : List ℕ → List ℕ) (first : TableWord)
         (before : Database) (columns : List Column) (key : List (List ℕ))
         → Knows R.remaining (λ name opened. FnReturnsAt F.Fn files.now.opener.now name opened)
-        files.now.words.now files.now.sources.now at contents first
+        files.now at contents first
         → table_at before first.name ≡ None
         → IsWith before first.name (IsEmpty columns key) (database engine.old)
         → MatchResult result
@@ -332,8 +316,8 @@ where
         (of_name first.name (take end files.now.words.now))) (database engine.new))
         (λ _. IsWith before first.name (λ _. Unit) (database engine.new)) }
     ensures setting { setting_of S.runs engine.new ≡ setting_of S.runs engine.old }
-    ensures refused { IfErr result (λ fault. IsFaultAt R.remaining (λ name opened. FnReturnsAt F.Fn files.now.opener.now name opened)
-        files.now.words.now files.now.sources.now files.now.short
+    ensures refused { IfErr result (λ fault. IsFaultAt R.remaining
+        (λ name opened. FnReturnsAt F.Fn files.now.opener.now name opened) files.now
         (setting_of S.runs engine.old).limits fault.word fault.why) }
     ensures within { IfErr result (λ fault. fault.word < length files.now.words.now) }
 {
@@ -362,7 +346,7 @@ where
     ensures filled { OnOk result ((contents : List ℕ → List ℕ) (first : TableWord)
         (before : Database) (columns : List Column) (key : List (List ℕ))
         → Knows R.remaining (λ name opened. FnReturnsAt F.Fn files.now.opener.now name opened)
-        files.now.words.now files.now.sources.now at contents first
+        files.now at contents first
         → table_at before first.name ≡ None
         → IsWith before first.name (IsFilled contents files.now.short
         (setting_of S.runs engine.old).limits columns key
@@ -372,9 +356,8 @@ where
         (of_name first.name (take (word + 1) files.now.words.now))) (database engine.new)) }
     ensures kept { OnErr result (SameTables (database engine.old) (database engine.new)) }
     ensures setting { setting_of S.runs engine.new ≡ setting_of S.runs engine.old }
-    ensures refused { IfErr result (IsFaultAt R.remaining (λ name opened. FnReturnsAt F.Fn files.now.opener.now name opened)
-        files.now.words.now files.now.sources.now files.now.short
-        (setting_of S.runs engine.old).limits word) }
+    ensures refused { IfErr result (IsFaultAt R.remaining
+        (λ name opened. FnReturnsAt F.Fn files.now.opener.now name opened) files.now (setting_of S.runs engine.old).limits word) }
 {
     if !is_same(files.words, at, word) {
         return Ok(());
@@ -400,17 +383,14 @@ where
     requires sources { length files.now.sources.now ≤ length files.now.words.now }
     ensures plain { OnOk result (at < word → (d : TableWord)
         → (slice_index_or files.now.words.now word d).columns ≡ None) }
-    ensures loaded { OnOk result ((d : TableWord) (e : Source) (bytes : List ℕ)
-        → HasBytes R.remaining (λ name opened. FnReturnsAt F.Fn files.now.opener.now name opened)
-        (slice_index_or files.now.words.now word d).file.now
-        (slice_index_or files.now.sources.now word e) bytes
-        → HasLoadedFile files.now.short (setting_of S.runs engine.old).limits (database engine.old)
-        (slice_index_or files.now.words.now word d).name bytes (database engine.new)) }
+    ensures loaded { OnOk result (OfFile R.remaining
+        (λ name opened. FnReturnsAt F.Fn files.now.opener.now name opened) files.now word
+        (λ this file. HasLoadedFile files.now.short (setting_of S.runs engine.old).limits
+        (database engine.old) this.name file (database engine.new))) }
     ensures kept { OnErr result (SameTables (database engine.old) (database engine.new)) }
     ensures setting { setting_of S.runs engine.new ≡ setting_of S.runs engine.old }
-    ensures refused { IfErr result (IsFaultAt R.remaining (λ name opened. FnReturnsAt F.Fn files.now.opener.now name opened)
-        files.now.words.now files.now.sources.now files.now.short
-        (setting_of S.runs engine.old).limits word) }
+    ensures refused { IfErr result (IsFaultAt R.remaining
+        (λ name opened. FnReturnsAt F.Fn files.now.opener.now name opened) files.now (setting_of S.runs engine.old).limits word) }
 {
     let this = &files.words[word];
     if at < word && this.columns.is_some() {

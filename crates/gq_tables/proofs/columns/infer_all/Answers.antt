@@ -24,7 +24,7 @@ returns-clause-columns g c = λ contents first knows.
 
 pub returns-in_err-inference-clause-refused : goal.returns-in_err-inference-clause-refused
 returns-in_err-inference-clause-refused g c =
-    let P : ℕ → Why → Type 0 = λ n why. (limits : Bounds) → IsFaultAt g.R.Read.remaining (λ name opened. FnReturnsAt g.F.Fn c.args.files.now.opener.now name opened) c.args.files.now.words.now c.args.files.now.sources.now c.args.files.now.short limits n why in
+    let P : ℕ → Why → Type 0 = λ n why. (limits : Bounds) → IsFaultAt g.R.Read.remaining (λ name opened. FnReturnsAt g.F.Fn c.args.files.now.opener.now name opened) c.args.files.now limits n why in
     let fault = c.in_err-inference.field-0.0 in
     passed c.from_residual.result fault (λ (fault : TableFault). P fault.word fault.why) c.from_residual.ensures.1
     (word_fault c.infer_first.result fault c.args.at P c.in_err-inference.ensures.err c.infer_first.ensures.refused)

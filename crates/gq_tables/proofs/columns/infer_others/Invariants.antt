@@ -8,6 +8,6 @@ use Rattle.gq_tables.proofs.columns.infer_others.Given as goal
 
 abbrev pub invariant-loop-word : goal.invariant-loop-word
 invariant-loop-word g l = (contents : List ℕ → List ℕ) (first : TableWord)
-    → Knows g.R.Read.remaining (λ name opened. FnReturnsAt g.F.Fn l.files.opener.now name opened) l.files.words.now l.files.sources.now l.at contents first
+    → Knows g.R.Read.remaining (λ name opened. FnReturnsAt g.F.Fn l.files.opener.now name opened) l.files l.at contents first
     → l.fn.inference ≡ inferred (contents first.file.now) []
     → l.inference ≡ inferred (contents first.file.now) (files_of contents (of_name first.name (drop (l.at + 1) (take l.word l.files.words.now))))

@@ -4,6 +4,7 @@ use Rattle.std.specs.Fn.{FnReturnsAt}
 use Rattle.std.proofs.lemmas.List.{take_all}
 use Rattle.gq_row.specs.declared.limits.Bounds.{Bounds}
 use Rattle.gq_engine.specs.Engines.{database, setting_of}
+use Rattle.gq_tables.specs.declared.files.Files.{Files}
 use Rattle.gq_tables.specs.declared.source.Source.{Source}
 use Rattle.gq_tables.specs.declared.fault.TableFault.{TableFault}
 use Rattle.gq_tables.specs.Files.{HaveBytes}
@@ -29,8 +30,9 @@ loop-at-preserved g c = record {
   within = c.make_next-fault.ensures.within c.loop-at.invariant.within;
   reasons =
       let same = ap (λ s. s.limits) c.loop-at.invariant.setting in
+      let files : Files g.row.F.Denot = record { words = c.args.words; sources = c.as_slice.result; opener = c.args.opener; short = c.args.short } in
       let P : Bounds → Option TableFault → Type 0 = λ limits fault.
-      IfSome fault (λ (found : TableFault). IsFaultAt g.R.Read.remaining (λ name opened. FnReturnsAt g.F.Fn c.args.opener.now name opened) c.args.words.now c.as_slice.result.now c.args.short limits found.word found.why) in
+      IfSome fault (λ (found : TableFault). IsFaultAt g.R.Read.remaining (λ name opened. FnReturnsAt g.F.Fn c.args.opener.now name opened) files limits found.word found.why) in
       subst (λ (b : Bounds). P b c.make_next-fault.result) same
       (c.make_next-fault.ensures.refused (subst (λ (b : Bounds). P b c.loop-at.fault) (sym same) c.loop-at.invariant.reasons));
 }
@@ -43,10 +45,9 @@ returns-in-None-clause-made g c = λ contents files empty.
     made_all contents c.args.short (setting_of g.S.RunStore.runs c.args.engine.now).limits words c.loop-at.at (database c.loop-at.engine) all (c.loop-at.invariant.made c.in-None.is contents files empty)
 
 pub returns-clause-refused : goal.returns-clause-refused
-returns-clause-refused g c = λ contents files.
-    let words = c.args.words.now in
-    let sources = c.as_slice.result.now in
+returns-clause-refused g c = λ contents are.
+    let files : Files g.row.F.Denot = record { words = c.args.words; sources = c.as_slice.result; opener = c.args.opener; short = c.args.short } in
     let limits = (setting_of g.S.RunStore.runs c.args.engine.now).limits in
-    let have = subst (λ (sources : List Source). HaveBytes g.R.Read.remaining (λ name opened. FnReturnsAt g.F.Fn c.args.opener.now name opened) contents words sources) (sym c.as_slice.ensures.value) (c.find_sources-sources.ensures.have contents files) in
-    let reason = subst (λ (o : Option TableFault). IfSome o (λ (found : TableFault). IsFaultAt g.R.Read.remaining (λ name opened. FnReturnsAt g.F.Fn c.args.opener.now name opened) words sources c.args.short limits found.word found.why)) c.in-Some.is c.loop-at.invariant.reasons in
-    fault_of g.R.Read.remaining (λ name opened. FnReturnsAt g.F.Fn c.args.opener.now name opened) contents (g.I.Read.remaining c.args.input.now) words sources c.args.short limits c.in-Some.found files have reason
+    let have = subst (λ (sources : List Source). HaveBytes g.R.Read.remaining (λ name opened. FnReturnsAt g.F.Fn c.args.opener.now name opened) contents c.args.words.now sources) (sym c.as_slice.ensures.value) (c.find_sources-sources.ensures.have contents are) in
+    let reason = subst (λ (o : Option TableFault). IfSome o (λ (found : TableFault). IsFaultAt g.R.Read.remaining (λ name opened. FnReturnsAt g.F.Fn c.args.opener.now name opened) files limits found.word found.why)) c.in-Some.is c.loop-at.invariant.reasons in
+    fault_of g.R.Read.remaining (λ name opened. FnReturnsAt g.F.Fn c.args.opener.now name opened) contents (g.I.Read.remaining c.args.input.now) files limits c.in-Some.found are have reason

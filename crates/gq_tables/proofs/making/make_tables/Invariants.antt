@@ -14,6 +14,6 @@ invariant-loop-at g l = record {
   made : l.fault ≡ None → (contents : List ℕ → List ℕ)
       → AreFiles g.R.Read.remaining (λ name opened. FnReturnsAt g.F.Fn l.opener name opened) (g.I.Read.remaining l.fn.input) l.words contents
       → database l.fn.engine ≡ [] → MadeUpTo contents l.files.short (setting_of g.S.RunStore.runs l.fn.engine).limits l.words l.at (database l.engine);
-  reasons : IfSome l.fault (λ found. IsFaultAt g.R.Read.remaining (λ name opened. FnReturnsAt g.F.Fn l.files.opener.now name opened) l.files.words.now l.files.sources.now l.files.short (setting_of g.S.RunStore.runs l.fn.engine).limits found.word found.why);
+  reasons : IfSome l.fault (λ found. IsFaultAt g.R.Read.remaining (λ name opened. FnReturnsAt g.F.Fn l.files.opener.now name opened) l.files (setting_of g.S.RunStore.runs l.fn.engine).limits found.word found.why);
   within : IfSome l.fault (λ found. found.word < length l.files.words.now);
 }

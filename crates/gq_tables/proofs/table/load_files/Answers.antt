@@ -39,7 +39,7 @@ returns-clause-filled g c = λ contents first before columns key knows none star
 
 pub returns-in_err-at_word-clause-refused : goal.returns-in_err-at_word-clause-refused
 returns-in_err-at_word-clause-refused g c =
-    let P : Bounds → ℕ → Why → Type 0 = λ limits n why. IsFaultAt g.R.Read.remaining (λ name opened. FnReturnsAt g.F.Fn c.args.files.now.opener.now name opened) c.args.files.now.words.now c.args.files.now.sources.now c.args.files.now.short limits n why in
+    let P : Bounds → ℕ → Why → Type 0 = λ limits n why. IsFaultAt g.R.Read.remaining (λ name opened. FnReturnsAt g.F.Fn c.args.files.now.opener.now name opened) c.args.files.now limits n why in
     let fault = c.in_err-at_word.field-0.0 in
     passed c.from_residual.result fault (λ (fault : TableFault). P (setting_of g.S.RunStore.runs c.args.engine.now).limits fault.word fault.why) c.from_residual.ensures.1
     (subst (λ (limits : Bounds). P limits fault.word fault.why) (ap (λ s. s.limits) c.loop-word.invariant.setting)

@@ -13,7 +13,7 @@ abbrev pub invariant-loop-word : goal.invariant-loop-word
 invariant-loop-word g l = record {
   setting : setting_of g.S.RunStore.runs l.engine ≡ setting_of g.S.RunStore.runs l.fn.engine;
   filled : (contents : List ℕ → List ℕ) (first : TableWord) (before : Database) (columns : List Column) (key : List (List ℕ))
-      → Knows g.R.Read.remaining (λ name opened. FnReturnsAt g.F.Fn l.files.opener.now name opened) l.files.words.now l.files.sources.now l.at contents first
+      → Knows g.R.Read.remaining (λ name opened. FnReturnsAt g.F.Fn l.files.opener.now name opened) l.files l.at contents first
       → table_at before first.name ≡ None → IsWith before first.name (IsEmpty columns key) (database l.fn.engine)
       → IsWith before first.name (IsFilled contents l.files.short (setting_of g.S.RunStore.runs l.fn.engine).limits columns key (of_name first.name (take l.word l.files.words.now))) (database l.engine);
 }

@@ -44,12 +44,12 @@ returns-in-None-clause-made g c = λ contents first knows none.
 pub returns-in_err-inferred-clause-refused : goal.returns-in_err-inferred-clause-refused
 returns-in_err-inferred-clause-refused g c =
     let limits = (setting_of g.S.RunStore.runs c.args.engine.now).limits in
-    passed c.from_residual.result c.in_err-inferred.field-0.0 (λ (fault : TableFault). IsFaultAt g.R.Read.remaining (λ name opened. FnReturnsAt g.F.Fn c.args.files.now.opener.now name opened) c.args.files.now.words.now c.args.files.now.sources.now c.args.files.now.short limits fault.word fault.why) c.from_residual.ensures.1
+    passed c.from_residual.result c.in_err-inferred.field-0.0 (λ (fault : TableFault). IsFaultAt g.R.Read.remaining (λ name opened. FnReturnsAt g.F.Fn c.args.files.now.opener.now name opened) c.args.files.now limits fault.word fault.why) c.from_residual.ensures.1
     (c.in_err-inferred.ensures.refused limits)
 
 pub returns-in_err-load_files-clause-refused : goal.returns-in_err-load_files-clause-refused
 returns-in_err-load_files-clause-refused g c =
-    let P : Bounds → TableFault → Type 0 = λ limits fault. IsFaultAt g.R.Read.remaining (λ name opened. FnReturnsAt g.F.Fn c.args.files.now.opener.now name opened) c.args.files.now.words.now c.args.files.now.sources.now c.args.files.now.short limits fault.word fault.why in
+    let P : Bounds → TableFault → Type 0 = λ limits fault. IsFaultAt g.R.Read.remaining (λ name opened. FnReturnsAt g.F.Fn c.args.files.now.opener.now name opened) c.args.files.now limits fault.word fault.why in
     let fault = c.in_err-load_files.field-0.0 in
     passed c.from_residual-in_err-load_files.result fault (P (setting_of g.S.RunStore.runs c.args.engine.now).limits) c.from_residual-in_err-load_files.ensures.1
     (subst (λ (limits : Bounds). P limits fault) (ap (λ s. s.limits) c.create.ensures.setting) c.in_err-load_files.ensures.refused)
@@ -57,7 +57,7 @@ returns-in_err-load_files-clause-refused g c =
 pub returns-in-Some-clause-refused : goal.returns-in-Some-clause-refused
 returns-in-Some-clause-refused g c =
     let limits = (setting_of g.S.RunStore.runs c.args.engine.now).limits in
-    subst (λ (o : Option Why). IfSome o (λ why. (limits : Bounds) → IsFaultAt g.R.Read.remaining (λ name opened. FnReturnsAt g.F.Fn c.args.files.now.opener.now name opened) c.args.files.now.words.now c.args.files.now.sources.now c.args.files.now.short limits c.in_ok-inferred.inferred.end why)) c.in-Some.is c.in_ok-inferred.ensures.ended limits
+    subst (λ (o : Option Why). IfSome o (λ why. (limits : Bounds) → IsFaultAt g.R.Read.remaining (λ name opened. FnReturnsAt g.F.Fn c.args.files.now.opener.now name opened) c.args.files.now limits c.in_ok-inferred.inferred.end why)) c.in-Some.is c.in_ok-inferred.ensures.ended limits
 
 pub returns-in-Some-clause-within : goal.returns-in-Some-clause-within
 returns-in-Some-clause-within g c =

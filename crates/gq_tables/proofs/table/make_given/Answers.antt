@@ -34,4 +34,4 @@ returns-clause-made g c =
 
 pub returns-clause-refused : goal.returns-clause-refused
 returns-clause-refused g c =
-    subst (λ (limits : Bounds). IfErr c.load_files.result (λ (fault : TableFault). IsFaultAt g.R.Read.remaining (λ name opened. FnReturnsAt g.F.Fn c.args.files.now.opener.now name opened) c.args.files.now.words.now c.args.files.now.sources.now c.args.files.now.short limits fault.word fault.why)) (ap (λ s. s.limits) c.create.ensures.setting) c.load_files.ensures.refused
+    subst (λ (limits : Bounds). IfErr c.load_files.result (λ (fault : TableFault). IsFaultAt g.R.Read.remaining (λ name opened. FnReturnsAt g.F.Fn c.args.files.now.opener.now name opened) c.args.files.now limits fault.word fault.why)) (ap (λ s. s.limits) c.create.ensures.setting) c.load_files.ensures.refused

@@ -67,4 +67,4 @@ returns-in_ok-at_word-in-Err-clause-made g c = λ contents first knows none.
 pub returns-in-Err-2-clause-refused : goal.returns-in-Err-2-clause-refused
 returns-in-Err-2-clause-refused g c =
     let fault = c.in-Err.fault in
-    subst (λ (limits : Bounds). IsFaultAt g.R.Read.remaining (λ name opened. FnReturnsAt g.F.Fn c.args.files.now.opener.now name opened) c.args.files.now.words.now c.args.files.now.sources.now c.args.files.now.short limits fault.word fault.why) (ap (λ s. s.limits) c.create.ensures.setting) c.in-Err.ensures.refused
+    subst (λ (limits : Bounds). IsFaultAt g.R.Read.remaining (λ name opened. FnReturnsAt g.F.Fn c.args.files.now.opener.now name opened) c.args.files.now limits fault.word fault.why) (ap (λ s. s.limits) c.create.ensures.setting) c.in-Err.ensures.refused

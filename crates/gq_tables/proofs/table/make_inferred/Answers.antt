@@ -36,4 +36,4 @@ returns-clause-made g c =
 
 pub returns-clause-refused : goal.returns-clause-refused
 returns-clause-refused g c =
-    subst (λ (limits : Bounds). IfErr c.make_by_all.result (λ (fault : TableFault). IsFaultAt g.R.Read.remaining (λ name opened. FnReturnsAt g.F.Fn c.args.files.now.opener.now name opened) c.args.files.now.words.now c.args.files.now.sources.now c.args.files.now.short limits fault.word fault.why)) (ap (λ s. s.limits) c.make_guessed.ensures.setting) c.make_by_all.ensures.refused
+    subst (λ (limits : Bounds). IfErr c.make_by_all.result (λ (fault : TableFault). IsFaultAt g.R.Read.remaining (λ name opened. FnReturnsAt g.F.Fn c.args.files.now.opener.now name opened) c.args.files.now limits fault.word fault.why)) (ap (λ s. s.limits) c.make_guessed.ensures.setting) c.make_by_all.ensures.refused
