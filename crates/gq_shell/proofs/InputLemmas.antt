@@ -25,21 +25,17 @@ use Rattle.gq_tables.specs.Files.{AreFiles}
 use Rattle.gq_tables.specs.Reasons.{IsFaultOf}
 use Rattle.gq_shell.specs.Program.{HadNoTables, IsSeedFor, NoMemory, NotMade, RanAsked, RanFrom, RanGiven, RanNamed, RanScript, Stopped, StoppedForMemory, WrongFile, short_by}
 use Rattle.gq_shell.specs.Checking.{CheckedGiven, CheckedScript}
-use Rattle.gq_shell.specs.Sources.{Sources, script_of}
+use Rattle.gq_shell.specs.Sources.{Sources, script_of, sources_of}
 use Rattle.gq_shell.specs.Streams.{Stream}
 use Rattle.gq_shell.specs.declared.seeding.RunSeed.{RunSeed}
 
--- sources with this standard input
-abbrev pub with_input : {S : Type 0} → Option Bytes → (S → Option Bytes) → (Text → Result S Error → Type 0) → Sources S
-with_input input remaining opens = record { input = input; remaining = remaining; opens = opens }
-
 by-script : {S : Type 0} (remaining : S → Option Bytes) (opens : Text → Result S Error → Type 0) (input other : Option Bytes) (old : State) (asked : Asked) (seed : RunSeed) (replies errors : Stream) (status : ℕ) (script : Option Text)
-    → (script ≡ None → other ≡ input) → RanNamed (with_input other remaining opens) old asked seed script replies errors status → RanNamed (with_input input remaining opens) old asked seed script replies errors status
+    → (script ≡ None → other ≡ input) → RanNamed (sources_of other remaining opens) old asked seed script replies errors status → RanNamed (sources_of input remaining opens) old asked seed script replies errors status
 by-script remaining opens input other old asked seed replies errors status None same ran = subst (λ (bytes : Option Bytes). RanScript old asked seed bytes replies errors status) (same refl) ran
 by-script remaining opens input other old asked seed replies errors status (Some path) same ran = ran
 
 pub by-commands : {S : Type 0} (remaining : S → Option Bytes) (opens : Text → Result S Error → Type 0) (input other : Option Bytes) (old : State) (asked : Asked) (seed : RunSeed) (replies errors : Stream) (status : ℕ) (commands : List Text)
-    → (commands ≡ [] → asked.script ≡ None → other ≡ input) → RanGiven (with_input other remaining opens) old asked seed commands replies errors status → RanGiven (with_input input remaining opens) old asked seed commands replies errors status
+    → (commands ≡ [] → asked.script ≡ None → other ≡ input) → RanGiven (sources_of other remaining opens) old asked seed commands replies errors status → RanGiven (sources_of input remaining opens) old asked seed commands replies errors status
 by-commands remaining opens input other old asked seed replies errors status [] same ran = by-script remaining opens input other old asked seed replies errors status asked.script (same refl) ran
 by-commands remaining opens input other old asked seed replies errors status (lines ∷ more) same ran = ran
 

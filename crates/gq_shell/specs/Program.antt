@@ -23,7 +23,7 @@ use Rattle.gq_tables.specs.Reasons.{IsFaultOf}
 use Rattle.gq_shell.specs.Session.{EndedWith, report_of}
 use Rattle.gq_shell.specs.Checking.{CheckedGiven}
 use Rattle.gq_shell.specs.Streams.{Stream, IsUntouched, Got, GotFront}
-pub use Rattle.gq_shell.specs.Sources.{Sources, Stopped, StoppedBy, StoppedForMemory, script_of}
+pub use Rattle.gq_shell.specs.Sources.{Sources, sources_of, Stopped, StoppedBy, StoppedForMemory, script_of}
 use Rattle.gq_options.specs.Words.{Reads, asked_by}
 use Rattle.gq_options.specs.declared.options.BadLine.{BadLine}
 use Rattle.gq_options.specs.declared.options.BadLine.TheVariants.{Help, Version, Mistake, Memory}

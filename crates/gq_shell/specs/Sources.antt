@@ -27,6 +27,10 @@ pub record Sources (S : Type 0) : Type 1 where
   pub remaining : S → Option Bytes
   pub opens : Text → Result S Error → Type 0
 
+-- sources with this standard input
+abbrev pub sources_of : {S : Type 0} → Option Bytes → (S → Option Bytes) → (Text → Result S Error → Type 0) → Sources S
+sources_of input remaining opens = record { input = input; remaining = remaining; opens = opens }
+
 -- lines of the command line as a script: each is followed by a line feed
 abbrev pub script_of : List Text → Bytes
 script_of commands = flat_map (λ lines. lines ++ codes "\n") commands

@@ -4,10 +4,12 @@ ghost use Rattle.std.specs.Fn.{FnReturnsAt};
 ghost use Rattle.gq_options.specs.Words.{asked_by};
 ghost use Rattle.gq_command.specs.Commands.{Bytes};
 ghost use Rattle.gq_shell.specs.Checking.{Begins, CheckedGiven, CheckedNamed, CheckedScript, ToldReport, ToldReports};
+ghost use Rattle.gq_shell.specs.Sources.{sources_of};
 ghost use Rattle.gq_shell.specs.Streams.{stream};
 
 use crate::script::script_of;
 use crate::stopping::{answer_error, stop, stop_for_memory};
+use crate::streams::Streams;
 use crate::telling::{CutShort, tell};
 use gq_check::{CheckFault, Checker, Report};
 use gq_options::Options;
@@ -28,34 +30,30 @@ pub enum CheckStop {
 
 /// Reports what reading refuses of a script, and returns the exit status: 0 if it refuses nothing, 1
 /// if it does, 3 after a fault. The script is the commands of the command line, or what `opener`
-/// gives for the path, or `input`.
+/// gives for the path, or the standard input.
 pub fn check_script<R, S, F, W, E>(
     alloc: Global,
     options: &Options,
     opener: F,
-    input: R,
-    replies: &mut W,
-    errors: &mut E,
+    streams: &mut Streams<R, W, E>,
 ) -> u8
 where
-    R: Read + Drop,
+    R: Read,
     S: Read + Drop,
     F: Fn(&str) -> io::Result<S>,
     W: Write,
     E: Write,
     requires { F.IsAlwaysCallable opener }
     ensures { CheckedGiven
-        (record {
-          input = R.remaining input;
-          remaining = S.remaining;
-          opens = λ name opened. FnReturnsAt F.Fn opener name opened;
-        })
-        (asked_by options.now).script (asked_by options.now).commands (stream W.contents replies.old replies.new)
-        (stream E.contents errors.old errors.new) result }
+        (sources_of (R.remaining streams.old.input) S.remaining
+        (λ name opened. FnReturnsAt F.Fn opener name opened))
+        (asked_by options.now).script (asked_by options.now).commands (stream W.contents streams.old.replies streams.new.replies)
+        (stream E.contents streams.old.errors streams.new.errors) result }
 {
     if options.commands.is_empty() {
-        return check_named(alloc, options, opener, input, replies, errors);
+        return check_named(alloc, options, opener, streams);
     }
+    let (replies, errors) = (&mut streams.replies, &mut streams.errors);
     match script_of(alloc, options.commands.as_slice()) {
         Ok(script) => check_open(alloc, "<command>", script.as_bytes(), replies, errors),
         Err(AllocError) => stop_for_memory(errors),
@@ -67,26 +65,26 @@ fn check_named<R, S, F, W, E>(
     alloc: Global,
     options: &Options,
     opener: F,
-    input: R,
-    replies: &mut W,
-    errors: &mut E,
+    streams: &mut Streams<R, W, E>,
 ) -> u8
 where
-    R: Read + Drop,
+    R: Read,
     S: Read + Drop,
     F: Fn(&str) -> io::Result<S>,
     W: Write,
     E: Write,
     requires { F.IsAlwaysCallable opener }
     ensures { CheckedNamed
-        (record {
-          input = R.remaining input;
-          remaining = S.remaining;
-          opens = λ name opened. FnReturnsAt F.Fn opener name opened;
-        })
-        (asked_by options.now).script (stream W.contents replies.old replies.new)
-        (stream E.contents errors.old errors.new) result }
+        (sources_of (R.remaining streams.old.input) S.remaining
+        (λ name opened. FnReturnsAt F.Fn opener name opened))
+        (asked_by options.now).script (stream W.contents streams.old.replies streams.new.replies)
+        (stream E.contents streams.old.errors streams.new.errors) result }
 {
+    let (input, replies, errors) = (
+        &mut streams.input,
+        &mut streams.replies,
+        &mut streams.errors,
+    );
     match options.script {
         None => check_open(alloc, "<stdin>", input, replies, errors),
         Some(path) => match opener(path) {

@@ -25,26 +25,31 @@ mod script;
 mod seeding;
 mod session;
 mod stopping;
+mod streams;
 mod tables;
 mod telling;
 #[cfg(test)]
 mod tests;
 
 use crate::program::run_program;
+use crate::streams::Streams;
 use std::fs::File;
 use std::process::ExitCode;
 use std::{env, io};
 
 fn main(rt: HostRuntime) -> ExitCode {
+    let mut streams = Streams {
+        input: rt.reader(),
+        replies: rt.stdout(),
+        errors: rt.stderr(),
+    };
     let status = run_program(
         rt.alloc(),
         arguments(&rt),
         &rt,
         &rt,
         |path| File::open(&rt, path),
-        rt.reader(),
-        &mut rt.stdout(),
-        &mut rt.stderr(),
+        &mut streams,
     );
     ExitCode::from(status)
 }

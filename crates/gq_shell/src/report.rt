@@ -11,12 +11,19 @@ use itoa::Buffer;
 /// A line of numbers, made without memory.
 pub type Line = ArrayString<160>;
 
-/// The line on what the groupings took where it is asked for, and else nothing.
-pub fn report_of(stats: bool, seed: RunSeed, spent: Spent) -> Line
-    ensures { result.bytes ≡ report_of stats seed spent }
+/// Whether a report is asked for, and the seed, which it shows if it was drawn.
+#[derive(Clone, Copy)]
+pub struct Reporting {
+    pub stats: bool,
+    pub seed: RunSeed,
+}
+
+/// The line on what the groupings took if it is asked for, and otherwise nothing.
+pub fn report_of(reporting: Reporting, spent: Spent) -> Line
+    ensures { result.bytes ≡ report_of reporting.stats reporting.seed spent }
 {
-    if stats {
-        work_line(seed, spent)
+    if reporting.stats {
+        work_line(reporting.seed, spent)
     } else {
         Line::new()
     }

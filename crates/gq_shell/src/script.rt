@@ -3,13 +3,15 @@ ghost use Rattle.std.specs.Prelude.{◌≡◌, ◌⊎◌, ◌++◌, [], IfOk, co
 ghost use Rattle.std.specs.Fn.{FnReturnsAt};
 ghost use Rattle.gq_row.specs.Limits.{GREATEST};
 ghost use Rattle.gq_engine.specs.Engines.{setting_of, state_of};
-ghost use Rattle.gq_shell.specs.Program.{HadNoTables, NOTHING, RanAsked, RanFrom, RanGiven, RanNamed, RanScript, output_of, setting_by};
+ghost use Rattle.gq_shell.specs.Program.{HadNoTables, NOTHING, RanAsked, RanFrom, RanGiven, RanNamed, RanScript, output_of, setting_by, sources_of};
 ghost use Rattle.gq_shell.specs.Streams.{stream};
 ghost use Rattle.gq_options.specs.Words.{asked_by};
 
+use crate::report::Reporting;
 use crate::seeding::{RunSeed, draw};
 use crate::session::session;
 use crate::stopping::{answer_error, stop_for_memory};
+use crate::streams::Streams;
 use crate::tables::make_asked;
 use gq_dir::DirStore;
 use gq_engine::{Budget, Engine, Format, MemStore, Output, RunStore};
@@ -24,48 +26,46 @@ use std::random::RandomSource;
 use sw_probe::WordHash;
 
 /// Runs a script in a new engine under the greatest limits, with the seed given or one of the source,
-/// the budget given and a run store in the folder given, or in memory where there is none; and answers
-/// the exit status. The script is what `opener` gives for the path, and `input` where there is no path.
+/// the budget given and a run store in the folder given, or in memory if there is none; and returns
+/// the exit status. The script is what `opener` gives for the path, or the standard input.
 pub fn run_script<D, N, R, S, F, W, E>(
     alloc: Global,
     options: &Options,
     files: &D,
     source: &N,
     opener: F,
-    input: R,
-    replies: &mut W,
-    errors: &mut E,
+    streams: &mut Streams<R, W, E>,
 ) -> u8
 where
     D: Files,
     N: RandomSource,
-    R: Read + Drop,
+    R: Read,
     S: Read + Reopen + Drop,
     F: Fn(&str) -> io::Result<S>,
     W: Write,
     E: Write,
     requires { F.IsAlwaysCallable opener }
     ensures { RanAsked
-        (record {
-          input = R.remaining input;
-          remaining = S.remaining;
-          opens = λ name opened. FnReturnsAt F.Fn opener name opened;
-        })
-        (asked_by options.now) (stream W.contents replies.old replies.new)
-        (stream E.contents errors.old errors.new) result }
+        (sources_of (R.remaining streams.old.input) S.remaining
+        (λ name opened. FnReturnsAt F.Fn opener name opened))
+        (asked_by options.now) (stream W.contents streams.old.replies streams.new.replies)
+        (stream E.contents streams.old.errors streams.new.errors) result }
 {
     let seed = match draw(options.seed, source) {
         Ok(seed) => seed,
-        Err(error) => return answer_error(&error, "groupsh: no random seed\n", 3, errors),
+        Err(error) => {
+            let mistake = "groupsh: no random seed\n";
+            return answer_error(&error, mistake, 3, &mut streams.errors);
+        }
     };
     match options.spill {
         None => {
             let store = MemStore::new(alloc);
-            run_over(alloc, options, seed, store, opener, input, replies, errors)
+            run_over(alloc, options, seed, store, opener, streams)
         }
         Some(folder) => match DirStore::new(alloc, files, folder) {
-            Ok(store) => run_over(alloc, options, seed, store, opener, input, replies, errors),
-            Err(AllocError) => stop_for_memory(errors),
+            Ok(store) => run_over(alloc, options, seed, store, opener, streams),
+            Err(AllocError) => stop_for_memory(&mut streams.errors),
         },
     }
 }
@@ -78,13 +78,11 @@ fn run_over<T, R, S, F, W, E>(
     seed: RunSeed,
     store: T,
     opener: F,
-    input: R,
-    replies: &mut W,
-    errors: &mut E,
+    streams: &mut Streams<R, W, E>,
 ) -> u8
 where
     T: RunStore + Drop,
-    R: Read + Drop,
+    R: Read,
     S: Read + Reopen + Drop,
     F: Fn(&str) -> io::Result<S>,
     W: Write,
@@ -93,33 +91,18 @@ where
     requires honest { (T.runs store).honest ≡ (setting_by (asked_by options.now).spill).honest }
     requires failures { (T.runs store).failures ≡ 0 }
     ensures { RanFrom
-        (record {
-          input = R.remaining input;
-          remaining = S.remaining;
-          opens = λ name opened. FnReturnsAt F.Fn opener name opened;
-        })
-        (asked_by options.now) seed (stream W.contents replies.old replies.new)
-        (stream E.contents errors.old errors.new) result
+        (sources_of (R.remaining streams.old.input) S.remaining
+        (λ name opened. FnReturnsAt F.Fn opener name opened))
+        (asked_by options.now) seed (stream W.contents streams.old.replies streams.new.replies)
+        (stream E.contents streams.old.errors streams.new.errors) result
         ⊎ HadNoTables
-        (record {
-          input = R.remaining input;
-          remaining = S.remaining;
-          opens = λ name opened. FnReturnsAt F.Fn opener name opened;
-        })
-        (asked_by options.now) (stream W.contents replies.old replies.new)
-        (stream E.contents errors.old errors.new) result }
+        (sources_of (R.remaining streams.old.input) S.remaining
+        (λ name opened. FnReturnsAt F.Fn opener name opened))
+        (asked_by options.now) (stream W.contents streams.old.replies streams.new.replies)
+        (stream E.contents streams.old.errors streams.new.errors) result }
 {
     let mut engine = engine_over(alloc, options, seed, store);
-    let status = make_and_run(
-        alloc,
-        &mut engine,
-        options,
-        seed,
-        opener,
-        input,
-        replies,
-        errors,
-    );
+    let status = make_and_run(alloc, &mut engine, options, seed, opener, streams);
     mem::forget(engine);
     status
 }
@@ -131,13 +114,11 @@ fn make_and_run<T, R, S, F, W, E>(
     options: &Options,
     seed: RunSeed,
     opener: F,
-    mut input: R,
-    replies: &mut W,
-    errors: &mut E,
+    streams: &mut Streams<R, W, E>,
 ) -> u8
 where
     T: RunStore,
-    R: Read + Drop,
+    R: Read,
     S: Read + Reopen + Drop,
     F: Fn(&str) -> io::Result<S>,
     W: Write,
@@ -146,25 +127,20 @@ where
     requires setting { setting_of T.runs engine.old ≡ setting_by (asked_by options.now).spill }
     requires state { state_of T.runs engine.old ≡ NOTHING }
     ensures { RanFrom
-        (record {
-          input = R.remaining input;
-          remaining = S.remaining;
-          opens = λ name opened. FnReturnsAt F.Fn opener name opened;
-        })
-        (asked_by options.now) seed (stream W.contents replies.old replies.new)
-        (stream E.contents errors.old errors.new) result
+        (sources_of (R.remaining streams.old.input) S.remaining
+        (λ name opened. FnReturnsAt F.Fn opener name opened))
+        (asked_by options.now) seed (stream W.contents streams.old.replies streams.new.replies)
+        (stream E.contents streams.old.errors streams.new.errors) result
         ⊎ HadNoTables
-        (record {
-          input = R.remaining input;
-          remaining = S.remaining;
-          opens = λ name opened. FnReturnsAt F.Fn opener name opened;
-        })
-        (asked_by options.now) (stream W.contents replies.old replies.new)
-        (stream E.contents errors.old errors.new) result }
+        (sources_of (R.remaining streams.old.input) S.remaining
+        (λ name opened. FnReturnsAt F.Fn opener name opened))
+        (asked_by options.now) (stream W.contents streams.old.replies streams.new.replies)
+        (stream E.contents streams.old.errors streams.new.errors) result }
 {
-    match make_asked(alloc, engine, options, &opener, &mut input, errors) {
+    let (input, errors) = (&mut streams.input, &mut streams.errors);
+    match make_asked(alloc, engine, options, &opener, input, errors) {
         Err(status) => status,
-        Ok(()) => run_in(alloc, engine, options, seed, opener, input, replies, errors),
+        Ok(()) => run_in(alloc, engine, options, seed, opener, streams),
     }
 }
 
@@ -196,13 +172,11 @@ fn run_in<T, R, S, F, W, E>(
     options: &Options,
     seed: RunSeed,
     opener: F,
-    input: R,
-    replies: &mut W,
-    errors: &mut E,
+    streams: &mut Streams<R, W, E>,
 ) -> u8
 where
     T: RunStore,
-    R: Read + Drop,
+    R: Read,
     S: Read + Reopen + Drop,
     F: Fn(&str) -> io::Result<S>,
     W: Write,
@@ -210,17 +184,15 @@ where
     requires callable { F.IsAlwaysCallable opener }
     requires setting { setting_of T.runs engine.old ≡ setting_by (asked_by options.now).spill }
     ensures { RanGiven
-        (record {
-          input = R.remaining input;
-          remaining = S.remaining;
-          opens = λ name opened. FnReturnsAt F.Fn opener name opened;
-        })
-        (state_of T.runs engine.old) (asked_by options.now) seed (asked_by options.now).commands (stream W.contents replies.old replies.new)
-        (stream E.contents errors.old errors.new) result }
+        (sources_of (R.remaining streams.old.input) S.remaining
+        (λ name opened. FnReturnsAt F.Fn opener name opened))
+        (state_of T.runs engine.old) (asked_by options.now) seed (asked_by options.now).commands (stream W.contents streams.old.replies streams.new.replies)
+        (stream E.contents streams.old.errors streams.new.errors) result }
 {
     if options.commands.is_empty() {
-        return run_named(engine, options, seed, opener, input, replies, errors);
+        return run_named(engine, options, seed, opener, streams);
     }
+    let (replies, errors) = (&mut streams.replies, &mut streams.errors);
     match script_of(alloc, options.commands.as_slice()) {
         Ok(script) => run_open(engine, options, seed, script.as_bytes(), replies, errors),
         Err(AllocError) => stop_for_memory(errors),
@@ -233,13 +205,11 @@ fn run_named<T, R, S, F, W, E>(
     options: &Options,
     seed: RunSeed,
     opener: F,
-    input: R,
-    replies: &mut W,
-    errors: &mut E,
+    streams: &mut Streams<R, W, E>,
 ) -> u8
 where
     T: RunStore,
-    R: Read + Drop,
+    R: Read,
     S: Read + Reopen + Drop,
     F: Fn(&str) -> io::Result<S>,
     W: Write,
@@ -247,14 +217,16 @@ where
     requires callable { F.IsAlwaysCallable opener }
     requires setting { setting_of T.runs engine.old ≡ setting_by (asked_by options.now).spill }
     ensures { RanNamed
-        (record {
-          input = R.remaining input;
-          remaining = S.remaining;
-          opens = λ name opened. FnReturnsAt F.Fn opener name opened;
-        })
-        (state_of T.runs engine.old) (asked_by options.now) seed (asked_by options.now).script (stream W.contents replies.old replies.new)
-        (stream E.contents errors.old errors.new) result }
+        (sources_of (R.remaining streams.old.input) S.remaining
+        (λ name opened. FnReturnsAt F.Fn opener name opened))
+        (state_of T.runs engine.old) (asked_by options.now) seed (asked_by options.now).script (stream W.contents streams.old.replies streams.new.replies)
+        (stream E.contents streams.old.errors streams.new.errors) result }
 {
+    let (input, replies, errors) = (
+        &mut streams.input,
+        &mut streams.replies,
+        &mut streams.errors,
+    );
     match options.script {
         None => run_open(engine, options, seed, input, replies, errors),
         Some(path) => match opener(path) {
@@ -288,8 +260,10 @@ where
         script,
         replies,
         errors,
-        options.stats,
-        seed,
+        Reporting {
+            stats: options.stats,
+            seed,
+        },
     )
 }
 

@@ -4,8 +4,7 @@ ghost use Rattle.gq_engine.specs.Engines.{setting_of, spent_of, state_of};
 ghost use Rattle.gq_shell.specs.Session.{EndedWith, errors_text, report_of, status_of};
 ghost use Rattle.gq_shell.specs.Streams.{stream};
 
-use crate::report::report_of;
-use crate::seeding::RunSeed;
+use crate::report::{Reporting, report_of};
 use crate::telling::tell;
 use gq_engine::{Engine, Fault, Output, RunStore, Summary};
 use gq_row::Key;
@@ -14,24 +13,23 @@ use sw_probe::KeyHash;
 
 /// Runs a script: reads it from the reader, writes what the output has of the reply to each command,
 /// and returns the exit status. `errors` gets refusals that the output leaves out, and then a fault,
-/// or the report that `stats` asks for; a fault in writing there is ignored.
+/// or the report that is asked for; a fault in writing there is ignored.
 pub fn session<H: KeyHash<Key> + Copy, S: RunStore, R: Read + Drop, W: Write, E: Write>(
     engine: &mut Engine<H, S>,
     output: Output,
     reader: R,
     writer: &mut W,
     errors: &mut E,
-    stats: bool,
-    seed: RunSeed,
+    reporting: Reporting,
 ) -> u8
     // What was written is as the engine ran, and the status says how that ended.
     ensures ended { EndedWith output (setting_of S.runs engine.old) (state_of S.runs engine.old) (R.remaining reader)
-        (state_of S.runs engine.new) (report_of stats seed (spent_of engine.new))
+        (state_of S.runs engine.new) (report_of reporting.stats reporting.seed (spent_of engine.new))
         (stream W.contents writer.old writer.new) (stream E.contents errors.old errors.new) result }
     ensures setting { setting_of S.runs engine.new ≡ setting_of S.runs engine.old }
 {
     let ended = engine.run_as(output, reader, writer, errors);
-    let report = report_of(stats, seed, engine.spent());
+    let report = report_of(reporting, engine.spent());
     let _told = tell(errors_text(&ended, report.as_str()), errors);
     status_of(&ended)
 }

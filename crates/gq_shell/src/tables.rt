@@ -9,7 +9,7 @@ ghost use Rattle.gq_infer.specs.declared.word.TableWord.{TableWord};
 ghost use Rattle.gq_infer.specs.Said.{SaysWord};
 ghost use Rattle.gq_tables.specs.Files.{is_input};
 ghost use Rattle.gq_tables.specs.Faults.{fault_text, status_of};
-ghost use Rattle.gq_shell.specs.Program.{IsRefusedWord, NOTHING, NotMade, StartedWith, Stopped, StoppedForMemory, short_by};
+ghost use Rattle.gq_shell.specs.Program.{IsRefusedWord, NOTHING, NotMade, StartedWith, Stopped, StoppedForMemory, short_by, sources_of};
 ghost use Rattle.gq_shell.specs.Reading.{HasRead};
 ghost use Rattle.gq_shell.specs.Streams.{stream};
 
@@ -44,11 +44,8 @@ where
     requires state { state_of T.runs engine.old ≡ NOTHING }
     ensures setting { setting_of T.runs engine.new ≡ setting_of T.runs engine.old }
     ensures started { OnOk result (StartedWith
-        (record {
-          input = R.remaining input.old;
-          remaining = S.remaining;
-          opens = λ name opened. FnReturnsAt F.Fn opener.now name opened;
-        })
+        (sources_of (R.remaining input.old) S.remaining
+        (λ name opened. FnReturnsAt F.Fn opener.now name opened))
         (asked_by options.now) (state_of T.runs engine.new)) }
     // The standard input is left to a script that comes from there.
     ensures input { (asked_by options.now).commands ≡ [] → (asked_by options.now).script ≡ None
@@ -56,11 +53,8 @@ where
     ensures quiet { OnOk result (errors.new ≡ errors.old) }
     ensures stopped { IfErr result (λ status. ((asked_by options.now).tables ≢ [])
         × NotMade
-        (record {
-          input = R.remaining input.old;
-          remaining = S.remaining;
-          opens = λ name opened. FnReturnsAt F.Fn opener.now name opened;
-        })
+        (sources_of (R.remaining input.old) S.remaining
+        (λ name opened. FnReturnsAt F.Fn opener.now name opened))
         (asked_by options.now) (stream E.contents errors.old errors.new) status) }
 {
     if options.tables.is_empty() {

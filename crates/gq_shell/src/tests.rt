@@ -1,9 +1,10 @@
 //! Sessions with their statuses, and the program over streams in memory.
 use crate::command_lines::{VERSION, owned};
 use crate::program::run_program;
-use crate::report::report_of;
+use crate::report::{Reporting, report_of};
 use crate::seeding::RunSeed;
 use crate::session::session;
+use crate::streams::Streams;
 use crate::telling::CutShort;
 use gq_engine::{Budget, Engine, MemStore, Output, Spent};
 use gq_options::BadLine;
@@ -30,7 +31,15 @@ fn fresh(alloc: Global, limits: Limits) -> Result<Engine<Fnv1a, MemStore>, Fail>
     ))
 }
 
-const GIVEN: RunSeed = RunSeed::Given(0);
+const QUIET: Reporting = Reporting {
+    stats: false,
+    seed: RunSeed::Given(0),
+};
+
+const REPORTED: Reporting = Reporting {
+    stats: true,
+    seed: RunSeed::Given(0),
+};
 
 /// The text that each error shows.
 #[test]
@@ -78,8 +87,7 @@ fn statuses(rt: HostRuntime) -> Result<(), Fail> {
             script,
             &mut replies,
             &mut errors,
-            false,
-            GIVEN,
+            QUIET,
         );
         assert_eq!(rt; answered, status);
         assert_eq!(rt; replies.as_slice(), due);
@@ -167,8 +175,7 @@ fn read_faults(rt: HostRuntime) -> Result<(), Fail> {
             script,
             &mut replies,
             &mut errors,
-            false,
-            GIVEN,
+            QUIET,
         );
         assert_eq!(rt; status, 3);
         assert_eq!(rt; replies.as_slice(), b"ok 0\n".as_slice());
@@ -190,8 +197,7 @@ fn write_faults(rt: HostRuntime) -> Result<(), Fail> {
             script,
             &mut replies,
             &mut errors,
-            false,
-            GIVEN,
+            QUIET,
         );
         assert_eq!(rt; status, 3);
         assert_eq!(rt; replies.written.as_slice(), b"ok 0\nok".as_slice());
@@ -225,8 +231,7 @@ fn faults_at_each_call(rt: HostRuntime) -> Result<(), Fail> {
             Broken { bytes },
             &mut replies,
             &mut errors,
-            false,
-            GIVEN,
+            QUIET,
         );
         let told = b"groupsh: read fault\n";
         assert_fault(&rt, status, replies.as_slice(), errors.as_slice(), told);
@@ -243,8 +248,7 @@ fn faults_at_each_call(rt: HostRuntime) -> Result<(), Fail> {
                 script,
                 &mut replies,
                 &mut errors,
-                false,
-                GIVEN,
+                QUIET,
             );
             let told = b"groupsh: write fault\n";
             assert_fault(
@@ -274,8 +278,7 @@ fn a_standard_error_that_takes_little(rt: HostRuntime) -> Result<(), Fail> {
                 script,
                 &mut replies,
                 &mut errors,
-                true,
-                GIVEN,
+                REPORTED,
             );
             assert_eq!(rt; status, 3);
             let told: &[u8] = b"groupsh: read fault\n";
@@ -297,8 +300,10 @@ fn run_session(alloc: Global, script: &[u8], stats: bool) -> Result<(u8, Vec<u8>
         script,
         &mut replies,
         &mut errors,
-        stats,
-        GIVEN,
+        Reporting {
+            stats,
+            seed: RunSeed::Given(0),
+        },
     );
     Ok((status, replies, errors))
 }
@@ -333,8 +338,10 @@ fn reports(rt: HostRuntime) -> Result<(), Fail> {
 #[test]
 fn long_reports(rt: HostRuntime) -> Result<(), Fail> {
     let line = report_of(
-        true,
-        RunSeed::Drawn(u64::MAX - 4),
+        Reporting {
+            stats: true,
+            seed: RunSeed::Drawn(u64::MAX - 4),
+        },
         Spent {
             rows_read: u64::MAX,
             rows_written: u64::MAX - 1,
@@ -355,8 +362,7 @@ fn long_reports(rt: HostRuntime) -> Result<(), Fail> {
         grouped(),
         &mut replies,
         &mut errors,
-        true,
-        GIVEN,
+        REPORTED,
     );
     assert_eq!(rt; status, 0);
     assert_eq!(rt; errors.written.as_slice(), b"groupsh: read ".as_slice());
@@ -414,9 +420,11 @@ fn run_with_source(
         rt,
         &source,
         opener,
-        input,
-        &mut replies,
-        &mut errors,
+        &mut Streams {
+            input,
+            replies: &mut replies,
+            errors: &mut errors,
+        },
     );
     (status, replies, errors)
 }

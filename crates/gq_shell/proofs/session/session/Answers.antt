@@ -12,7 +12,7 @@ told-front s text (Err fault) front = front
 pub returns-clause-ended : goal.returns-clause-ended
 returns-clause-ended g c =
     let text_is = c.errors_text.ensures
-    ∙ ap (λ (r : List ℕ). errors_text r c.run_as-ended.result) (c.as_str.ensures.value ∙ c.report_of-report.ensures ∙ ap (report_of c.args.stats c.args.seed) c.spent.ensures) in
+    ∙ ap (λ (r : List ℕ). errors_text r c.run_as-ended.result) (c.as_str.ensures.value ∙ c.report_of-report.ensures ∙ ap (report_of c.args.reporting.stats c.args.reporting.seed) c.spent.ensures) in
     let errors = stream g.E.Write.contents c.run_as-ended.new.errors c.tell-told.new.writer in
     record {
       ended = c.run_as-ended.result;

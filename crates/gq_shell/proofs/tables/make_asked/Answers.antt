@@ -15,9 +15,9 @@ use Rattle.gq_tables.specs.Files.{AreFiles}
 use Rattle.gq_tables.specs.Made.{AreTablesOf}
 use Rattle.gq_tables.specs.Reasons.{IsFaultOf}
 use Rattle.gq_options.specs.Words.{asked_by}
-use Rattle.gq_shell.specs.Program.{Stopped, StoppedForMemory, short_by}
+use Rattle.gq_shell.specs.Program.{sources_of, Stopped, StoppedForMemory, short_by}
 use Rattle.gq_shell.specs.Streams.{Stream}
-use Rattle.gq_shell.proofs.InputLemmas.{none_in, not_made, not_none, with_input}
+use Rattle.gq_shell.proofs.InputLemmas.{none_in, not_made, not_none}
 use Rattle.gq_shell.proofs.tables.make_asked.Goals as goal
 
 pub returns-clause-stopped : goal.returns-clause-stopped
@@ -32,15 +32,16 @@ returns-clause-stopped g c =
     let before = g.E.Write.contents c.read_words.new.errors in
     let told = subst (λ (b : Option (List ℕ)). T b ragged words) (ap g.E.Write.contents c.in_ok-words.ensures.quiet)
     (subst (λ (s : Short). T before s words) c.short_by-short.ensures
-    (subst (λ (ws : List TableWord). T before c.short_by-short.result ws) c.as_slice-in-Err.ensures.value c.stop_for_fault.ensures)) in
-    (not_none _ c.args.options.now.tables.items _ (c.is_empty.ensures ∙ ap (λ n. n == 0) c.args.options.now.tables.ok.0) c.if-is_empty.false,
-    not_made (with_input (g.R.Read.remaining c.args.input.now) g.S.Read.remaining (λ name opened. FnReturnsAt g.F.Fn c.args.opener.now name opened)) (asked_by c.args.options.now) _ status words fault c.in_ok-words.ensures.said
-    (λ contents files.
-    let asked = subst (λ (ws : List TableWord). AreFiles g.S.Read.remaining (λ name opened. FnReturnsAt g.F.Fn c.args.opener.now name opened) (g.R.Read.remaining c.args.input.now) ws contents) (sym c.as_slice.ensures.value) files in
-    subst (λ (ws : List TableWord). IsFaultOf contents ragged GREATEST ws fault) c.as_slice.ensures.value
-    (subst (λ (s : Short). IsFaultOf contents s GREATEST c.as_slice.result.now fault) c.short_by-short.ensures
-    (subst (λ (b : Bounds). IsFaultOf contents c.short_by-short.result b c.as_slice.result.now fault) c.requires.limits (c.in-Err.ensures.refused contents asked))))
-    (subst (λ (ws : List TableWord). fault.word < length ws) c.as_slice.ensures.value c.in-Err.ensures.within) told)
+    (subst (λ (ws : List TableWord). T before c.short_by-short.result ws) c.as_slice-in-Err.ensures.value c.stop_for_fault.ensures)) in (
+      not_none _ c.args.options.now.tables.items _ (c.is_empty.ensures ∙ ap (λ n. n == 0) c.args.options.now.tables.ok.0) c.if-is_empty.false,
+      not_made (sources_of (g.R.Read.remaining c.args.input.now) g.S.Read.remaining (λ name opened. FnReturnsAt g.F.Fn c.args.opener.now name opened)) (asked_by c.args.options.now) _ status words fault c.in_ok-words.ensures.said
+          (λ contents files.
+          let asked = subst (λ (ws : List TableWord). AreFiles g.S.Read.remaining (λ name opened. FnReturnsAt g.F.Fn c.args.opener.now name opened) (g.R.Read.remaining c.args.input.now) ws contents) (sym c.as_slice.ensures.value) files in
+          subst (λ (ws : List TableWord). IsFaultOf contents ragged GREATEST ws fault) c.as_slice.ensures.value
+          (subst (λ (s : Short). IsFaultOf contents s GREATEST c.as_slice.result.now fault) c.short_by-short.ensures
+          (subst (λ (b : Bounds). IsFaultOf contents c.short_by-short.result b c.as_slice.result.now fault) c.requires.limits (c.in-Err.ensures.refused contents asked))))
+          (subst (λ (ws : List TableWord). fault.word < length ws) c.as_slice.ensures.value c.in-Err.ensures.within) told,
+    )
 
 pub returns-then-is_empty-clause-started : goal.returns-then-is_empty-clause-started
 returns-then-is_empty-clause-started g c =
