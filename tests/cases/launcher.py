@@ -5,9 +5,11 @@ import re
 import shutil
 import signal
 import subprocess
+import sys
 import tempfile
 import time
 from collections.abc import Iterable
+from contextlib import suppress
 from dataclasses import dataclass
 from functools import partial
 from pathlib import Path
@@ -67,8 +69,8 @@ class Kit:
     def env(self) -> dict[str, str]:
         return {"KIT": str(self.root), "PATH": f"{self.root / 'bin'}{os.pathsep}{os.environ['PATH']}"}
 
-    def launch(self, *args: str) -> Outcome:
-        return run([self.root / "groupsh", *args], env=self.env())
+    def launch(self, *args: str, **env: str) -> Outcome:
+        return run([self.root / "groupsh", *args], env={**self.env(), **env})
 
     def touch(self, path: str) -> None:
         (self.root / path).touch()
@@ -148,6 +150,17 @@ def of_change(source: str) -> Iterable[Check]:
     yield Check(f"and once, after a change of {source}", lambda: judge(after_change(source)[1], 7, "\n"))
 
 
+def change_during_build() -> None:
+    kit = Kit()
+    touches = kit.root / "lib-touches"
+    touches.write_text("crates/gq_middle/src/late.rt")
+    judge(kit.launch(), 7, "\n", Contains("first use"))
+    assert "it finds late.rt" not in kit.log(), kit.log()
+    touches.unlink()
+    judge(kit.launch(), 7, "\n", Contains("a source changed"))
+    assert "it finds late.rt" in kit.log(), kit.log()
+
+
 def crate_apart() -> None:
     kit = built()
     kit.touch("crates/gq_apart/src/lib.rt")
@@ -164,9 +177,10 @@ def after_failure(step: str) -> tuple[Kit, Outcome, list[str]]:
     return kit, outcome, kit.log()
 
 
-def of_failure(step: str, what: str) -> Iterable[Check]:
+def of_failure(step: str, what: str, crate: str) -> Iterable[Check]:
     def says_why() -> None:
-        assert "it fails" in after_failure(step)[2]
+        log = after_failure(step)[2]
+        assert "it fails" in log and any(re.fullmatch(rf"make: .*: {crate}\] Error 1", line) for line in log), log
 
     error = Contains(f"it could not be {what}")
     yield Check(f"what can't be {what}, in {step}", lambda: judge(after_failure(step)[1], 125, "", error))
@@ -205,41 +219,86 @@ def rest_stays_proved() -> None:
     assert after_loss()[1] == sorted([proved_again, *(line for line in FROM_NOTHING if not line.startswith("it proves"))])
 
 
-def is_running(process: int) -> bool:
-    """Whether a process runs. One that has ended may still have an entry."""
-    try:
-        return Path(f"/proc/{process}/stat").read_text().rpartition(")")[2].split()[0] != "Z"
-    except FileNotFoundError:
-        return False
+def processes_in(folder: Path) -> list[str]:
+    """The numbers of the processes that work in a folder. One that has ended works in none."""
+    found = []
+    for process in Path("/proc").glob("[0-9]*"):
+        with suppress(OSError):
+            if (process / "cwd").readlink().is_relative_to(folder.resolve()):
+                found.append(process.name)
+    return found
+
+
+def processes_after_a_while(folder: Path) -> list[str]:
+    """The processes that still work in a folder after five seconds, since what they have started may end later than they do."""
+    end = time.monotonic() + 5
+    while (found := processes_in(folder)) and time.monotonic() < end:
+        time.sleep(0.05)
+    return found
+
+
+def interrupt(kit: Kit, program: str, step: str, number: signal.Signals) -> tuple[Outcome, list[str]]:
+    """A run of the launcher or the build that a signal ends while a command of `rt` runs, and the processes that go on.
+
+    SIGTERM is sent to the program alone, and the others to all its processes, as a terminal does.
+    """
+    slow = kit.root / f"{step}-slow"
+    slow.touch()
+    with tempfile.TemporaryFile() as stdout, tempfile.TemporaryFile() as stderr:
+        process = subprocess.Popen(
+            [kit.root / program],
+            env={**os.environ, **kit.env()},
+            stdin=subprocess.DEVNULL,
+            stdout=stdout,
+            stderr=stderr,
+            start_new_session=True,
+        )
+        while not slow.read_text():
+            assert process.poll() is None, f"{program} has ended"
+            time.sleep(0.05)
+        (os.kill if number == signal.SIGTERM else os.killpg)(process.pid, number)
+        status = process.wait(60)
+        slow.unlink()
+        stdout.seek(0)
+        stderr.seek(0)
+        return Outcome(status, stdout.read(), stderr.read()), processes_after_a_while(kit.root)
 
 
 @once
-def interrupted(step: str) -> tuple[Outcome, int]:
-    """A launch that is ended while a command of `rt` runs, and the number of that process."""
+def interrupted(program: str, step: str, number: signal.Signals) -> tuple[Outcome, list[str]]:
+    """A run after a change that a signal ends."""
     kit = built()
     kit.touch("crates.txt")
-    slow = kit.root / f"{step}-slow"
-    slow.touch()
-    env = {**os.environ, **kit.env()}
-    with tempfile.TemporaryFile() as stdout, tempfile.TemporaryFile() as stderr:
-        launcher = subprocess.Popen([kit.root / "groupsh"], stdin=subprocess.DEVNULL, stdout=stdout, stderr=stderr, env=env)
-        while not slow.read_text().endswith("\n"):
-            assert launcher.poll() is None, "the launcher has ended"
-            time.sleep(0.05)
-        launcher.send_signal(signal.SIGTERM)
-        status = launcher.wait(60)
-        stdout.seek(0)
-        stderr.seek(0)
-        return Outcome(status, stdout.read(), stderr.read()), int(slow.read_text())
+    return interrupt(kit, program, step, number)
 
 
-def of_interrupt(step: str) -> Iterable[Check]:
+def of_interrupt(program: str, step: str, number: signal.Signals) -> Iterable[Check]:
+    def status() -> None:
+        judge(interrupted(program, step, number)[0], 130, "", Contains("a source changed"))
+
     def nothing_goes_on() -> None:
-        assert not is_running(interrupted(step)[1])
+        left = interrupted(program, step, number)[1]
+        assert not left, left
 
-    wanted = Contains("a source changed")
-    yield Check(f"the launcher, interrupted in {step}", lambda: judge(interrupted(step)[0], 130, "", wanted))
-    yield Check(f"nothing goes on behind the launcher, in {step}", nothing_goes_on)
+    name = f"./{program}, interrupted in {step} by {number.name}"
+    yield Check(name, status)
+    yield Check(f"{name}: no process goes on", nothing_goes_on)
+
+
+@once
+def resumed() -> tuple[Outcome, list[str]]:
+    """A launch after the first one was interrupted, when all libraries were proved, and its log."""
+    kit = Kit()
+    judge(interrupt(kit, "groupsh", "run", signal.SIGTERM)[0], 130, "", Contains("proved 3 of 4 crates"))
+    return kit.launch(), kit.log()
+
+
+def resumes() -> None:
+    judge(resumed()[0], 7, "\n", Contains(ALL_PROVED))
+
+
+def proves_none_again() -> None:
+    assert resumed()[1] == sorted(line for line in FROM_NOTHING if not line.startswith("it proves")), resumed()[1]
 
 
 def folder_that_cannot_be_written() -> None:
@@ -252,6 +311,16 @@ def folder_that_cannot_be_written() -> None:
 def no_toolchain() -> None:
     kit = Kit()
     judge(run([kit.root / "groupsh"], env={"PATH": path_without("rt")}), 125, "", Contains("there is no 'rt'"))
+
+
+def no_make() -> None:
+    kit = Kit()
+    (kit.root / "bin/python3").symlink_to(sys.executable)
+    judge(run([kit.root / "build"], env={"PATH": str(kit.root / "bin")}), 125, "", Contains("there is no 'make'"))
+
+
+def make_above() -> None:
+    judge(Kit().launch(MAKEFLAGS="n", MAKELEVEL="1"), 7, "\n", Contains(ALL_PROVED))
 
 
 @once
@@ -292,17 +361,27 @@ CASES = [
         for source in ("crates/gq_shell/src/main.rt", "crates/gq_low/src/lib.rt", "crates.txt")
         for check in of_change(source)
     ],
+    Check("a source that changes during a build is left to the next", change_during_build),
     Check("a crate apart makes no build", crate_apart),
-    *of_failure("lib", "proved"),
-    *of_failure("run", "proved and built"),
+    *of_failure("lib", "proved", "gq_low"),
+    *of_failure("run", "proved and built", "gq_shell"),
     Check("the launcher, after copies were left", after_copies_were_left),
     Check("no place for copies", no_place_for_copies),
     Check("the launcher, where one library is gone", library_is_gone),
     Check("what is proved stays so, and what is not begins with what was kept", rest_stays_proved),
-    *of_interrupt("lib"),
-    *of_interrupt("run"),
+    *[
+        check
+        for program in ("groupsh", "build")
+        for number in (signal.SIGINT, signal.SIGTERM, signal.SIGHUP)
+        for check in of_interrupt(program, "lib", number)
+    ],
+    *of_interrupt("groupsh", "run", signal.SIGTERM),
+    Check("an interrupted build resumes", resumes),
+    Check("what was proved before the interrupt stays so", proves_none_again),
     Check("a folder that can't be written", folder_that_cannot_be_written),
     Check("no toolchain", no_toolchain),
+    Check("no make", no_make),
+    Check("the options of a make above are left out", make_above),
     Check("./try runs the program on files with absolute names", try_runs_program),
     Check("./try has the errors of the program and no other", try_has_errors_of_program),
 ]
