@@ -1,4 +1,4 @@
--- Results of reading, and what a function answers that reads within memory.
+-- Results of reading, and what a function returns that reads within memory.
 use Rattle.std.specs.Prelude.{◌≡◌, ◌⊎◌, Result, Ok, Err}
 use Rattle.gq_load.specs.declared.load_refusal.LoadRefusal.{LoadRefusal}
 use Rattle.gq_load.specs.declared.load_refusal.LoadRefusal.TheVariants.{Memory}
@@ -9,7 +9,7 @@ abbrev pub ◌>>=◌ : {A B : Type 0} → Result A LoadRefusal → (A → Result
 (Ok x) >>= f = f x
 (Err e) >>= f = Err e
 
--- what a function answered, seen by view, is what reading gives, unless memory ran out
+-- what a function returned, seen by view, is what reading gives, unless memory ran out
 abbrev pub Gives : {X Y : Type 0} → (X → Y) → Result X LoadRefusal → Result Y LoadRefusal → Type 0
 Gives view (Ok x) read = read ≡ Ok (view x)
 Gives view (Err e) read = (e ≡ Memory) ⊎ (read ≡ Err e)

@@ -14,19 +14,19 @@ use Rattle.gq_load.specs.Answers.{◌>>=◌}
 use Rattle.gq_load.specs.Payloads.{completed, rows_from, at_most}
 use Rattle.gq_load.specs.Unread.{IsReading, unread}
 
--- the rows of the data records that are left, or their first fault, for a table of this schema, where the payload's bytes are known; and how many rows may come at most
+-- the rows of the data records that are left, or their first fault, for a table of this schema, if the payload's bytes are known; and how many rows may come at most
 pub record Coming : Type 0 where
   pub schema : PlainSchema
   pub rows : Option (Result (List (List Value)) LoadRefusal)
   pub room : ℕ
 
--- the rows of records, of which the first has this number, where they are at most so many; a fault of a record goes before
+-- the rows of records, the first of which has this number, if there are at most `most`; a fault of a record goes before
 unfoldable pub rows_left : PlainSchema → ℕ → ℕ → List ℕ → ℕ → List (List (List ℕ)) → Result (List (List Value)) LoadRefusal
 rows_left schema text most places number others = do
   rows ← rows_from schema text places number others
   at_most most rows
 
--- the data records that a reader has left, as they are read under a header of the given number of fields, where they are known
+-- the data records that a reader has left, read under a header of the given number of fields, if they are known
 abbrev pub data_left : {R : Type 0} → (R → Option (List ℕ)) → Short → ℕ → Reader R → Option (List (List (List ℕ)))
 data_left remaining short count reader = option_map (map (completed short count)) (unread remaining reader)
 
@@ -51,17 +51,17 @@ abbrev pub fault_of : Result (List (List Value)) LoadRefusal → Option LoadRefu
 fault_of (Ok rows) = None
 fault_of (Err fault) = Some fault
 
--- a fault is a refusal of this kind, for which want of memory may stand, or a read that failed
+-- a fault is a refusal of this kind, out of memory, or a read that failed
 abbrev pub Faulted : (LoadRefusal → Type 0) → RowFault → Type 0
 Faulted Told (fault.Refused why) = (why ≡ Memory) ⊎ Told why
 Faulted Told fault.Read = Unit {0}
 
--- the refusal for a fault, where no read fails but for want of memory
+-- the refusal for a fault, if reads fail only out of memory
 abbrev pub refusal_in : RowFault → LoadRefusal
 refusal_in (fault.Refused why) = why
 refusal_in fault.Read = Memory
 
--- a fault of reading, where it is known what reading gives
+-- a fault of reading, if it is known what reading gives
 abbrev pub IsFaultOf : {A : Type 0} → Option (Result A LoadRefusal) → RowFault → Type 0
 IsFaultOf read fault = Faulted (λ why. IfSome read (λ given. given ≡ Err why)) fault
 
@@ -77,7 +77,7 @@ pub record Came {R : Type 0} (remaining : R → Option (List ℕ)) (short : Shor
   pub reading : IsReading new
   pub under : given + 1 ≤ bounds.rows
 
--- what reading the next row came to: there was one, there is none left, or it is the first fault of those that are left
+-- what reading the next row gave: a row, the end, or the first fault of the rows that are left
 abbrev pub IsNext : {R : Type 0} → (R → Option (List ℕ)) → Short → PlainSchema → Bounds → List ℕ → ℕ → Reader R → List Value → Reader R → Result Bool RowFault → Type 0
 IsNext remaining short schema bounds places given old row new (Ok true) = Came remaining short schema bounds places given old row new
 IsNext remaining short schema bounds places given old row new (Ok false) = IfSome (rows_coming remaining short schema bounds places given old) (λ read. read ≡ Ok [])

@@ -21,7 +21,7 @@ is_null_field kind.Int field = (length field == 0) || bytes_eq field null_field
 is_null_field kind.Text field = bytes_eq field null_field
 is_null_field kind.NoCase field = bytes_eq field null_field
 
--- the value of a field that isn't null: a whole number, or a text of at most so many bytes; the record's number stands in the fault
+-- the value of a field that isn't null: a whole number, or a text of at most the given number of bytes; a fault carries the record's number
 abbrev pub int_value : ℕ → Option ℤ → Result Value LoadRefusal
 int_value number None = Err (BadInt number)
 int_value number (Some z) = Ok (Int z)
@@ -32,7 +32,7 @@ text_value longest number field =
     else if nat_lt longest (length field) then Err Limit
     else Ok (Text field)
 
--- of a column of texts without case that of a text, without case and as it is written
+-- in a column of texts without case: that of a text, without case and spelled as it is written
 abbrev pub value_by : ℕ → ℕ → Kind → List ℕ → Result Value LoadRefusal
 value_by longest number kind.Int field = int_value number (int_of field)
 value_by longest number kind.Text field = text_value longest number field

@@ -1,4 +1,4 @@
--- Rows that may stand in a table.
+-- Rows that a table may hold.
 use Rattle.std.specs.Prelude.{◌≤◌, IsTrue, not, List, length}
 use Rattle.std.specs.List.{list_all}
 use Rattle.gq_row.specs.declared.value.Value.{Value}

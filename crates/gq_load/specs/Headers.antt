@@ -6,7 +6,7 @@ use Rattle.gq_row.specs.Repeats.{no_repeats}
 use Rattle.gq_load.specs.declared.load_refusal.LoadRefusal.{LoadRefusal}
 use Rattle.gq_load.specs.declared.load_refusal.LoadRefusal.TheVariants.{Header}
 
--- whether columns are all of so many, each once
+-- whether columns are all of the given number of columns, each once
 abbrev pub are_all : ℕ → List ℕ → Bool
 are_all count places = (length places == count) && no_repeats nat_eq places
 
@@ -14,7 +14,7 @@ abbrev pub all_columns : ℕ → Option (List ℕ) → Result (List ℕ) LoadRef
 all_columns count None = Err Header
 all_columns count (Some places) = if are_all count places then Ok places else Err Header
 
--- the columns that a header's names stand for, in the payload's order: all of the table's, each once
+-- the columns that a header names, in the payload's order: all of the table's, each once
 unfoldable pub places_of : List Column → List (List ℕ) → Result (List ℕ) LoadRefusal
 places_of columns names = all_columns (length columns) (positions_of columns names)
 

@@ -1,4 +1,4 @@
--- What the definitions come to, in the subject's own words.
+-- What the definitions mean, in the subject's own words.
 use Rattle.std.specs.Prelude.{◌≡◌, ◌+◌, ◌<◌, ◌⊎◌, ◌++◌, ◌∷◌, ◌==◌, ℕ, ℤ, Bool, true, false, List, [], length, Ok, Err, IsOk, IsTrue, Some, codes, slice_index_or}
 use Rattle.std.specs.List.{list_all}
 use Rattle.std.specs.Str.{all_ascii_digits}
@@ -19,7 +19,7 @@ use Rattle.gq_load.specs.Headers.{places_of}
 use Rattle.gq_load.specs.Numbers.{int_of, is_filled, is_space, signed}
 use Rattle.gq_load.specs.Payloads.{arranged, load, row_of, rows_from}
 
--- a header that is taken has as many names as the table has columns; each is a column's, and the value of the field under it stands in that column
+-- a header that is taken has as many names as the table has columns; each is a column's, and the value of the field under it is in that column
 pub record StandsUnderItsName : Type 0 where
   pub many : (columns : List Column) (names : List (List ℕ)) (places : List ℕ) → places_of columns names ≡ Ok places → length places ≡ length columns
   pub under : (columns : List Column) (names : List (List ℕ)) (places : List ℕ) (values : List Value) (i place : ℕ) → places_of columns names ≡ Ok places → length values ≡ length names → i < length names
@@ -47,7 +47,7 @@ abbrev pub are_even : List (List (List ℕ)) → Bool
 are_even [] = true
 are_even (names ∷ others) = list_all (λ fields. length fields == length names) others
 
--- where each record of a payload has as many fields as the header, completing short ones changes nothing
+-- if each record of a payload has as many fields as the header, completing short ones changes nothing
 abbrev pub CompletesShortOnly : Type 0
 CompletesShortOnly = (schema : PlainSchema) (bounds : Bounds) (bytes : List ℕ) → IsTrue (are_even (records default_config (strip_bom bytes))) → load Completed schema bounds bytes ≡ load Refused schema bounds bytes
 
@@ -81,7 +81,7 @@ pub record SpellsInt (field : List ℕ) (z : ℤ) : Type 0 where
   pub number : SpellsNumber piece z
   pub after : list_all is_space back ≡ true
 
--- a field is read as a number exactly where it spells that number
+-- a field is read as a number exactly if it spells that number
 pub record ReadsInts : Type 0 where
   pub sound : (field : List ℕ) (z : ℤ) → int_of field ≡ Some z → SpellsInt field z
   pub whole : (field : List ℕ) (z : ℤ) → SpellsInt field z → int_of field ≡ Some z

@@ -16,7 +16,7 @@ is_filled (b ∷ bs) = true
 abbrev pub signed : Bool → ℕ → Option ℤ
 signed negative n = if negative then (if nat_le n (2 ^ 63) then Some (neg_ℤ (pos n)) else None) else (if nat_lt n (2 ^ 63) then Some (pos n) else None)
 
--- one or more digits behind a sign
+-- one or more digits after a sign
 abbrev pub of_digits : Bool → List ℕ → Option ℤ
 of_digits negative digits = if is_filled digits && all_ascii_digits digits then signed negative (digits_value 10 digits) else None
 
@@ -31,6 +31,6 @@ int_of field =
     let end = prefix_len (λ b. not (is_space b)) body in
     if list_all is_space (drop end body) then number_of (take end body) else None
 
--- one or more digits, where their number is below 2^64
+-- one or more digits, if their number is below 2^64
 abbrev pub magnitude : List ℕ → Option ℕ
 magnitude digits = if is_filled digits && all_ascii_digits digits && nat_lt (digits_value 10 digits) (2 ^ 64) then Some (digits_value 10 digits) else None

@@ -1,4 +1,4 @@
--- What the records of a payload come to.
+-- What the records of a payload mean.
 use Rattle.std.specs.Prelude.{ℕ, Bool, true, false, ◌+◌, ◌-◌, ◌==◌, nat_lt, List, [], ◌∷◌, ◌++◌, length, map, replicate, Result, Ok, Err, if◌then◌else◌, slice_index_or}
 use Rattle.std.specs.List.{range_with_len}
 use Rattle.csv.specs.Reading.{records, default_config, strip_bom}
@@ -31,7 +31,7 @@ values_of longest number (kind ∷ kinds) (field ∷ fields) = do
   values ← values_of longest number kinds fields
   Ok (value ∷ values)
 
--- the value of a column, where values stand for columns at these places
+-- the value of a column, given the values of the columns at these places
 abbrev pub value_in : List ℕ → List Value → ℕ → Value
 value_in [] values column = Null
 value_in (place ∷ places) [] column = Null
@@ -59,7 +59,7 @@ row_of schema longest places number fields =
       keyed schema.key number cells)
     else Err (FieldCount number)
 
--- the rows of data records, of which the first has this number, or the fault of the first faulty one
+-- the rows of data records, the first of which has this number, or the fault of the first faulty one
 unfoldable pub rows_from : PlainSchema → ℕ → List ℕ → ℕ → List (List (List ℕ)) → Result (List (List Value)) LoadRefusal
 rows_from schema longest places number [] = Ok []
 rows_from schema longest places number (fields ∷ others) = do
@@ -67,11 +67,11 @@ rows_from schema longest places number (fields ∷ others) = do
   rows ← rows_from schema longest places (number + 1) others
   Ok (row ∷ rows)
 
--- at most so many rows
+-- at most the given number of rows
 abbrev pub at_most : ℕ → List (List Value) → Result (List (List Value)) LoadRefusal
 at_most most rows = if nat_lt most (length rows) then Err Limit else Ok rows
 
--- the rows of all data records, where they are at most so many; a fault of a record goes before
+-- the rows of all data records, if there are at most `most`; a fault of a record goes before
 unfoldable pub data_rows : PlainSchema → ℕ → ℕ → List ℕ → List (List (List ℕ)) → Result (List (List Value)) LoadRefusal
 data_rows schema text most places others = do
   rows ← rows_from schema text places 1 others
@@ -93,7 +93,7 @@ rows_of short schema bounds (names ∷ others) = do
 abbrev pub load : Short → PlainSchema → Bounds → List ℕ → Result (List (List Value)) LoadRefusal
 load short schema bounds bytes = rows_of short schema bounds (records default_config (strip_bom bytes))
 
--- rows and one more, where there is room for it
+-- rows and one more, if there is room for it
 abbrev pub kept : List (List Value) → List Value → Bool → List (List Value)
 kept rows row false = rows
 kept rows row true = rows ++ row ∷ []

@@ -11,11 +11,11 @@ use gq_row::{Kind, Value};
 use std::alloc::Global;
 use std::str;
 
-/// What stands for null in every column.
+/// The field that is null in every column.
 pub(crate) const NULL: &[u8] = b"\\N";
 
-/// Writes the value of a field in a column of a kind over another value; a text over a text of the
-/// same kind, in its memory where that is enough. A text has at most `longest` bytes; `number` is that of the record.
+/// Writes the value of a field in a column of a kind over another value; a text reuses the memory of a
+/// text of the same kind. A text has at most `longest` bytes; `number` is that of the record.
 #[tactic(auto, unfolding(crate::specs::Fields::value_of))]
 pub(crate) fn write_value(
     alloc: Global,

@@ -9,8 +9,7 @@ use gq_row::Column;
 use std::alloc::Global;
 use std::marker::Model;
 
-/// The header of a payload, seen as the list of the columns that its fields name: positions from 0
-/// on, each column's once.
+/// The header of a payload, seen as the list of the columns that its fields name: each position once.
 #[derive(Drop)]
 pub(crate) struct Header {
     places: Vec<usize>,
@@ -33,7 +32,7 @@ impl Header {
     ghost use Rattle.gq_load.specs.Answers.{Gives};
     ghost use Rattle.gq_load.specs.Headers.{EachOnce, places_of};
 
-    /// The header that a record is, for a table of these columns.
+    /// The header that a record is for a table of these columns.
     pub(crate) fn of(
         alloc: Global,
         columns: &[Column],
@@ -81,7 +80,7 @@ fn position(columns: &[Column], name: &[u8]) -> Option<usize>
         .position(|column| column.name.as_str().as_bytes() == name)
 }
 
-/// A field of a record; no bytes where the record has no such field.
+/// A field of a record; no bytes if the record has no such field.
 pub(crate) fn field(byte_record: &ByteRecord, i: usize) -> &[u8]
     ensures { result.now ≡ slice_index_or (fields_of byte_record.now) i [] }
 {

@@ -1,14 +1,14 @@
-//! Laws: what the definitions come to, in the subject's own words. Each is the contract of a
-//! function that does nothing.
+//! Laws: what the definitions mean, in the subject's own words. Each is the contract of a function
+//! that does nothing.
 ghost use Rattle.gq_load.specs.Laws.{CompletesShortOnly, ReadsInts, ReadsNulls, ReadsRecords, StandsUnderItsName};
 
-/// The value of a field stands in the column that the header names above it.
+/// The value of a field is in the column that the header names above it.
 pub fn stands_under_its_name()
     ensures { StandsUnderItsName }
 {}
 
-/// Data records have one row each, in their order; or the fault is that of the first faulty record,
-/// with its number.
+/// Each data record gives one row, in order; or the fault is that of the first faulty record, with its
+/// number.
 pub fn reads_records()
     ensures { ReadsRecords }
 {}
@@ -19,13 +19,13 @@ pub fn reads_nulls()
     ensures { ReadsNulls }
 {}
 
-/// Where each data record has as many fields as the header, completing short records changes nothing.
+/// If each data record has as many fields as the header, completing short records changes nothing.
 pub fn completes_short_only()
     ensures { CompletesShortOnly }
 {}
 
-/// A field is read as a number exactly where it is spaces, an optional sign, digits and spaces, and
-/// the number fits 64 bits.
+/// A field is read as a number exactly if it is spaces, an optional sign, digits and spaces, and the
+/// number fits 64 bits.
 pub fn reads_ints()
     ensures { ReadsInts }
 {}

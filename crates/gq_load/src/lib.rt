@@ -1,17 +1,17 @@
 //! CSV payloads as rows of a table: the rows, or the first fault.
 //!
 //! A payload is the bytes of a CSV text: a header that names each column of the table once, in any
-//! order, and then one record for each row. Which records a text has is the `csv` crate's matter,
-//! read as RFC 4180 says; what they mean is this crate's: which column a field belongs
-//! to, when it is null, which numbers and texts there are, and which fault comes first. A row's
-//! values are in the order of the table's columns.
+//! order, and then one record for each row. The `csv` crate splits a text into records, as RFC 4180
+//! says; this crate says what they mean: which column a field belongs to, when it is null, which
+//! numbers and texts there are, and which fault comes first. A row's values are in the order of the
+//! table's columns.
 //!
 //! The contract above this crate is that of [`RowReader`], by which the engine loads. It gives the
 //! rows of a payload one by one, from any reader, or a fault. If the reader's bytes are known, these
 //! are the rows and the fault that `load` of `specs/Payloads.antt` gives, unless memory was refused.
 //! The rows always fit their table, have no null in its key and are no more than the limit.
 //! [`load_rows`] returns the same rows at once, of bytes in memory; only tests call it. The laws in
-//! [`laws`] say in the subject's own words what `load` amounts to.
+//! [`laws`] say in the subject's own words what `load` means.
 #![tactic(auto)]
 
 mod field;

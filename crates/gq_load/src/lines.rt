@@ -1,12 +1,11 @@
-//! How many lines there are in bytes.
+//! The number of lines in bytes.
 ghost use Rattle.std.specs.Prelude.{◌≡◌, ◌≤◌, ◌==◌, length, count_by};
 
-// So many bytes are counted at once, in a number of one byte: so the compiler takes sixteen in one
-// step.
+// How many bytes are counted at once: their count fits one byte, so the compiler compares sixteen in
+// one step.
 const PIECE: usize = 240;
 
-/// The number of line feeds: with a header before them, data records that each end in one are no
-/// more than that.
+/// The number of line feeds. A payload with one line for each record has at most this many data records.
 pub fn line_ends(bytes: &[u8]) -> usize
     ensures { result ≡ count_by (λ byte. byte == 10) bytes.now }
 {

@@ -66,7 +66,7 @@ fn is_negative(piece: &[u8]) -> bool
     !piece.is_empty() && piece[0] == b'-'
 }
 
-/// What stands behind a sign; all where there is none.
+/// What follows a sign, or all if there is no sign.
 fn without_sign(piece: &[u8]) -> &[u8]
     ensures { result.now ≡ without_leading_sign piece.now }
 {
@@ -77,10 +77,10 @@ fn without_sign(piece: &[u8]) -> &[u8]
     }
 }
 
-// Numbers of so many digits are below 2^64.
+// Numbers with at most this many digits are below 2^64.
 const FEW: usize = 19;
 
-/// The number that one or more digits spell, where it is below 2^64.
+/// The number that one or more digits spell, if it is below 2^64.
 fn magnitude(digits: &[u8]) -> Option<u64>
     ensures { result ≡ magnitude digits.now }
 {
@@ -110,7 +110,7 @@ fn few_digits(digits: &[u8]) -> Option<u64>
     Some(value)
 }
 
-/// The number that more digits spell, where it is below 2^64.
+/// The number that more digits spell, if it is below 2^64.
 #[tactic(auto, using(crate::proofs::Numbers::filled_by_length))]
 fn many_digits(digits: &[u8]) -> Option<u64>
     requires { 19 < length digits.now }

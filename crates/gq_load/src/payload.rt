@@ -13,15 +13,13 @@ use crate::short_records::Short;
 use gq_row::{Limits, Row, Schema, Sequence};
 use std::alloc::Global;
 
-/// The rows of a payload for a table of this schema, or its first fault. The payload is the bytes
-/// of a CSV text, of which one UTF-8 byte-order mark at the front is dropped; the rows come in the
-/// order of its records, their values in the order of the schema's columns.
+/// The rows of a payload for a table of this schema, in the order of its records, or its first fault.
+/// One UTF-8 byte-order mark at the start is dropped.
 ///
-/// Of `limits` two bounds are kept: the bytes of a text, and the number of data records, counted
-/// before equal keys fall together. Of several faults the first is answered: the header's, then
-/// those of the first faulty record (the number of its fields, its fields in the payload's order,
-/// null in a key column), and too many records last. `Memory` is answered where a request for
-/// memory was refused, and may stand in the place of any other answer.
+/// Two bounds of `limits` are kept: the bytes of a text, and the number of data records, equal keys or
+/// not. Faults come in this order: the header; in the first faulty record the number of its fields, its
+/// fields in the payload's order, and null in a key column; too many records. `Memory` may be returned
+/// instead of any of these.
 pub fn load_rows(
     alloc: Global,
     bytes: &[u8],
@@ -39,7 +37,7 @@ pub fn load_rows(
     rows_of(alloc, room, &mut reader)
 }
 
-/// All rows that are yet to come. `room` rows are taken memory for at once.
+/// All rows that are yet to come, in a list that has room for `room` rows from the start.
 fn rows_of(
     alloc: Global,
     room: usize,
@@ -59,7 +57,7 @@ fn rows_of(
     Err(LoadRefusal::Memory)
 }
 
-/// The refusal for a fault: bytes in memory are read without fail, but for want of memory.
+/// The refusal for a fault. A read of bytes in memory fails only if memory runs out.
 fn refusal_of(fault: RowFault) -> LoadRefusal
     ensures { result ≡ refusal_in fault }
 {

@@ -13,7 +13,7 @@ use csv::{ByteRecord, Reader, ReaderBuilder, Trim};
 use std::alloc::Global;
 use std::io::Read;
 
-/// A reader of a payload, whose records are taken as they are.
+/// A reader of a payload's records, the header among them, whatever their lengths, with all spaces.
 pub fn payload_reader<R: Read>(alloc: Global, payload: R) -> Reader<R>
     ensures reading { IsReading result }
     ensures unread { unread R.remaining result
@@ -26,7 +26,7 @@ pub fn payload_reader<R: Read>(alloc: Global, payload: R) -> Reader<R>
         .from_reader(alloc, payload)
 }
 
-/// Reads the next record into `byte_record`; false where there is none.
+/// Reads the next record into `byte_record`; false if there is none.
 pub fn read_next<R: Read>(
     reader: &mut Reader<R>,
     byte_record: &mut ByteRecord,
@@ -43,7 +43,7 @@ pub fn read_next<R: Read>(
     }
 }
 
-// The fault that an error of the records' reader is: a failed read, or want of memory.
+// An error of the records' reader as a fault: a failed read, or out of memory.
 fn read_fault(error: &csv::Error) -> RowFault
     ensures { result ≡ (if is_io (error_kind error.now) then fault.Read else fault.Refused refusal.Memory) }
 {

@@ -1,49 +1,38 @@
 //! Data records as rows.
-ghost use Rattle.std.specs.Prelude.{◌≡◌, ◌<◌, ◌≤◌, ◌==◌, All, IfOk, IsTrue, length, slice_index_or};
+ghost use Rattle.std.specs.Prelude.{◌≡◌, ◌≤◌, ◌==◌, IfOk, length, slice_index_or};
 ghost use Rattle.csv.specs.Records.{fields_of};
 ghost use Rattle.gq_load.specs.Answers.{Gives};
 ghost use Rattle.gq_load.specs.Fields.{null_field};
-ghost use Rattle.gq_load.specs.Headers.{are_all};
 ghost use Rattle.gq_load.specs.Payloads.{cells_of, completed, row_of};
 
 use crate::field::{NULL, write_value};
-use crate::header::Header;
 use crate::load_refusal::LoadRefusal;
 use crate::row_format::RowFormat;
 use crate::short_records::Short;
 use csv::ByteRecord;
-use gq_row::{Column, Row, Value};
+use gq_row::{Row, Value};
 use std::alloc::{AllocError, Global};
 
-/// The row of a data record. `number` is that of the record; the row takes the memory of `spare`, where that is enough.
+/// The row of the data record with this number. It reuses the memory of `spare`.
 #[tactic(auto, unfolding(crate::specs::Payloads::row_of, crate::specs::Payloads::keyed))]
 #[inline(always)]
 pub(crate) fn row_of(
     alloc: Global,
     format: &RowFormat<'_>,
-    header: &Header,
     number: u64,
     byte_record: &ByteRecord,
     spare: Vec<Value>,
 ) -> Result<Row, LoadRefusal>
-    requires { length header.now ≡ length format.now.schema.now.columns }
+    requires { length format.now.header ≡ length format.now.schema.now.columns }
     ensures { Gives (λ row. row) result
-        (row_of format.now.schema.now format.now.limits.now.bounds.text header.now number
-        (completed format.now.short (length header.now) (fields_of byte_record.now))) }
+        (row_of format.now.schema.now format.now.limits.now.bounds.text format.now.header number
+        (completed format.now.short (length format.now.header) (fields_of byte_record.now))) }
 {
-    let places = header.places();
+    let places = format.header.places();
     if !is_whole(format.short, places.len(), byte_record) {
         return Err(LoadRefusal::FieldCount(number));
     }
-    let cells = cells_of(
-        alloc,
-        format.schema.columns(),
-        format.limits.bounds.text,
-        places,
-        number,
-        byte_record,
-        spare,
-    )?;
+    let cells = cells_of(alloc, format, number, byte_record, spare)?;
     let row = Row::new(cells);
     if row.has_null(format.schema.key()) {
         Err(LoadRefusal::NullKey(number))
@@ -52,7 +41,7 @@ pub(crate) fn row_of(
     }
 }
 
-/// Whether a record has a field for each of the header's, be it by fields that complete it.
+/// Whether a record has a field for each of the header's, once it is completed.
 fn is_whole(short: Short, count: usize, byte_record: &ByteRecord) -> bool
     ensures { result ≡ (length (completed short count (fields_of byte_record.now)) == count) }
 {
@@ -62,25 +51,26 @@ fn is_whole(short: Short, count: usize, byte_record: &ByteRecord) -> bool
     }
 }
 
-/// The values of a record's fields, each made once, in its column's place, and null where it has
-/// no field. A header's places are those of all columns, so each value of `spare` is written over.
+/// The values of a record's fields, each written to its column's place, and null if the record has no
+/// such field. A header names all columns, so each value of `spare` is overwritten.
 fn cells_of(
     alloc: Global,
-    columns: &[Column],
-    longest: usize,
-    places: &[usize],
+    format: &RowFormat<'_>,
     number: u64,
     byte_record: &ByteRecord,
     spare: Vec<Value>,
 ) -> Result<Vec<Value>, LoadRefusal>
-    requires within { All (λ place. place < length columns.now) places.now }
-    requires all { IsTrue (are_all (length columns.now) places.now) }
-    requires count { length (fields_of byte_record.now) ≤ length places.now }
-    ensures size { IfOk result (λ v. length v.items ≡ length columns.now) }
+    requires whole { length format.now.header ≡ length format.now.schema.now.columns }
+    requires count { length (fields_of byte_record.now) ≤ length format.now.header }
+    ensures size { IfOk result (λ v. length v.items ≡ length format.now.schema.now.columns) }
     ensures cells { Gives (λ v. v.items) result
-        (cells_of longest number columns.now places.now
-        (completed Short.Completed (length places.now) (fields_of byte_record.now))) }
+        (cells_of format.now.limits.now.bounds.text number format.now.schema.now.columns
+        format.now.header
+        (completed Short.Completed (length format.now.header) (fields_of byte_record.now))) }
 {
+    let columns = format.schema.columns();
+    let places = format.header.places();
+    let longest = format.limits.bounds.text;
     let mut cells = so_many(spare, columns.len())?;
     for i in 0..places.len() {
         let place = places[i];
@@ -96,7 +86,7 @@ fn cells_of(
     Ok(cells)
 }
 
-/// A field of a record; the null field where the record has no such field.
+/// A field of a record; the null field if the record has no such field.
 fn field_or_null(byte_record: &ByteRecord, i: usize) -> &[u8]
     ensures { result.now ≡ slice_index_or (fields_of byte_record.now) i null_field }
 {
@@ -106,7 +96,7 @@ fn field_or_null(byte_record: &ByteRecord, i: usize) -> &[u8]
     }
 }
 
-/// So many values, whichever they are, in the memory of `values`, where that is enough.
+/// `count` unspecified values, in the memory of `values` if that is enough.
 fn so_many(mut values: Vec<Value>, count: usize) -> Result<Vec<Value>, AllocError>
     ensures { IfOk result (λ v. length v.items ≡ count) }
 {

@@ -10,7 +10,7 @@ pub enum RowFault {
     /// The payload is refused.
     #[error(transparent)]
     Refused(LoadRefusal),
-    /// A read of the payload's bytes failed. In memory none does.
+    /// A read of the payload's bytes failed, which none does in memory.
     #[error("a read failed")]
     Read,
 }

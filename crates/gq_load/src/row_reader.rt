@@ -20,14 +20,13 @@ use std::io::Read;
 use std::marker::Model;
 use std::mem;
 
-/// A reader of a payload that gives a row for each data record, seen as the rows that are yet to
-/// come, or their first fault, where the payload's bytes are known, and as the number of rows that
-/// may come at most. The bytes are read piece by piece, and no row is kept.
+/// A reader that gives a row for each data record of a payload, piece by piece, and keeps none. Seen as
+/// the rows that are yet to come or their first fault, if the payload's bytes are known, and as the
+/// number of rows that may come at most.
 #[derive(Drop)]
 pub struct RowReader<'a, R: Read> {
     alloc: Global,
     format: RowFormat<'a>,
-    header: Header,
     reader: Reader<R>,
     byte_record: ByteRecord,
     given: u64,
@@ -43,11 +42,11 @@ impl<'a, R: Read> Model for RowReader<'a, R> {
     ghost view = { λ r. record {
       schema = r.format.schema.now;
       rows = unless_over r.is_over
-          (rows_coming R.remaining r.format.short r.format.schema.now r.format.limits.now.bounds r.header r.given r.reader);
+          (rows_coming R.remaining r.format.short r.format.schema.now r.format.limits.now.bounds r.format.header r.given r.reader);
       room = if r.is_over then 0 else r.format.limits.now.bounds.rows - r.given;
     } };
 
-    ghost invariant = { λ r. (length r.header ≡ length r.format.schema.now.columns)
+    ghost invariant = { λ r. (length r.format.header ≡ length r.format.schema.now.columns)
         × IsUnder r.is_over r.given r.format.limits.now.bounds.rows r.reader };
 }
 
@@ -57,8 +56,8 @@ impl<'a, R: Read + Drop> RowReader<'a, R> {
     ghost use Rattle.gq_load.specs.Coming.{BeginWith, IsFaultOf};
     ghost use Rattle.gq_load.specs.Payloads.{load};
 
-    /// A reader of the rows of a payload for a table of this schema. `Header` where the first
-    /// record does not name each column once, or there is none; `Memory` for want of memory.
+    /// A reader of the rows of a payload for a table of this schema. `Header` if the first record
+    /// doesn't name each column once, or there is no record.
     pub fn new(
         alloc: Global,
         payload: R,
@@ -80,11 +79,11 @@ impl<'a, R: Read + Drop> RowReader<'a, R> {
             schema,
             limits,
             short,
+            header,
         };
         Ok(RowReader {
             alloc,
             format,
-            header,
             reader,
             byte_record,
             given: 0,
@@ -92,9 +91,8 @@ impl<'a, R: Read + Drop> RowReader<'a, R> {
         })
     }
 
-    /// Reads the next row into `row`, which gives its memory for it, and tells whether there was
-    /// one. A refusal is the first fault of the payload, or `Memory` for want of memory. After a
-    /// fault no more rows come.
+    /// Reads the next row into `row`, whose memory it reuses, and returns whether there was one. A
+    /// refusal is the payload's first fault, or `Memory`. After a fault no more rows come.
     pub fn read(&mut self, row: &mut Row) -> Result<bool, RowFault>
         ensures schema { self.new.schema ≡ self.old.schema }
         ensures given { IfOk result (λ found. found ≡ true →
@@ -118,7 +116,6 @@ impl<'a, R: Read + Drop> RowReader<'a, R> {
         if !next_row(
             self.alloc,
             &self.format,
-            &self.header,
             self.given,
             &mut self.reader,
             &mut self.byte_record,
@@ -132,8 +129,8 @@ impl<'a, R: Read + Drop> RowReader<'a, R> {
     }
 }
 
-// Reads the first record, whose fields name the columns. `Header` where they don't, each once, or there
-// is none.
+// Reads the first record, whose fields name the columns. `Header` if they don't name each once, or there
+// is no record.
 #[tactic(auto, unfolding(crate::specs::Payloads::rows_of, crate::specs::Headers::places_of, crate::specs::Payloads::data_rows, crate::specs::Coming::rows_left))]
 fn read_header<R: Read>(
     alloc: Global,
@@ -161,21 +158,20 @@ fn read_header<R: Read>(
     }
 }
 
-// Reads the next record's row into `row`, after the given number, and tells whether there was one.
+// Reads the next record's row into `row`, after `given` rows, and returns whether there was one.
 fn next_row<R: Read>(
     alloc: Global,
     format: &RowFormat<'_>,
-    header: &Header,
     given: u64,
     reader: &mut Reader<R>,
     byte_record: &mut ByteRecord,
     row: &mut Row,
 ) -> Result<bool, RowFault>
     requires reading { IsReading reader.old }
-    requires whole { length header.now ≡ length format.now.schema.now.columns }
+    requires whole { length format.now.header ≡ length format.now.schema.now.columns }
     requires under { given ≤ format.now.limits.now.bounds.rows }
     ensures { IsNext R.remaining format.now.short format.now.schema.now format.now.limits.now.bounds
-        header.now given reader.old row.new reader.new result }
+        format.now.header given reader.old row.new reader.new result }
 {
     if !read_next(reader, byte_record)? {
         return Ok(false);
@@ -184,40 +180,39 @@ fn next_row<R: Read>(
         return Err(RowFault::Refused(LoadRefusal::Memory));
     };
     let spare = mem::replace(row, Row::new(Vec::new(alloc))).into_cells();
-    *row = row_of(alloc, format, header, number, byte_record, spare)?;
+    *row = row_of(alloc, format, number, byte_record, spare)?;
     if number > format.limits.bounds.rows as u64 {
-        check_rest(alloc, format, header, number, reader, byte_record)?;
+        check_rest(alloc, format, number, reader, byte_record)?;
         return Err(RowFault::Refused(LoadRefusal::Limit));
     }
     Ok(true)
 }
 
-// Reads all records that are left for their first fault, after the given number.
+// Reads all records after the first `number` for their first fault.
 fn check_rest<R: Read>(
     alloc: Global,
     format: &RowFormat<'_>,
-    header: &Header,
     number: u64,
     reader: &mut Reader<R>,
     byte_record: &mut ByteRecord,
 ) -> Result<(), RowFault>
     requires reading { IsReading reader.old }
-    requires whole { length header.now ≡ length format.now.schema.now.columns }
+    requires whole { length format.now.header ≡ length format.now.schema.now.columns }
     ensures none { OnOk result
-        (IfSome (data_left R.remaining format.now.short (length header.now) reader.old) (λ records. fault_of
-        (rows_from format.now.schema.now format.now.limits.now.bounds.text header.now (number + 1) records)
-        ≡ None)) }
+        (IfSome (data_left R.remaining format.now.short (length format.now.header) reader.old) (λ records.
+        fault_of (rows_from format.now.schema.now format.now.limits.now.bounds.text format.now.header
+        (number + 1) records) ≡ None)) }
     ensures fault { IfErr result (λ fault. Faulted (λ why.
-        IfSome (data_left R.remaining format.now.short (length header.now) reader.old) (λ records. fault_of
-        (rows_from format.now.schema.now format.now.limits.now.bounds.text header.now (number + 1) records)
-        ≡ Some why)) fault) }
+        IfSome (data_left R.remaining format.now.short (length format.now.header) reader.old) (λ records.
+        fault_of (rows_from format.now.schema.now format.now.limits.now.bounds.text format.now.header
+        (number + 1) records) ≡ Some why)) fault) }
 {
     let mut cells = Vec::new(alloc);
     for last in number..u64::MAX {
         if !read_next(reader, byte_record)? {
             return Ok(());
         }
-        cells = row_of(alloc, format, header, last + 1, byte_record, cells)?.into_cells();
+        cells = row_of(alloc, format, last + 1, byte_record, cells)?.into_cells();
     }
     Err(RowFault::Refused(LoadRefusal::Memory))
 }

@@ -16,28 +16,28 @@ has_null-requires c = λ k d h.
     let schema = c.args.format.now.schema.now in
     let keyed = (both (no_repeats nat_eq schema.key) (list_all (λ position. nat_lt position (length schema.columns)) schema.key)
     (both (no_repeats bytes_eq (map (λ (column : Column). column.name) schema.columns)) (no_repeats nat_eq schema.key && list_all (λ position. nat_lt position (length schema.columns)) schema.key) c.key.ensures.schema).1).1 in
-    let size : length c.new-row.result ≡ length schema.columns = ap length c.new-row.ensures ∙ c.in_ok-cells.ensures.size ∙ ap length c.columns.ensures in
+    let size : length c.new-row.result ≡ length schema.columns = ap length c.new-row.ensures ∙ c.in_ok-cells.ensures.size in
     rw (size, c.key.ensures.positions) (in_key schema.key (length schema.columns) keyed k d (omega (arith, h, ap length c.key.ensures.positions)))
 
 pub returns-then-not-is_whole : goal.returns-then-not-is_whole
 returns-then-not-is_whole c =
     let given = fields_of c.args.byte_record.now in
-    let fields = completed c.args.format.now.short (length c.args.header.now) given in
-    let other : eqb (length fields) (length c.args.header.now) ≡ false = search (rules, c.if-not-is_whole.true, c.is_whole.ensures, c.places-places.ensures.value) in
-    inr (other_count c.args.format.now.schema.now c.args.format.now.limits.now.bounds.text c.args.header.now c.args.number fields other)
+    let fields = completed c.args.format.now.short (length c.args.format.now.header) given in
+    let other : eqb (length fields) (length c.args.format.now.header) ≡ false = search (rules, c.if-not-is_whole.true, c.is_whole.ensures, c.places-places.ensures.value) in
+    inr (other_count c.args.format.now.schema.now c.args.format.now.limits.now.bounds.text c.args.format.now.header c.args.number fields other)
 
 pub cells_of-requires-clause-count : goal.cells_of-requires-clause-count
 cells_of-requires-clause-count c =
-    within c.args.format.now.short (length c.places-places.result.now) (fields_of c.args.byte_record.now) (sym c.is_whole.ensures ∙ c.if-not-is_whole.false)
+    within c.args.format.now.short (length c.args.format.now.header) (fields_of c.args.byte_record.now) (rw c.places-places.ensures.value at (sym c.is_whole.ensures ∙ c.if-not-is_whole.false))
 
 pub returns-then-has_null : goal.returns-then-has_null
 returns-then-has_null c =
     let schema = c.args.format.now.schema.now in
     let given = fields_of c.args.byte_record.now in
-    let count = length c.args.header.now in
+    let count = length c.args.format.now.header in
     let fields = completed c.args.format.now.short count given in
     let whole = rw c.places-places.ensures.value at (sym c.is_whole.ensures ∙ c.if-not-is_whole.false) in
     let null : no_key schema.key c.in_ok-cells.cells.items ≡ true =
     rw (← c.new-row.ensures, ← c.key.ensures.positions) (sym c.has_null.ensures ∙ c.if-has_null.true) in
-    let cells = rw (c.columns.ensures, c.places-places.ensures.value, as_completed c.args.format.now.short count given whole) at c.in_ok-cells.ensures.cells in
-    inr (null_key schema c.args.format.now.limits.now.bounds.text c.args.header.now c.args.number fields c.in_ok-cells.cells.items whole cells null)
+    let cells = rw (as_completed c.args.format.now.short count given whole) at c.in_ok-cells.ensures.cells in
+    inr (null_key schema c.args.format.now.limits.now.bounds.text c.args.format.now.header c.args.number fields c.in_ok-cells.cells.items whole cells null)

@@ -8,7 +8,7 @@ use Rattle.gq_load.proofs.row_reader.check_rest.Given as goal
 abbrev pub invariant-loop-last : goal.invariant-loop-last
 invariant-loop-last g l = record {
   reading : IsReading l.reader;
-  alike : IfSome (data_left g.R.Read.remaining l.format.short (length l.header) l.fn.reader) (λ all.
-      option_map (λ left. fault_of (rows_from l.format.schema.now l.format.limits.now.bounds.text l.header (l.last + 1) left)) (data_left g.R.Read.remaining l.format.short (length l.header) l.reader)
-      ≡ Some (fault_of (rows_from l.format.schema.now l.format.limits.now.bounds.text l.header (l.number + 1) all)));
+  alike : IfSome (data_left g.R.Read.remaining l.format.short (length l.format.header) l.fn.reader) (λ all.
+      option_map (λ left. fault_of (rows_from l.format.schema.now l.format.limits.now.bounds.text l.format.header (l.last + 1) left)) (data_left g.R.Read.remaining l.format.short (length l.format.header) l.reader)
+      ≡ Some (fault_of (rows_from l.format.schema.now l.format.limits.now.bounds.text l.format.header (l.number + 1) all)));
 }
