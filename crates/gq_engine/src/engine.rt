@@ -68,9 +68,8 @@ impl<H: KeyHash<Key> + Copy, S: RunStore> Engine<H, S> {
         }
     }
 
-    /// What the groupings of all `group` commands took together that were carried out, each number
-    /// up to the greatest of 64 bits. Counting different values, `distinct` and what was refused are
-    /// left out.
+    /// The work of all `group` commands that were carried out, each number up to the greatest of 64
+    /// bits. It leaves out the counting of distinct values, and `distinct`.
     pub fn spent(&self) -> Spent
         ensures { result ≡ spent_of self.now }
     {
@@ -120,9 +119,8 @@ impl<H: KeyHash<Key> + Copy, S: RunStore> Engine<H, S> {
         }
     }
 
-    /// Puts the rows of a CSV text into the table of a name, all or none, and returns how many they
-    /// are, as a `load` command does with the text as its payload. The text may be longer than a
-    /// payload: it is read piece by piece, and never held whole. After a fault the tables are as before.
+    /// Puts the rows of a CSV text into the table of a name, all or none, as a `load` does with a
+    /// payload, and returns their number. The text may have any length, and is never held whole.
     pub fn load_csv<R: Read + Drop>(
         &mut self,
         name: &str,

@@ -64,9 +64,8 @@ impl<H: KeyHash<Key> + Copy, S: RunStore> Engine<H, S> {
     ghost use Rattle.gq_reply.specs.Replies.{IsLine};
     ghost use Rattle.gq_engine.specs.Runs.{AnsweredAlike, FaultsHappened, KeptUnlessDone};
 
-    /// Answers the items of a script, one after the other, and writes each reply and flushes. A
-    /// reply's whole text is made before its first byte is written, and the lines `ok` and `err`
-    /// are made without memory.
+    /// Answers the items of a script in order, and writes each reply and flushes. A reply's whole text
+    /// is made before its first byte is written; the lines `ok` and `err` take no memory.
     pub fn run<R: Read + Drop, W: Write>(
         &mut self,
         reader: R,
@@ -81,9 +80,8 @@ impl<H: KeyHash<Key> + Copy, S: RunStore> Engine<H, S> {
         self.run_as(Output::Replies, reader, writer, &mut sink())
     }
 
-    /// Answers the items of a script like [`Engine::run`], and writes each reply, or only the results
-    /// of queries. In the second case refusals are reported to `errors` with their line's number; a
-    /// write fault there ends the reports, not the run.
+    /// As [`Engine::run`], but may write only the results of queries. Then refusals are reported to
+    /// `errors` with their line's number; a write fault there ends the reports, not the run.
     pub fn run_as<R: Read + Drop, W: Write, E: Write>(
         &mut self,
         output: Output,

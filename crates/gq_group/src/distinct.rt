@@ -1,4 +1,7 @@
 //! How many distinct values the rows of each key have in a column.
+//!
+//! These are two groupings as by [`group`], each within the budget: of the pairs of a key and a value,
+//! all of which are written to a run, and of that run by the key. A refusal is never `SumRange`.
 ghost use Rattle.std.specs.Prelude.{◌≡◌, ◌+◌, ◌≤◌, ◌<◌, ◌^◌, ◌++◌, [], ℕ, false, List, length, IsTrue, IfOk, OnOk, IfErr};
 ghost use Rattle.gq_row.specs.declared.value.Value.{Value as Cell};
 ghost use Rattle.gq_spill.specs.Reading.{Left, opened};
@@ -190,11 +193,8 @@ fn count_in_run<H: KeyHash<Key> + Copy, S: RunStore, R: RowSource<S>, K: GroupSi
     in_all(first, second)
 }
 
-/// Pushes a group for each key of the columns `by`, in some order: the key, folded, and how many
-/// distinct values, not counting null, its rows have in `column`. Without columns there is one group.
-///
-/// Two groupings as by [`group`], each within the budget: of the pairs of a key and a value, all of
-/// which are written to a run, and of that run by the key. A refusal is never `SumRange`.
+/// Pushes a group for each key of the columns `by`, in some order: the key, folded, and the number of
+/// distinct values in `column`, not counting null. Without columns there is one group.
 pub fn group_distinct<H: KeyHash<Key> + Copy, S: RunStore, R: RowSource<S>, K: GroupSink<S>>(
     alloc: Global,
     hasher: H,

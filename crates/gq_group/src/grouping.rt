@@ -1,4 +1,7 @@
 //! Groups of the rows of a source.
+//!
+//! At most the budget's number of groups is in memory, and rows of other keys are spilled. Keys are
+//! folded: a text without case is in small letters, however its rows spell it.
 ghost use Rattle.std.specs.Prelude.{◌≡◌, ◌+◌, ◌≤◌, ◌^◌, ◌++◌, [], ℕ, true, false, List, length, IsTrue, IfOk, OnOk, IfErr, IsErrOf};
 ghost use Rattle.std.specs.FinMap.{len};
 ghost use Rattle.gq_row.specs.declared.value.Value.{Value as Cell};
@@ -77,11 +80,8 @@ pub(crate) fn push_all<H: KeyHash<Key> + Copy, S: RunStore, K: GroupSink<S>>(
     Ok(groups as u64)
 }
 
-/// Pushes a group for each key of the source's rows, in some order. Keys are folded: a text without
-/// case is in small letters, however its rows spell it.
-///
-/// At most the budget's number of groups is in memory, and rows of other keys are spilled. After a
-/// refusal some rows were read and some groups pushed. Runs are discarded whatever the outcome.
+/// Pushes a group for each key of the source's rows, in some order, with the key folded. After a
+/// refusal some rows were read and some groups pushed; runs are discarded whatever the outcome.
 pub fn group<H: KeyHash<Key> + Copy, S: RunStore, R: RowSource<S>, K: GroupSink<S>>(
     alloc: Global,
     hasher: H,

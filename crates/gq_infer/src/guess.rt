@@ -1,4 +1,8 @@
 //! Columns by the first records of a file.
+//!
+//! If each file of the table loads under these columns, they are those that an
+//! [`Inference`](crate::Inference) finds by reading all files. Otherwise a later field is a text in a
+//! column that began with numbers.
 ghost use Rattle.std.specs.Prelude.{◌≡◌, ℕ, List, [], true, IfOk, IfSome};
 ghost use Rattle.gq_command.specs.Commands.{is_command};
 ghost use Rattle.gq_command.specs.declared.command.Command.TheVariants.{Create};
@@ -16,12 +20,7 @@ use std::alloc::Global;
 use std::io::Read;
 
 /// The columns of a table by the first records of its first file, at most `most`; `None` if they
-/// don't settle the kind of each column. If each file of the table loads under these columns, they
-/// are those that an [`Inference`](crate::Inference) finds by reading all files. Otherwise a later
-/// field is a text in a column that began with numbers.
-///
-/// `Limit` and `Header` are returned for a header that can't name columns. The sample may also fail
-/// with `Memory` or `Read`.
+/// don't settle the kind of each column. The errors are those of [`Inference`](crate::Inference).
 pub fn guess_columns<R: Read + Drop>(
     alloc: Global,
     text: R,

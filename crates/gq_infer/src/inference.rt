@@ -1,4 +1,9 @@
 //! Columns from files, one file after the other.
+//!
+//! A file is a CSV text, whose first record names the columns; a UTF-8 byte-order mark before it is
+//! dropped. A record may have more or fewer fields than the header: what it lacks or has beyond is of
+//! no column. A header is refused first by the number of its names, then by the names, then by their
+//! lengths.
 ghost use Rattle.std.specs.Prelude.{◌≡◌, IfOk, length};
 ghost use Rattle.gq_infer.specs.Scanning.{columns_of};
 
@@ -40,12 +45,8 @@ impl Inference {
     ghost use Rattle.gq_infer.specs.Files.{IsFailure, header_fault, inferred, same_columns, table_columns};
     ghost use Rattle.gq_infer.specs.declared.fault.InferFault.TheVariants.{Header};
 
-    /// What a table's first file says of its columns. `text` gives a CSV text, whose first record
-    /// names the columns; a UTF-8 byte-order mark before it is dropped. A record may have more or
-    /// fewer fields than the header: what it lacks or has beyond is of no column.
-    ///
-    /// `Limit` and `Header` are returned for a header that `header_fault` refuses: first by the number
-    /// of its names, then by the names, then by their lengths. `Read` may be returned for any file.
+    /// What a table's first file says of its columns. `Limit` and `Header` are those of `header_fault`;
+    /// `Read` may be returned for any file.
     pub fn of_first<R: Read + Drop>(
         alloc: Global,
         text: R,

@@ -1,6 +1,10 @@
 //! The word after the program's option `-t`: `[NAME=]FILE`.
+//!
+//! What follows its first `=` that isn't inside double quotes is the file. What comes before is the
+//! table's name, as it is; or, if it has a `(`, the table's name and columns, as they follow the word
+//! `create` of a command. Without such an `=` the whole word is the file, and the name is that of the
+//! file, without its folder and its last extension.
 ghost use Rattle.std.specs.Prelude.{◌≡◌, ◌==◌, ◌<◌, ◌≤◌, ◌⊎◌, ◌&&◌, not, if◌then◌else◌, true, false, None, IfOk, IfErr, IsErrOf, IfSome, ℕ, List, MatchOption, length, slice_index};
-ghost use Rattle.gq_command.specs.Commands.{is_command};
 ghost use Rattle.gq_command.specs.Commands.{is_command};
 ghost use Rattle.gq_infer.specs.Words.{CreatesNone, IsRefusedFront, PassesLimit, SaysNoTable, SaysTable, cut_of, file_of, front_of, create_line, has_columns, is_name, name_of};
 
@@ -90,12 +94,7 @@ pub struct TableWord<'a> {
     pub file: &'a str,
 }
 
-/// Reads the word after `-t`.
-///
-/// It is cut at its first `=` that isn't inside double quotes. What follows is the file. What comes
-/// before is the table's name, as it is; or, if it has a `(`, the table's name and columns, as they
-/// follow the word `create` of a command. Without such an `=` the whole word is the file, and the
-/// name is that of the file, without its folder and its last extension.
+/// Reads the word after `-t`, which is cut at its first `=` that isn't inside double quotes.
 pub fn table_word<'a>(
     alloc: Global,
     word: &'a str,

@@ -1,4 +1,9 @@
 //! Payloads as rows.
+//!
+//! One UTF-8 byte-order mark at the start is dropped. Two bounds of the limits are kept: the bytes of a
+//! text, and the number of data records, equal keys or not. Faults come in this order: the header; in
+//! the first faulty record the number of its fields, its fields in the payload's order, and null in a
+//! key column; too many records.
 ghost use Rattle.std.specs.Prelude.{◌≡◌, IfOk, IfSome};
 ghost use Rattle.gq_load.specs.Answers.{Gives};
 ghost use Rattle.gq_load.specs.Coming.{refusal_in};
@@ -14,12 +19,7 @@ use gq_row::{Limits, Row, Schema, Sequence};
 use std::alloc::Global;
 
 /// The rows of a payload for a table of this schema, in the order of its records, or its first fault.
-/// One UTF-8 byte-order mark at the start is dropped.
-///
-/// Two bounds of `limits` are kept: the bytes of a text, and the number of data records, equal keys or
-/// not. Faults come in this order: the header; in the first faulty record the number of its fields, its
-/// fields in the payload's order, and null in a key column; too many records. `Memory` may be returned
-/// instead of any of these.
+/// `Memory` may be returned instead.
 pub fn load_rows(
     alloc: Global,
     bytes: &[u8],

@@ -28,9 +28,8 @@ pub enum CheckStop {
     Memory,
 }
 
-/// Reports what reading refuses of a script, and returns the exit status: 0 if it refuses nothing, 1
-/// if it does, 3 after a fault. The script is the commands of the command line, or what `opener`
-/// gives for the path, or the standard input.
+/// Reports what reading refuses of the commands of the command line, or of the script, and returns
+/// the exit status: 0 if it refuses nothing, 1 if it does, 3 after a fault.
 pub fn check_script<R, S, F, W, E>(
     alloc: Global,
     options: &Options,

@@ -16,10 +16,8 @@ use std::fs::Files;
 use std::io::{self, Read, Write};
 use std::random::RandomSource;
 
-/// Reads the command line, opens the script and runs or checks it, and returns the exit status.
-///
-/// `words` begin with the program's name, or are the error in reading them; `files` has the folder
-/// of a run store, `source` gives the bytes of a random seed, and `opener` opens a file's path.
+/// Runs or checks the script that the command line names, and returns the exit status. `words` begin
+/// with the program's name; `files` has a run store's folder, and `source` gives a random seed.
 pub fn run_program<D, N, R, S, F, W, E>(
     alloc: Global,
     words: io::Result<Vec<String>>,

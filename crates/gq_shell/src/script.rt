@@ -25,9 +25,8 @@ use std::mem;
 use std::random::RandomSource;
 use sw_probe::WordHash;
 
-/// Runs a script in a new engine under the greatest limits, with the seed given or one of the source,
-/// the budget given and a run store in the folder given, or in memory if there is none; and returns
-/// the exit status. The script is what `opener` gives for the path, or the standard input.
+/// Runs a script in a new engine under the greatest limits, with the seed, the budget and the run store
+/// that the options ask for, and returns the exit status.
 pub fn run_script<D, N, R, S, F, W, E>(
     alloc: Global,
     options: &Options,

@@ -11,9 +11,8 @@ use gq_row::Key;
 use std::io::{Read, Write};
 use sw_probe::KeyHash;
 
-/// Runs a script: reads it from the reader, writes what the output has of the reply to each command,
-/// and returns the exit status. `errors` gets refusals that the output leaves out, and then a fault,
-/// or the report that is asked for; a fault in writing there is ignored.
+/// Runs a script and returns the exit status. `errors` gets the refusals that the output leaves out,
+/// then a fault, or the report if it is asked for; a write fault there is ignored.
 pub fn session<H: KeyHash<Key> + Copy, S: RunStore, R: Read + Drop, W: Write, E: Write>(
     engine: &mut Engine<H, S>,
     output: Output,
