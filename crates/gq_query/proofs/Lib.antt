@@ -4,6 +4,7 @@ pub mod HavingLemmas
 pub mod Joined
 pub mod KeepingLemmas
 pub mod OrderingLemmas
+pub mod OutcomeLemmas
 pub mod Placing
 pub mod RollupLemmas
 pub mod SpellingLemmas

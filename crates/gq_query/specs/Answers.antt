@@ -1,5 +1,7 @@
 -- The result rows of queries.
-use Rattle.std.specs.Prelude.{◌&&◌, ℕ, pos, Bool, true, List, [], ◌∷◌, ◌++◌, map, filter, Option, None, Some, option_map}
+use Rattle.std.specs.Prelude.{◌&&◌, ℕ, pos, Bool, true, IsTrue, List, [], ◌∷◌, ◌++◌, map, filter, Option, None, Some, option_map}
+use Rattle.std.specs.List.{list_all}
+use Rattle.gq_row.specs.declared.schema.Column.{Column}
 use Rattle.gq_row.specs.declared.value.Value.{Value}
 use Rattle.gq_row.specs.declared.value.Value.TheVariants.{Int}
 use Rattle.gq_row.specs.Ordered.{in_order}
@@ -8,7 +10,7 @@ use Rattle.gq_row.specs.Tables.{PlainTable, keys, of_key}
 use Rattle.gq_agg.specs.Aggregates.{aggregate}
 use Rattle.gq_agg.specs.Values.{different, least}
 use Rattle.gq_group.specs.Groups.{keys_of, column_of}
-use Rattle.gq_select.specs.Asking.{all_of}
+use Rattle.gq_select.specs.Asking.{all_of, is_valid_for}
 use Rattle.gq_select.specs.declared.condition.Test.{Test}
 use Rattle.gq_select.specs.declared.matching.Matching.{Matching}
 use Rattle.gq_select.specs.declared.output_column.OutputColumn.{OutputColumn}
@@ -24,6 +26,10 @@ has_match (Some matching) others row = is_matched matching others row
 -- the rows that a query is about: those that its condition keeps and that have the match
 abbrev pub rows_kept : List Test → Option Matching → List (List Value) → List (List Value) → List (List Value)
 rows_kept tests matching others rows = filter (λ row. keeps tests row && has_match matching others row) rows
+
+-- these output columns can be shown of rows that fit the columns of a table
+abbrev pub AreValid : List Column → List OutputColumn → Type 0
+AreValid columns shown = IsTrue (list_all (is_valid_for columns) shown)
 
 -- the value that is shown of a group's rows; `None` for a sum that is out of range
 abbrev pub shown_value : OutputColumn → List (List Value) → Option Value

@@ -1,6 +1,7 @@
 -- definitions for readers
 pub mod Answers
 pub mod Laws
+pub mod Outcomes
 pub mod Rollups
 pub mod Selecting
 pub mod Work

@@ -3,6 +3,7 @@ use Rattle.std.specs.Prelude.{List, [], Option, None, Some, option_copied}
 use Rattle.gq_row.specs.declared.value.Value.{Value}
 use Rattle.gq_row.specs.declared.schema.Column.{Column}
 use Rattle.gq_row.specs.Tables.{PlainTable}
+use Rattle.gq_select.specs.Asking.{CanMatch}
 use Rattle.gq_query.specs.declared.selection.Selection.{Selection}
 use Rattle.gq_query.specs.Answers.{rows_kept}
 
@@ -14,6 +15,10 @@ other_rows (Some table) = table.rows
 abbrev pub other_columns : Option PlainTable → List Column
 other_columns None = []
 other_columns (Some table) = table.schema.columns
+
+-- the columns that a selection's match compares, if there is one, are columns of its two tables
+abbrev pub CanSelect : {H : Type 0} → Selection H → Type 0
+CanSelect s = CanMatch s.table.now.schema.columns (other_columns (option_copied s.others)) (option_copied s.matching)
 
 -- the rows of a selection's table that its condition keeps and that have the match
 abbrev pub rows_selected : {H : Type 0} → Selection H → List (List Value)

@@ -2,12 +2,10 @@
 //!
 //! Null is one key value. A text without case is shown by its least spelling among these rows.
 //! Whether a query fails or not, the store then has the same live runs as before.
-ghost use Rattle.std.specs.Prelude.{◌≡◌, ◌<◌, All, IsTrue, IfOk, IfErr, length, option_copied};
-ghost use Rattle.gq_group.specs.Access.{LeavesOthers, HasCause};
+ghost use Rattle.std.specs.Prelude.{◌≡◌, ◌<◌, All, length};
 ghost use Rattle.gq_query.specs.Answers.{distinct_keys};
-ghost use Rattle.gq_query.specs.Sources.{no_runs};
-ghost use Rattle.gq_select.specs.Asking.{CanMatch};
-ghost use Rattle.gq_query.specs.Selecting.{other_columns, rows_selected};
+ghost use Rattle.gq_query.specs.Outcomes.{Found};
+ghost use Rattle.gq_query.specs.Selecting.{CanSelect, rows_selected};
 
 use crate::query::Query;
 use crate::row_filter::RowFilter;
@@ -31,13 +29,9 @@ pub fn distinct_rows<H: KeyHash<Key> + Copy, S: RunStore>(
 ) -> Result<Rows, Refusal>
     requires some { 0 < length on.now }
     requires on { All (λ column. column < length selection.now.table.now.schema.columns) on.now }
-    requires matching { CanMatch selection.now.table.now.schema.columns
-        (other_columns (option_copied selection.now.others))
-        (option_copied selection.now.matching) }
-    ensures rows { IsTrue (S.runs store.old).honest →
-        IfOk result (λ rows. rows ≡ distinct_keys on.now (rows_selected selection.now)) }
-    ensures others { LeavesOthers no_runs no_runs (S.runs store.old) (S.runs store.new) }
-    ensures cause { IfErr result (λ e. HasCause e (S.runs store.old) (S.runs store.new)) }
+    requires matching { CanSelect selection.now }
+    ensures { Found (S.runs store.old) (S.runs store.new) result
+        (λ rows. rows ≡ distinct_keys on.now (rows_selected selection.now)) }
 {
     let Ok(keys) = other_keys(alloc, hasher, selection) else {
         return Err(Refusal::Memory);

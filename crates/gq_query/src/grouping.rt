@@ -2,18 +2,16 @@
 //!
 //! The work of each grouping is added up, without that of counts of distinct values. Whether a
 //! query fails or not, the store then has the same live runs as before.
-ghost use Rattle.std.specs.Prelude.{◌≡◌, ◌+◌, ◌<◌, All, IsTrue, IfOk, OnOk, IfErr, IsErrOf, None, Some, ◌++◌, filter, insert, length, option_copied, slice_index_or, ◌∷◌, []};
-ghost use Rattle.std.specs.List.{list_all};
+ghost use Rattle.std.specs.Prelude.{◌≡◌, ◌+◌, ◌<◌, All, IsTrue, IfOk, None, ◌++◌, filter, insert, length, slice_index_or, ◌∷◌, []};
 ghost use Rattle.gq_row.specs.declared.value.Value.TheVariants.{Null};
-ghost use Rattle.gq_group.specs.Access.{LeavesOthers, HasCause, GroupCause};
 ghost use Rattle.gq_select.specs.Truths.{keeps};
 ghost use Rattle.gq_select.specs.declared.output_column.OutputColumn.TheVariants.{CountDistinct as Different};
-ghost use Rattle.gq_query.specs.Sources.{no_runs};
-ghost use Rattle.gq_select.specs.Asking.{CanMatch, is_valid_for};
+ghost use Rattle.gq_query.specs.Answers.{AreValid};
 ghost use Rattle.gq_query.specs.Keeping.{HasColumns, kept_rows};
 ghost use Rattle.gq_query.specs.Joining.{AreShown, aggregates_of, so_far, joined, folded_answer};
+ghost use Rattle.gq_query.specs.Outcomes.{Answered, Found, Grouped};
 ghost use Rattle.gq_query.specs.Rollups.{group_answer, grouping_sets};
-ghost use Rattle.gq_query.specs.Selecting.{other_columns, rows_selected};
+ghost use Rattle.gq_query.specs.Selecting.{CanSelect, rows_selected};
 ghost use Rattle.gq_query.specs.Work.{IsSpentOn, RisesBy};
 
 use crate::cells::aggs_of;
@@ -52,18 +50,11 @@ impl<'a, H: KeyHash<Key> + Copy> Query<'a, H> {
         store: &mut S,
     ) -> Result<(GroupList, Spent), Refusal>
         requires columns { HasColumns self.now }
-        requires shown { IsTrue
-            (list_all (is_valid_for self.now.table.now.schema.columns) shown.now) }
-        ensures groups { IsTrue (S.runs store.old).honest →
-            IfOk result (λ found. AreShown self.now.by.now (aggregates_of shown.now)
-            (kept_rows self.now) found.0) }
-        ensures spent { IsTrue (S.runs store.old).honest →
-            IfOk result (λ found. IsSpentOn self.now.budget.entries self.now.by.now
-            (kept_rows self.now) found.1) }
-        ensures overflow { IsTrue (S.runs store.old).honest → IsErrOf result Refusal.SumRange →
-            folded_answer self.now.by.now shown.now (kept_rows self.now) ≡ None }
-        ensures others { LeavesOthers no_runs no_runs (S.runs store.old) (S.runs store.new) }
-        ensures cause { IfErr result (λ e. GroupCause e (S.runs store.old) (S.runs store.new)) }
+        requires shown { AreValid self.now.table.now.schema.columns shown.now }
+        ensures { Grouped (S.runs store.old) (S.runs store.new) result
+            (λ found. AreShown self.now.by.now (aggregates_of shown.now) (kept_rows self.now) found.0)
+            (λ found. IsSpentOn self.now.budget.entries self.now.by.now (kept_rows self.now) found.1)
+            (folded_answer self.now.by.now shown.now (kept_rows self.now) ≡ None) }
     {
         let Ok(aggs) = aggs_of(self.alloc, shown) else {
             return Err(Refusal::Memory);
@@ -78,11 +69,8 @@ impl<'a, H: KeyHash<Key> + Copy> Query<'a, H> {
     fn counts<S: RunStore>(&self, column: usize, store: &mut S) -> Result<GroupList, Refusal>
         requires columns { HasColumns self.now }
         requires column { column < length self.now.table.now.schema.columns }
-        ensures counts { IsTrue (S.runs store.old).honest →
-            IfOk result (λ counts. AreShown self.now.by.now (Different column ∷ [])
-            (kept_rows self.now) counts) }
-        ensures others { LeavesOthers no_runs no_runs (S.runs store.old) (S.runs store.new) }
-        ensures cause { IfErr result (λ e. HasCause e (S.runs store.old) (S.runs store.new)) }
+        ensures { Found (S.runs store.old) (S.runs store.new) result
+            (AreShown self.now.by.now (Different column ∷ []) (kept_rows self.now)) }
     {
         let mut counts = self.counts_of(column, store)?;
         counts.sort();
@@ -99,16 +87,13 @@ impl<'a, H: KeyHash<Key> + Copy> Query<'a, H> {
         store: &mut S,
     ) -> Result<(), Refusal>
         requires columns { HasColumns self.now }
-        requires shown { IsTrue
-            (list_all (is_valid_for self.now.table.now.schema.columns) shown.now) }
+        requires shown { AreValid self.now.table.now.schema.columns shown.now }
         requires within { place < length shown.now }
         requires groups { IsTrue (S.runs store.old).honest → AreShown self.now.by.now
             (so_far place shown.now) (kept_rows self.now) groups.old }
-        ensures groups { IsTrue (S.runs store.old).honest →
-            OnOk result (AreShown self.now.by.now (so_far (place + 1) shown.now)
+        ensures { Found (S.runs store.old) (S.runs store.new) result
+            (λ _. AreShown self.now.by.now (so_far (place + 1) shown.now)
             (kept_rows self.now) groups.new) }
-        ensures others { LeavesOthers no_runs no_runs (S.runs store.old) (S.runs store.new) }
-        ensures cause { IfErr result (λ e. HasCause e (S.runs store.old) (S.runs store.new)) }
     {
         let OutputColumn::CountDistinct(column) = shown[place] else {
             return Ok(());
@@ -134,18 +119,11 @@ impl<'a, H: KeyHash<Key> + Copy> Query<'a, H> {
         store: &mut S,
     ) -> Result<(GroupList, Spent), Refusal>
         requires columns { HasColumns self.now }
-        requires shown { IsTrue
-            (list_all (is_valid_for self.now.table.now.schema.columns) shown.now) }
-        ensures groups { IsTrue (S.runs store.old).honest →
-            IfOk result (λ found. AreShown self.now.by.now shown.now
-            (kept_rows self.now) found.0) }
-        ensures spent { IsTrue (S.runs store.old).honest →
-            IfOk result (λ found. IsSpentOn self.now.budget.entries self.now.by.now
-            (kept_rows self.now) found.1) }
-        ensures overflow { IsTrue (S.runs store.old).honest → IsErrOf result Refusal.SumRange →
-            folded_answer self.now.by.now shown.now (kept_rows self.now) ≡ None }
-        ensures others { LeavesOthers no_runs no_runs (S.runs store.old) (S.runs store.new) }
-        ensures cause { IfErr result (λ e. GroupCause e (S.runs store.old) (S.runs store.new)) }
+        requires shown { AreValid self.now.table.now.schema.columns shown.now }
+        ensures { Grouped (S.runs store.old) (S.runs store.new) result
+            (λ found. AreShown self.now.by.now shown.now (kept_rows self.now) found.0)
+            (λ found. IsSpentOn self.now.budget.entries self.now.by.now (kept_rows self.now) found.1)
+            (folded_answer self.now.by.now shown.now (kept_rows self.now) ≡ None) }
     {
         let (mut groups, spent) = self.aggregates(shown, store)?;
         'shown: for place in 0..shown.len() {
@@ -164,19 +142,12 @@ impl<'a, H: KeyHash<Key> + Copy> Query<'a, H> {
         spent: Spent,
     ) -> Result<(Rows, Spent), Refusal>
         requires columns { HasColumns self.now }
-        requires shown { IsTrue (list_all (is_valid_for self.now.table.now.schema.columns)
-            grouping.now.shown.now) }
-        ensures rows { IsTrue (S.runs store.old).honest → IfOk result
-            (λ found. group_answer grouping.now.rollup self.now.by.now grouping.now.shown.now
-            grouping.now.having.now.tests (kept_rows self.now) ≡ Some found.0) }
-        ensures spent { IfOk result (λ found. RisesBy (S.runs store.old).honest
-            self.now.budget.entries (kept_rows self.now)
-            (grouping_sets grouping.now.rollup self.now.by.now) spent found.1) }
-        ensures overflow { IsTrue (S.runs store.old).honest → IsErrOf result Refusal.SumRange →
-            group_answer grouping.now.rollup self.now.by.now grouping.now.shown.now
-            grouping.now.having.now.tests (kept_rows self.now) ≡ None }
-        ensures others { LeavesOthers no_runs no_runs (S.runs store.old) (S.runs store.new) }
-        ensures cause { IfErr result (λ e. GroupCause e (S.runs store.old) (S.runs store.new)) }
+        requires shown { AreValid self.now.table.now.schema.columns grouping.now.shown.now }
+        ensures { Answered (S.runs store.old) (S.runs store.new) result
+            (group_answer grouping.now.rollup self.now.by.now grouping.now.shown.now
+            grouping.now.having.now.tests (kept_rows self.now))
+            (RisesBy (S.runs store.old).honest self.now.budget.entries (kept_rows self.now)
+            (grouping_sets grouping.now.rollup self.now.by.now) spent) }
     {
         if grouping.rollup {
             return self.rollup(grouping.shown, grouping.having, store, spent);
@@ -259,22 +230,13 @@ pub fn group_rows<H: KeyHash<Key> + Copy, S: RunStore>(
 ) -> Result<(Rows, Spent), Refusal>
     requires by { All (λ column. column < length selection.now.table.now.schema.columns)
         grouping.now.by.now }
-    requires shown { IsTrue (list_all (is_valid_for selection.now.table.now.schema.columns)
-        grouping.now.shown.now) }
-    requires matching { CanMatch selection.now.table.now.schema.columns
-        (other_columns (option_copied selection.now.others))
-        (option_copied selection.now.matching) }
-    ensures rows { IsTrue (S.runs store.old).honest → IfOk result
-        (λ found. group_answer grouping.now.rollup grouping.now.by.now grouping.now.shown.now
-        grouping.now.having.now.tests (rows_selected selection.now) ≡ Some found.0) }
-    ensures spent { IfOk result (λ found. RisesBy (S.runs store.old).honest budget.entries
-        (rows_selected selection.now) (grouping_sets grouping.now.rollup grouping.now.by.now)
-        spent found.1) }
-    ensures overflow { IsTrue (S.runs store.old).honest → IsErrOf result Refusal.SumRange →
-        group_answer grouping.now.rollup grouping.now.by.now grouping.now.shown.now
-        grouping.now.having.now.tests (rows_selected selection.now) ≡ None }
-    ensures others { LeavesOthers no_runs no_runs (S.runs store.old) (S.runs store.new) }
-    ensures cause { IfErr result (λ e. GroupCause e (S.runs store.old) (S.runs store.new)) }
+    requires shown { AreValid selection.now.table.now.schema.columns grouping.now.shown.now }
+    requires matching { CanSelect selection.now }
+    ensures { Answered (S.runs store.old) (S.runs store.new) result
+        (group_answer grouping.now.rollup grouping.now.by.now grouping.now.shown.now
+        grouping.now.having.now.tests (rows_selected selection.now))
+        (RisesBy (S.runs store.old).honest budget.entries (rows_selected selection.now)
+        (grouping_sets grouping.now.rollup grouping.now.by.now) spent) }
 {
     let Ok(keys) = other_keys(alloc, hasher, selection) else {
         return Err(Refusal::Memory);

@@ -1,14 +1,13 @@
 //! Groups the rows that a query is about, over a run store.
-ghost use Rattle.std.specs.Prelude.{◌≡◌, ◌<◌, true, IsTrue, IfOk, IfErr, IsErrOf, IsPermutation, OnOk, [], length};
+ghost use Rattle.std.specs.Prelude.{◌≡◌, ◌<◌, true, IsTrue, IfOk, IsPermutation, [], length};
 ghost use Rattle.std.specs.List.{list_all};
-ghost use Rattle.gq_group.specs.Access.{LeavesOthers, HasCause, GroupCause};
 ghost use Rattle.gq_group.specs.Distinct.{distinct_groups};
 ghost use Rattle.gq_group.specs.Groups.{AreGroups, out_of_range};
 ghost use Rattle.gq_select.specs.Distinct.{bare_keys};
-ghost use Rattle.gq_query.specs.Sources.{no_runs};
 ghost use Rattle.gq_select.specs.Asking.{can_take};
 ghost use Rattle.gq_query.specs.Cells.{placed};
 ghost use Rattle.gq_query.specs.Keeping.{HasColumns, kept_rows};
+ghost use Rattle.gq_query.specs.Outcomes.{Found, Grouped};
 ghost use Rattle.gq_query.specs.Work.{IsSpentOn};
 
 use crate::cells::{columns_used, place_aggs, place_columns, place_of};
@@ -47,17 +46,12 @@ impl<'a, H: KeyHash<Key> + Copy> Query<'a, H> {
         requires columns { HasColumns self.now }
         requires aggs { IsTrue (list_all (can_take self.now.table.now.schema.columns) aggs.now) }
         requires none { groups.old ≡ [] }
-        ensures groups { IsTrue (S.runs store.old).honest →
-            OnOk result (AreGroups (record { by = self.now.by.now; aggs = aggs.now })
-            (kept_rows self.now) groups.new) }
-        ensures spent { IsTrue (S.runs store.old).honest →
-            IfOk result (IsSpentOn self.now.budget.entries self.now.by.now
-            (kept_rows self.now)) }
-        ensures overflow { IsTrue (S.runs store.old).honest → IsErrOf result Refusal.SumRange →
-            out_of_range (record { by = self.now.by.now; aggs = aggs.now })
-            (kept_rows self.now) ≡ true }
-        ensures others { LeavesOthers no_runs no_runs (S.runs store.old) (S.runs store.new) }
-        ensures cause { IfErr result (λ e. GroupCause e (S.runs store.old) (S.runs store.new)) }
+        ensures { Grouped (S.runs store.old) (S.runs store.new) result
+            (λ _. AreGroups (record { by = self.now.by.now; aggs = aggs.now })
+            (kept_rows self.now) groups.new)
+            (IsSpentOn self.now.budget.entries self.now.by.now (kept_rows self.now))
+            (out_of_range (record { by = self.now.by.now; aggs = aggs.now })
+            (kept_rows self.now) ≡ true) }
     {
         let Ok(columns) = columns_used(self.alloc, self.by, aggs) else {
             return Err(Refusal::Memory);
@@ -85,11 +79,8 @@ impl<'a, H: KeyHash<Key> + Copy> Query<'a, H> {
     pub fn counts_of<S: RunStore>(&self, column: usize, store: &mut S) -> Result<GroupList, Refusal>
         requires columns { HasColumns self.now }
         requires column { column < length self.now.table.now.schema.columns }
-        ensures counts { IsTrue (S.runs store.old).honest →
-            IfOk result (λ counts. IsPermutation
-            (distinct_groups self.now.by.now column (kept_rows self.now)) counts) }
-        ensures others { LeavesOthers no_runs no_runs (S.runs store.old) (S.runs store.new) }
-        ensures cause { IfErr result (λ e. HasCause e (S.runs store.old) (S.runs store.new)) }
+        ensures { Found (S.runs store.old) (S.runs store.new) result
+            (IsPermutation (distinct_groups self.now.by.now column (kept_rows self.now))) }
     {
         let Ok(columns) = columns_used(self.alloc, self.by, &[(AggKind::Count, column)]) else {
             return Err(Refusal::Memory);
@@ -121,10 +112,8 @@ impl<'a, H: KeyHash<Key> + Copy> Query<'a, H> {
     pub fn keys<S: RunStore>(&self, store: &mut S) -> Result<GroupList, Refusal>
         requires columns { HasColumns self.now }
         requires some { 0 < length self.now.by.now }
-        ensures keys { IsTrue (S.runs store.old).honest → IfOk result
-            (λ keys. IsPermutation (bare_keys self.now.by.now (kept_rows self.now)) keys) }
-        ensures others { LeavesOthers no_runs no_runs (S.runs store.old) (S.runs store.new) }
-        ensures cause { IfErr result (λ e. HasCause e (S.runs store.old) (S.runs store.new)) }
+        ensures { Found (S.runs store.old) (S.runs store.new) result
+            (IsPermutation (bare_keys self.now.by.now (kept_rows self.now))) }
     {
         let Ok(columns) = columns_used(self.alloc, self.by, &[]) else {
             return Err(Refusal::Memory);

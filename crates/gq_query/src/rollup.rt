@@ -3,15 +3,13 @@
 //! Each level is a grouping of its own, by a prefix of the columns: by none for the total, and by
 //! one more at each level. Its result rows get a null for each other column before `having` is
 //! evaluated, and the level as their first value after that.
-ghost use Rattle.std.specs.Prelude.{◌≡◌, ◌≤◌, ◌++◌, ◌∷◌, true, IsTrue, IfOk, IfErr, OnOk, IsErrOf, None, Some, pos, length, map, filter, take};
-ghost use Rattle.std.specs.List.{list_all};
+ghost use Rattle.std.specs.Prelude.{◌≡◌, ◌≤◌, ◌++◌, ◌∷◌, true, IfOk, OnOk, pos, length, map, filter, take};
 ghost use Rattle.gq_row.specs.declared.value.Value.TheVariants.{Int};
-ghost use Rattle.gq_group.specs.Access.{LeavesOthers, GroupCause};
-ghost use Rattle.gq_select.specs.Asking.{is_valid_for};
 ghost use Rattle.gq_select.specs.Truths.{keeps};
+ghost use Rattle.gq_query.specs.Answers.{AreValid};
 ghost use Rattle.gq_query.specs.Keeping.{HasColumns, kept_rows};
+ghost use Rattle.gq_query.specs.Outcomes.{Answered, RowsGrouped};
 ghost use Rattle.gq_query.specs.Rollups.{filled, level_rows, rows_of_levels, levels, grouping_sets};
-ghost use Rattle.gq_query.specs.Sources.{no_runs};
 ghost use Rattle.gq_query.specs.Work.{IsSpentOn, RisesBy};
 
 use crate::group_list::copy_cells;
@@ -87,19 +85,10 @@ impl<'a, H: KeyHash<Key> + Copy> Query<'a, H> {
     ) -> Result<(Rows, Spent), Refusal>
         requires columns { HasColumns self.now }
         requires within { level ≤ length self.now.by.now }
-        requires shown { IsTrue
-            (list_all (is_valid_for self.now.table.now.schema.columns) shown.now) }
-        ensures rows { IsTrue (S.runs store.old).honest → IfOk result
-            (λ found. level_rows self.now.by.now shown.now condition.now.tests
-            (kept_rows self.now) level ≡ Some found.0) }
-        ensures spent { IsTrue (S.runs store.old).honest →
-            IfOk result (λ found. IsSpentOn self.now.budget.entries (take level self.now.by.now)
-            (kept_rows self.now) found.1) }
-        ensures overflow { IsTrue (S.runs store.old).honest → IsErrOf result Refusal.SumRange →
-            level_rows self.now.by.now shown.now condition.now.tests
-            (kept_rows self.now) level ≡ None }
-        ensures others { LeavesOthers no_runs no_runs (S.runs store.old) (S.runs store.new) }
-        ensures cause { IfErr result (λ e. GroupCause e (S.runs store.old) (S.runs store.new)) }
+        requires shown { AreValid self.now.table.now.schema.columns shown.now }
+        ensures { RowsGrouped (S.runs store.old) (S.runs store.new) result
+            (level_rows self.now.by.now shown.now condition.now.tests (kept_rows self.now) level)
+            (IsSpentOn self.now.budget.entries (take level self.now.by.now) (kept_rows self.now)) }
     {
         let query = Query {
             alloc: self.alloc,
@@ -126,19 +115,12 @@ impl<'a, H: KeyHash<Key> + Copy> Query<'a, H> {
         spent: Spent,
     ) -> Result<(Rows, Spent), Refusal>
         requires columns { HasColumns self.now }
-        requires shown { IsTrue
-            (list_all (is_valid_for self.now.table.now.schema.columns) shown.now) }
-        ensures rows { IsTrue (S.runs store.old).honest → IfOk result
-            (λ found. rows_of_levels self.now.by.now shown.now condition.now.tests
-            (kept_rows self.now) (levels self.now.by.now) ≡ Some found.0) }
-        ensures spent { IfOk result (λ found. RisesBy (S.runs store.old).honest
-            self.now.budget.entries (kept_rows self.now) (grouping_sets true self.now.by.now)
-            spent found.1) }
-        ensures overflow { IsTrue (S.runs store.old).honest → IsErrOf result Refusal.SumRange →
-            rows_of_levels self.now.by.now shown.now condition.now.tests
-            (kept_rows self.now) (levels self.now.by.now) ≡ None }
-        ensures others { LeavesOthers no_runs no_runs (S.runs store.old) (S.runs store.new) }
-        ensures cause { IfErr result (λ e. GroupCause e (S.runs store.old) (S.runs store.new)) }
+        requires shown { AreValid self.now.table.now.schema.columns shown.now }
+        ensures { Answered (S.runs store.old) (S.runs store.new) result
+            (rows_of_levels self.now.by.now shown.now condition.now.tests (kept_rows self.now)
+            (levels self.now.by.now))
+            (RisesBy (S.runs store.old).honest self.now.budget.entries (kept_rows self.now)
+            (grouping_sets true self.now.by.now) spent) }
     {
         let (mut rows, work) = self.level(0, shown, condition, store)?;
         let mut total = both_spent(spent, work);

@@ -2,8 +2,7 @@
 ghost use Rattle.std.specs.Prelude.{◌≡◌, ◌<◌, All, IfOk, Some, length, option_copied};
 ghost use Rattle.gq_select.specs.KeySets.{AreKeysOf};
 ghost use Rattle.gq_select.specs.declared.matching.Matching.{Matching as Match};
-ghost use Rattle.gq_select.specs.Asking.{CanMatch};
-ghost use Rattle.gq_query.specs.Selecting.{other_columns, other_rows};
+ghost use Rattle.gq_query.specs.Selecting.{CanSelect, other_rows};
 
 use gq_row::Key;
 use gq_select::{Condition, KeySet, Matching};
@@ -29,9 +28,7 @@ pub fn other_keys<H: KeyHash<Key> + Copy>(
     hasher: H,
     selection: &Selection<'_, '_, H>,
 ) -> Result<KeySet<H>, AllocError>
-    requires { CanMatch selection.now.table.now.schema.columns
-        (other_columns (option_copied selection.now.others))
-        (option_copied selection.now.matching) }
+    requires { CanSelect selection.now }
     ensures { IfOk result (λ keys. (matching : Match) →
         option_copied selection.now.matching ≡ Some matching →
         AreKeysOf matching.theirs (other_rows (option_copied selection.now.others)) keys) }

@@ -3,14 +3,12 @@
 //! Rows are grouped and sorted by keys that hold texts without case as folds. If a key's columns
 //! have such texts, the groups also take the minimum of each key column, before the shown values,
 //! and the result row shows these minimums as its key. Otherwise a key holds the rows' own values.
-ghost use Rattle.std.specs.Prelude.{◌≡◌, ◌<◌, ◌++◌, All, IsTrue, IfOk, IfErr, IsErrOf, false, length, None, Some};
+ghost use Rattle.std.specs.Prelude.{◌≡◌, ◌<◌, ◌++◌, All, IsTrue, IfOk, false, length};
 ghost use Rattle.std.specs.List.{list_all};
 ghost use Rattle.gq_row.specs.Fitting.{fits_columns};
-ghost use Rattle.gq_group.specs.Access.{LeavesOthers, HasCause, GroupCause};
-ghost use Rattle.gq_select.specs.Asking.{is_valid_for};
-ghost use Rattle.gq_query.specs.Answers.{answer, distinct_keys};
+ghost use Rattle.gq_query.specs.Answers.{AreValid, answer, distinct_keys};
 ghost use Rattle.gq_query.specs.Keeping.{HasColumns, kept_rows};
-ghost use Rattle.gq_query.specs.Sources.{no_runs};
+ghost use Rattle.gq_query.specs.Outcomes.{Found, RowsGrouped};
 ghost use Rattle.gq_query.specs.Spelling.{has_spellings as may_differ, least_shown};
 ghost use Rattle.gq_query.specs.Work.{IsSpentOn};
 
@@ -62,18 +60,10 @@ impl<'a, H: KeyHash<Key> + Copy> Query<'a, H> {
         store: &mut S,
     ) -> Result<(Rows, Spent), Refusal>
         requires columns { HasColumns self.now }
-        requires shown { IsTrue
-            (list_all (is_valid_for self.now.table.now.schema.columns) shown.now) }
-        ensures rows { IsTrue (S.runs store.old).honest →
-            IfOk result (λ found. answer self.now.by.now shown.now
-            (kept_rows self.now) ≡ Some found.0) }
-        ensures spent { IsTrue (S.runs store.old).honest →
-            IfOk result (λ found. IsSpentOn self.now.budget.entries self.now.by.now
-            (kept_rows self.now) found.1) }
-        ensures overflow { IsTrue (S.runs store.old).honest → IsErrOf result Refusal.SumRange →
-            answer self.now.by.now shown.now (kept_rows self.now) ≡ None }
-        ensures others { LeavesOthers no_runs no_runs (S.runs store.old) (S.runs store.new) }
-        ensures cause { IfErr result (λ e. GroupCause e (S.runs store.old) (S.runs store.new)) }
+        requires shown { AreValid self.now.table.now.schema.columns shown.now }
+        ensures { RowsGrouped (S.runs store.old) (S.runs store.new) result
+            (answer self.now.by.now shown.now (kept_rows self.now))
+            (IsSpentOn self.now.budget.entries self.now.by.now (kept_rows self.now)) }
     {
         let _valid = self.table.len();
         if has_spellings(self.table.schema().columns(), self.by) {
@@ -90,21 +80,13 @@ impl<'a, H: KeyHash<Key> + Copy> Query<'a, H> {
         store: &mut S,
     ) -> Result<(Rows, Spent), Refusal>
         requires columns { HasColumns self.now }
-        requires shown { IsTrue
-            (list_all (is_valid_for self.now.table.now.schema.columns) shown.now) }
+        requires shown { AreValid self.now.table.now.schema.columns shown.now }
         requires alone { may_differ self.now.table.now.schema.columns self.now.by.now ≡ false }
         requires fitting { IsTrue (list_all (fits_columns self.now.table.now.schema.columns)
             self.now.table.now.rows) }
-        ensures rows { IsTrue (S.runs store.old).honest →
-            IfOk result (λ found. answer self.now.by.now shown.now
-            (kept_rows self.now) ≡ Some found.0) }
-        ensures spent { IsTrue (S.runs store.old).honest →
-            IfOk result (λ found. IsSpentOn self.now.budget.entries self.now.by.now
-            (kept_rows self.now) found.1) }
-        ensures overflow { IsTrue (S.runs store.old).honest → IsErrOf result Refusal.SumRange →
-            answer self.now.by.now shown.now (kept_rows self.now) ≡ None }
-        ensures others { LeavesOthers no_runs no_runs (S.runs store.old) (S.runs store.new) }
-        ensures cause { IfErr result (λ e. GroupCause e (S.runs store.old) (S.runs store.new)) }
+        ensures { RowsGrouped (S.runs store.old) (S.runs store.new) result
+            (answer self.now.by.now shown.now (kept_rows self.now))
+            (IsSpentOn self.now.budget.entries self.now.by.now (kept_rows self.now)) }
     {
         let (groups, spent) = self.show(shown, store)?;
         match groups.into_rows(self.alloc) {
@@ -120,18 +102,10 @@ impl<'a, H: KeyHash<Key> + Copy> Query<'a, H> {
         store: &mut S,
     ) -> Result<(Rows, Spent), Refusal>
         requires columns { HasColumns self.now }
-        requires shown { IsTrue
-            (list_all (is_valid_for self.now.table.now.schema.columns) shown.now) }
-        ensures rows { IsTrue (S.runs store.old).honest →
-            IfOk result (λ found. answer self.now.by.now shown.now
-            (kept_rows self.now) ≡ Some found.0) }
-        ensures spent { IsTrue (S.runs store.old).honest →
-            IfOk result (λ found. IsSpentOn self.now.budget.entries self.now.by.now
-            (kept_rows self.now) found.1) }
-        ensures overflow { IsTrue (S.runs store.old).honest → IsErrOf result Refusal.SumRange →
-            answer self.now.by.now shown.now (kept_rows self.now) ≡ None }
-        ensures others { LeavesOthers no_runs no_runs (S.runs store.old) (S.runs store.new) }
-        ensures cause { IfErr result (λ e. GroupCause e (S.runs store.old) (S.runs store.new)) }
+        requires shown { AreValid self.now.table.now.schema.columns shown.now }
+        ensures { RowsGrouped (S.runs store.old) (S.runs store.new) result
+            (answer self.now.by.now shown.now (kept_rows self.now))
+            (IsSpentOn self.now.budget.entries self.now.by.now (kept_rows self.now)) }
     {
         let Ok(all) = with_least(self.alloc, shown, self.by) else {
             return Err(Refusal::Memory);
@@ -147,11 +121,8 @@ impl<'a, H: KeyHash<Key> + Copy> Query<'a, H> {
     pub fn different<S: RunStore>(&self, store: &mut S) -> Result<Rows, Refusal>
         requires columns { HasColumns self.now }
         requires some { 0 < length self.now.by.now }
-        ensures rows { IsTrue (S.runs store.old).honest →
-            IfOk result (λ rows. rows ≡ distinct_keys self.now.by.now
-            (kept_rows self.now)) }
-        ensures others { LeavesOthers no_runs no_runs (S.runs store.old) (S.runs store.new) }
-        ensures cause { IfErr result (λ e. HasCause e (S.runs store.old) (S.runs store.new)) }
+        ensures { Found (S.runs store.old) (S.runs store.new) result
+            (λ rows. rows ≡ distinct_keys self.now.by.now (kept_rows self.now)) }
     {
         let _valid = self.table.len();
         if has_spellings(self.table.schema().columns(), self.by) {
@@ -167,11 +138,8 @@ impl<'a, H: KeyHash<Key> + Copy> Query<'a, H> {
         requires alone { may_differ self.now.table.now.schema.columns self.now.by.now ≡ false }
         requires fitting { IsTrue (list_all (fits_columns self.now.table.now.schema.columns)
             self.now.table.now.rows) }
-        ensures rows { IsTrue (S.runs store.old).honest →
-            IfOk result (λ rows. rows ≡ distinct_keys self.now.by.now
-            (kept_rows self.now)) }
-        ensures others { LeavesOthers no_runs no_runs (S.runs store.old) (S.runs store.new) }
-        ensures cause { IfErr result (λ e. HasCause e (S.runs store.old) (S.runs store.new)) }
+        ensures { Found (S.runs store.old) (S.runs store.new) result
+            (λ rows. rows ≡ distinct_keys self.now.by.now (kept_rows self.now)) }
     {
         let mut groups = self.keys(store)?;
         groups.sort();
@@ -185,11 +153,8 @@ impl<'a, H: KeyHash<Key> + Copy> Query<'a, H> {
     fn different_spelled<S: RunStore>(&self, store: &mut S) -> Result<Rows, Refusal>
         requires columns { HasColumns self.now }
         requires some { 0 < length self.now.by.now }
-        ensures rows { IsTrue (S.runs store.old).honest →
-            IfOk result (λ rows. rows ≡ distinct_keys self.now.by.now
-            (kept_rows self.now)) }
-        ensures others { LeavesOthers no_runs no_runs (S.runs store.old) (S.runs store.new) }
-        ensures cause { IfErr result (λ e. HasCause e (S.runs store.old) (S.runs store.new)) }
+        ensures { Found (S.runs store.old) (S.runs store.new) result
+            (λ rows. rows ≡ distinct_keys self.now.by.now (kept_rows self.now)) }
     {
         match self.rows_spelled(&[], store) {
             Ok((rows, _)) => Ok(rows),

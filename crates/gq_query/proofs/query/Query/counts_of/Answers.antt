@@ -36,8 +36,8 @@ group_distinct-requires-clause-widths g c = λ h rows e.
     let keep = is_kept c.args.self.now.kept.now in
     subst OneWidth (sym e) (one_width-cells c.as_slice-3.result.now (filter keep c.rows.result.rest))
 
-pub returns-clause-counts : goal.returns-clause-counts
-returns-clause-counts g c = λ h.
+pub returns : goal.returns
+returns g c =
     let by = c.args.self.now.by.now in
     let mine = kept_rows c.args.self.now in
     let keep = is_kept c.args.self.now.kept.now in
@@ -48,6 +48,11 @@ returns-clause-counts g c = λ h.
     let place : c.place_of-place.result ≡ place_of all c.args.column = c.place_of-place.ensures ∙ ap (λ u. place_of u c.args.column) (c.as_slice-2.ensures.value ∙ c.in-Ok.ensures) in
     let same : distinct_groups c.as_slice-4.result.now c.place_of-place.result given ≡ distinct_groups by c.args.column mine
     = (λ i. distinct_groups (by_there i) (place i) (map (cells_in (used i)) (filter keep (c.rows.ensures.rows i)))) ∙ distinct_placed by c.args.column mine in
-    let pushed = c.in_ok-group_distinct.ensures.groups h given refl [] (sym c.new-sink.ensures) in
-    let found = sym pushed.2 in
-    subst (IsPermutation (distinct_groups by c.args.column mine)) (sym found) (subst (λ gs. IsPermutation gs pushed.0) same pushed.1)
+    record {
+      found = λ h.
+          let pushed = c.in_ok-group_distinct.ensures.groups h given refl [] (sym c.new-sink.ensures) in
+          let found = sym pushed.2 in
+          subst (IsPermutation (distinct_groups by c.args.column mine)) (sym found) (subst (λ gs. IsPermutation gs pushed.0) same pushed.1);
+      others = c.in_ok-group_distinct.ensures.others;
+      cause = tt;
+    }

@@ -42,53 +42,37 @@ group-requires-clause-widths g c = λ h rows e.
     let keep = is_kept c.args.self.now.kept.now in
     subst OneWidth (sym e) (one_width-cells c.as_slice-2.result.now (filter keep c.rows.result.rest))
 
-pub returns-clause-overflow : goal.returns-clause-overflow
-returns-clause-overflow g c = λ h e.
-    let spec : Spec = record { by = c.args.self.now.by.now; aggs = c.args.aggs.now } in
-    let rows = kept_rows c.args.self.now in
-    let keep = is_kept c.args.self.now.kept.now in
-    let given = map (cells_in c.as_slice-2.result.now) (filter keep c.rows.result.rest) in
-    let used : c.as_slice-2.result.now ≡ columns_used spec = c.as_slice-2.ensures.value ∙ c.in-Ok.ensures in
-    let asked : c.in-Ok-place_spec.spec ≡ placed (columns_used spec) spec = c.in-Ok-place_spec.ensures ∙ ap (λ u. placed u spec) (c.as_slice.ensures.value ∙ c.in-Ok.ensures) in
-    let same : groups c.in-Ok-place_spec.spec given ≡ groups spec rows
-    = (λ i. groups (asked i) (map (cells_in (used i)) (filter keep (c.rows.ensures.rows i)))) ∙ groups_placed spec rows in
-    sym (ap (list_any (λ g. list_any is_none g.1)) same) ∙ c.group.ensures.overflow h e given refl
-
-pub returns-clause-groups : goal.returns-clause-groups
-returns-clause-groups g c = λ h.
-    let spec : Spec = record { by = c.args.self.now.by.now; aggs = c.args.aggs.now } in
-    let rows = kept_rows c.args.self.now in
-    let keep = is_kept c.args.self.now.kept.now in
-    let given = map (cells_in c.as_slice-2.result.now) (filter keep c.rows.result.rest) in
-    let used : c.as_slice-2.result.now ≡ columns_used spec = c.as_slice-2.ensures.value ∙ c.in-Ok.ensures in
-    let asked : c.in-Ok-place_spec.spec ≡ placed (columns_used spec) spec = c.in-Ok-place_spec.ensures ∙ ap (λ u. placed u spec) (c.as_slice.ensures.value ∙ c.in-Ok.ensures) in
-    let same : groups c.in-Ok-place_spec.spec given ≡ groups spec rows
-    = (λ i. groups (asked i) (map (cells_in (used i)) (filter keep (c.rows.ensures.rows i)))) ∙ groups_placed spec rows in
-    on_ok_weaker c.group.result
-    (λ put.
-    let pushed = put given refl [] (sym c.requires.none) in
-    subst (λ l. IsPermutation (groups spec rows) (map answered l)) pushed.2 (subst (λ gs. IsPermutation gs (map answered pushed.0)) same pushed.1))
-    (c.group.ensures.groups h)
-
 spent_on : (budget : ℕ) (by : List ℕ) (rows : List (List Value)) (r : Result Spent Refusal) → IfOk r (λ spent. (spent.rows_read ≡ length rows) × (spent.groups ≡ length (keys_of by rows)))
     → IfOk r (Spills budget) → IfOk r (IsSpentOn budget by rows)
 spent_on budget by rows (Ok spent) counts spills = record { read = counts.0; groups = counts.1; written = spills }
 spent_on budget by rows (Err e) counts spills = tt
 
-pub returns-clause-spent : goal.returns-clause-spent
-returns-clause-spent g c = λ h.
+pub returns : goal.returns
+returns g c =
     let spec : Spec = record { by = c.args.self.now.by.now; aggs = c.args.aggs.now } in
     let rows = kept_rows c.args.self.now in
     let keep = is_kept c.args.self.now.kept.now in
     let given = map (cells_in c.as_slice-2.result.now) (filter keep c.rows.result.rest) in
     let used : c.as_slice-2.result.now ≡ columns_used spec = c.as_slice-2.ensures.value ∙ c.in-Ok.ensures in
     let asked : c.in-Ok-place_spec.spec ≡ placed (columns_used spec) spec = c.in-Ok-place_spec.ensures ∙ ap (λ u. placed u spec) (c.as_slice.ensures.value ∙ c.in-Ok.ensures) in
-    let same : keys_of c.in-Ok-place_spec.spec.by given ≡ keys_of spec.by rows
+    let same : groups c.in-Ok-place_spec.spec given ≡ groups spec rows
+    = (λ i. groups (asked i) (map (cells_in (used i)) (filter keep (c.rows.ensures.rows i)))) ∙ groups_placed spec rows in
+    let keys : keys_of c.in-Ok-place_spec.spec.by given ≡ keys_of spec.by rows
     = (λ i. keys_of (asked i).by (map (cells_in (used i)) (filter keep (c.rows.ensures.rows i)))) ∙ same_keys spec rows in
-    spent_on c.args.self.now.budget.entries spec.by rows c.group.result
-    (IfOk-weaker c.group.result _ _
-    (λ spent told.
-    let it = told given refl in
-    (it.0 ∙ length-map (filter keep c.rows.result.rest) (cells_in c.as_slice-2.result.now) ∙ ap (λ l. length (filter keep l)) c.rows.ensures.rows, it.1 ∙ ap (λ l. length l) same))
-    (c.group.ensures.counts h))
-    (c.group.ensures.spills h)
+    record {
+      found = λ h. on_ok_weaker c.group.result
+          (λ put.
+          let pushed = put given refl [] (sym c.requires.none) in
+          subst (λ l. IsPermutation (groups spec rows) (map answered l)) pushed.2 (subst (λ gs. IsPermutation gs (map answered pushed.0)) same pushed.1))
+          (c.group.ensures.groups h);
+      spent = λ h. spent_on c.args.self.now.budget.entries spec.by rows c.group.result
+          (IfOk-weaker c.group.result _ _
+          (λ spent told.
+          let it = told given refl in
+          (it.0 ∙ length-map (filter keep c.rows.result.rest) (cells_in c.as_slice-2.result.now) ∙ ap (λ l. length (filter keep l)) c.rows.ensures.rows, it.1 ∙ ap (λ l. length l) keys))
+          (c.group.ensures.counts h))
+          (c.group.ensures.spills h);
+      overflow = λ h e. sym (ap (list_any (λ g. list_any is_none g.1)) same) ∙ c.group.ensures.overflow h e given refl;
+      others = c.group.ensures.others;
+      cause = c.group.ensures.cause;
+    }

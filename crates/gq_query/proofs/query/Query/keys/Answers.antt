@@ -44,8 +44,8 @@ distinct-requires-clause-widths g c = λ h rows e.
     let keep = is_kept c.args.self.now.kept.now in
     subst OneWidth (sym e) (one_width-cells c.as_slice-2.result.now (filter keep c.rows.result.rest))
 
-pub returns-clause-keys : goal.returns-clause-keys
-returns-clause-keys g c = λ h.
+pub returns : goal.returns
+returns g c =
     let by = c.args.self.now.by.now in
     let mine = kept_rows c.args.self.now in
     let keep = is_kept c.args.self.now.kept.now in
@@ -55,6 +55,11 @@ returns-clause-keys g c = λ h.
     let by_there : c.in-Ok-place_columns.by.items ≡ placed_columns all by = c.in-Ok-place_columns.ensures ∙ ap (λ u. placed_columns u by) (c.as_slice.ensures.value ∙ c.in-Ok.ensures) in
     let same : keys c.in-Ok-place_columns.by.items given ≡ keys by mine
     = (λ i. keys (by_there i) (map (cells_in (used i)) (filter keep (c.rows.ensures.rows i)))) ∙ keys_of_placed by mine c.requires.some in
-    let pushed = c.in_ok-distinct.ensures.keys h given refl [] (sym c.of_keys-sink.ensures) in
-    let found = sym pushed.2 in
-    subst (IsPermutation (bare_keys by mine)) (sym found) (subst (λ ks. IsPermutation (map (λ key. (key, [])) ks) pushed.0) same pushed.1)
+    record {
+      found = λ h.
+          let pushed = c.in_ok-distinct.ensures.keys h given refl [] (sym c.of_keys-sink.ensures) in
+          let found = sym pushed.2 in
+          subst (IsPermutation (bare_keys by mine)) (sym found) (subst (λ ks. IsPermutation (map (λ key. (key, [])) ks) pushed.0) same pushed.1);
+      others = c.in_ok-distinct.ensures.others;
+      cause = tt;
+    }
