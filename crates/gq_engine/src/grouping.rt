@@ -144,8 +144,9 @@ fn rows_grouped<H: KeyHash<Key> + Copy, S: RunStore>(
         rollup: plan.rollup,
         shown: plan.shown.as_slice(),
         having: &plan.having,
+        budget,
     };
-    match group_rows(alloc, hasher, &selection, &grouping, store, budget, spent) {
+    match group_rows(alloc, hasher, &selection, &grouping, store, spent) {
         Ok(found) => Ok(found),
         Err(why) => Err(refused_by_grouping(why)),
     }

@@ -29,8 +29,8 @@ use std::alloc::{AllocError, Global};
 use std::mem::replace;
 use sw_probe::KeyHash;
 
-/// The columns that rows are grouped by, the columns shown of each group, and the condition on
-/// result rows: its columns are those of the key, then the shown ones.
+/// The columns that rows are grouped by, the columns shown of each group, the condition on result
+/// rows (its columns are those of the key, then the shown ones), and the budget of each grouping.
 #[derive(Drop)]
 pub struct Grouping<'a> {
     pub by: &'a [usize],
@@ -39,6 +39,7 @@ pub struct Grouping<'a> {
     pub rollup: bool,
     pub shown: &'a [OutputColumn],
     pub having: &'a Condition,
+    pub budget: Budget,
 }
 
 impl<'a, H: KeyHash<Key> + Copy> Query<'a, H> {
@@ -225,7 +226,6 @@ pub fn group_rows<H: KeyHash<Key> + Copy, S: RunStore>(
     selection: &Selection<'_, '_, H>,
     grouping: &Grouping<'_>,
     store: &mut S,
-    budget: Budget,
     spent: Spent,
 ) -> Result<(Rows, Spent), Refusal>
     requires by { All (λ column. column < length selection.now.table.now.schema.columns)
@@ -235,7 +235,7 @@ pub fn group_rows<H: KeyHash<Key> + Copy, S: RunStore>(
     ensures { Answered (S.runs store.old) (S.runs store.new) result
         (group_answer grouping.now.rollup grouping.now.by.now grouping.now.shown.now
         grouping.now.having.now.tests (rows_selected selection.now))
-        (RisesBy (S.runs store.old).honest budget.entries (rows_selected selection.now)
+        (RisesBy (S.runs store.old).honest grouping.now.budget.entries (rows_selected selection.now)
         (grouping_sets grouping.now.rollup grouping.now.by.now) spent) }
 {
     let Ok(keys) = other_keys(alloc, hasher, selection) else {
@@ -252,7 +252,7 @@ pub fn group_rows<H: KeyHash<Key> + Copy, S: RunStore>(
         table: selection.table,
         kept: &kept,
         by: grouping.by,
-        budget,
+        budget: grouping.budget,
     };
     query.answer(grouping, store, spent)
 }

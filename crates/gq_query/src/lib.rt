@@ -14,8 +14,8 @@
 //! ```text
 //! let selection = Selection { table: &table, condition: &condition, matching: None, others: None };
 //! let shown = [OutputColumn::Aggregate(AggKind::Sum, 1), OutputColumn::CountDistinct(2)];
-//! let grouping = Grouping { by: &[0], rollup: false, shown: &shown, having: &having };
-//! let (rows, spent) = group_rows(alloc, hasher, &selection, &grouping, &mut store, budget, spent)?;
+//! let grouping = Grouping { by: &[0], rollup: false, shown: &shown, having: &having, budget };
+//! let (rows, spent) = group_rows(alloc, hasher, &selection, &grouping, &mut store, spent)?;
 //! ```
 //!
 //! Rows that aren't kept are skipped before any of their cells is copied. The keys of the other
@@ -23,15 +23,16 @@
 //!
 //! # The contract above this crate
 //!
-//! Over an honest store the rows of [`group_rows`] are `group_answer` of `specs/Rollups.antt`, and
-//! those of [`distinct_rows`] are `distinct_keys` of `specs/Answers.antt`, each of the `rows_kept`
-//! there: these definitions use only lists, filters and aggregates. `SumRange` is returned only if
-//! a sum is out of range, whatever `having` says. The work of each grouping raises `spent`, by
-//! `RisesBy` of `specs/Work.antt`: the numbers of rows read and of groups are exact, and those of
-//! rows written and of runs are within bounds. Counts of distinct values are left out. Over every
-//! store no new run remains, no other run is touched, and both functions fail only for a cause. The
-//! laws in [`laws`] say that the order of rows, in either table, doesn't change these answers, and
-//! that each level of a rollup is a `group`.
+//! The outcome of [`group_rows`] is `Answered`, and that of [`distinct_rows`] is `Found`, both of
+//! `specs/Outcomes.antt`. Over an honest store the rows of the first are `group_answer` of
+//! `specs/Rollups.antt`, and those of the second are `distinct_keys` of `specs/Answers.antt`, each
+//! of the `rows_kept` there: these definitions use only lists, filters and aggregates. `SumRange`
+//! is returned only if a sum is out of range, whatever `having` says. The work of each grouping
+//! raises `spent`, by `RisesBy` of `specs/Work.antt`: the numbers of rows read and of groups are
+//! exact, and those of rows written and of runs are within bounds. Counts of distinct values are
+//! left out. Over every store no new run remains, no other run is touched, and both functions fail
+//! only for a cause. The laws in [`laws`] say that the order of rows, in either table, doesn't
+//! change these answers, and that each level of a rollup is a `group`.
 #![tactic(auto)]
 
 mod cells;

@@ -22,4 +22,4 @@ returns g c =
     let old = g.S.RunStore.runs c.args.store.now in
     let are = kept_are selection.condition.now.tests (option_copied selection.matching) c.in-Ok.keys (other_rows (option_copied selection.others)) selection.table.now.rows c.in-Ok.ensures in
     subst (λ rows. Answered old (g.S.RunStore.runs c.answer.new.store) c.answer.result (group_answer asked.rollup asked.by.now asked.shown.now asked.having.now.tests rows)
-    (RisesBy old.honest c.args.budget.entries rows (grouping_sets asked.rollup asked.by.now) c.args.spent)) are c.answer.ensures
+    (RisesBy old.honest asked.budget.entries rows (grouping_sets asked.rollup asked.by.now) c.args.spent)) are c.answer.ensures
