@@ -6,7 +6,14 @@ use Rattle.gq_group.specs.Access.{LeavesOthers, HasCause, GroupCause}
 use Rattle.gq_group.specs.declared.grouping.Spent.{Spent}
 use Rattle.gq_group.specs.declared.refusal.Refusal.{Refusal}
 use Rattle.gq_group.specs.declared.refusal.Refusal.TheVariants.{SumRange}
+use Rattle.gq_query.specs.declared.query.Query.{Query}
+use Rattle.gq_query.specs.Keeping.{kept_rows}
 use Rattle.gq_query.specs.Sources.{no_runs}
+use Rattle.gq_query.specs.Work.{IsSpentOn}
+
+-- the work of grouping the kept rows of a query by its columns
+abbrev pub IsWorkOf : {H : Type 0} → Query H → Spent → Type 0
+IsWorkOf query = IsSpentOn query.budget.entries query.by.now (kept_rows query)
 
 -- The outcome of a query that computes no sum. Over a store that reads back what was written, what it returns is right. Over every store no new run remains, no other run is touched, and it fails only for a cause.
 pub record Found {T : Type 0} (old new : Runs) (result : Result T Refusal) (IsRight : T → Type 0) : Type 0 where

@@ -9,10 +9,10 @@ ghost use Rattle.gq_select.specs.declared.output_column.OutputColumn.TheVariants
 ghost use Rattle.gq_query.specs.Answers.{AreValid};
 ghost use Rattle.gq_query.specs.Keeping.{HasColumns, kept_rows};
 ghost use Rattle.gq_query.specs.Joining.{AreShown, aggregates_of, so_far, joined, folded_answer};
-ghost use Rattle.gq_query.specs.Outcomes.{Answered, Found, Grouped};
+ghost use Rattle.gq_query.specs.Outcomes.{Answered, Found, Grouped, IsWorkOf};
 ghost use Rattle.gq_query.specs.Rollups.{group_answer, grouping_sets};
 ghost use Rattle.gq_query.specs.Selecting.{CanSelect, rows_selected};
-ghost use Rattle.gq_query.specs.Work.{IsSpentOn, RisesBy};
+ghost use Rattle.gq_query.specs.Work.{RisesBy};
 
 use crate::cells::aggs_of;
 use crate::group_list::GroupList;
@@ -53,8 +53,9 @@ impl<'a, H: KeyHash<Key> + Copy> Query<'a, H> {
         requires columns { HasColumns self.now }
         requires shown { AreValid self.now.table.now.schema.columns shown.now }
         ensures { Grouped (S.runs store.old) (S.runs store.new) result
-            (λ found. AreShown self.now.by.now (aggregates_of shown.now) (kept_rows self.now) found.0)
-            (λ found. IsSpentOn self.now.budget.entries self.now.by.now (kept_rows self.now) found.1)
+            (λ found. AreShown self.now.by.now (aggregates_of shown.now)
+            (kept_rows self.now) found.0)
+            (λ found. IsWorkOf self.now found.1)
             (folded_answer self.now.by.now shown.now (kept_rows self.now) ≡ None) }
     {
         let Ok(aggs) = aggs_of(self.alloc, shown) else {
@@ -123,7 +124,7 @@ impl<'a, H: KeyHash<Key> + Copy> Query<'a, H> {
         requires shown { AreValid self.now.table.now.schema.columns shown.now }
         ensures { Grouped (S.runs store.old) (S.runs store.new) result
             (λ found. AreShown self.now.by.now shown.now (kept_rows self.now) found.0)
-            (λ found. IsSpentOn self.now.budget.entries self.now.by.now (kept_rows self.now) found.1)
+            (λ found. IsWorkOf self.now found.1)
             (folded_answer self.now.by.now shown.now (kept_rows self.now) ≡ None) }
     {
         let (mut groups, spent) = self.aggregates(shown, store)?;

@@ -7,8 +7,7 @@ ghost use Rattle.gq_select.specs.Distinct.{bare_keys};
 ghost use Rattle.gq_select.specs.Asking.{can_take};
 ghost use Rattle.gq_query.specs.Cells.{placed};
 ghost use Rattle.gq_query.specs.Keeping.{HasColumns, kept_rows};
-ghost use Rattle.gq_query.specs.Outcomes.{Found, Grouped};
-ghost use Rattle.gq_query.specs.Work.{IsSpentOn};
+ghost use Rattle.gq_query.specs.Outcomes.{Found, Grouped, IsWorkOf};
 
 use crate::cells::{columns_used, place_aggs, place_columns, place_of};
 use crate::group_list::GroupList;
@@ -49,7 +48,7 @@ impl<'a, H: KeyHash<Key> + Copy> Query<'a, H> {
         ensures { Grouped (S.runs store.old) (S.runs store.new) result
             (λ _. AreGroups (record { by = self.now.by.now; aggs = aggs.now })
             (kept_rows self.now) groups.new)
-            (IsSpentOn self.now.budget.entries self.now.by.now (kept_rows self.now))
+            (IsWorkOf self.now)
             (out_of_range (record { by = self.now.by.now; aggs = aggs.now })
             (kept_rows self.now) ≡ true) }
     {

@@ -8,9 +8,8 @@ ghost use Rattle.std.specs.List.{list_all};
 ghost use Rattle.gq_row.specs.Fitting.{fits_columns};
 ghost use Rattle.gq_query.specs.Answers.{AreValid, answer, distinct_keys};
 ghost use Rattle.gq_query.specs.Keeping.{HasColumns, kept_rows};
-ghost use Rattle.gq_query.specs.Outcomes.{Found, RowsGrouped};
+ghost use Rattle.gq_query.specs.Outcomes.{Found, IsWorkOf, RowsGrouped};
 ghost use Rattle.gq_query.specs.Spelling.{has_spellings as may_differ, least_shown};
-ghost use Rattle.gq_query.specs.Work.{IsSpentOn};
 
 use crate::query::Query;
 use gq_agg::AggKind;
@@ -62,8 +61,7 @@ impl<'a, H: KeyHash<Key> + Copy> Query<'a, H> {
         requires columns { HasColumns self.now }
         requires shown { AreValid self.now.table.now.schema.columns shown.now }
         ensures { RowsGrouped (S.runs store.old) (S.runs store.new) result
-            (answer self.now.by.now shown.now (kept_rows self.now))
-            (IsSpentOn self.now.budget.entries self.now.by.now (kept_rows self.now)) }
+            (answer self.now.by.now shown.now (kept_rows self.now)) (IsWorkOf self.now) }
     {
         let _valid = self.table.len();
         if has_spellings(self.table.schema().columns(), self.by) {
@@ -85,8 +83,7 @@ impl<'a, H: KeyHash<Key> + Copy> Query<'a, H> {
         requires fitting { IsTrue (list_all (fits_columns self.now.table.now.schema.columns)
             self.now.table.now.rows) }
         ensures { RowsGrouped (S.runs store.old) (S.runs store.new) result
-            (answer self.now.by.now shown.now (kept_rows self.now))
-            (IsSpentOn self.now.budget.entries self.now.by.now (kept_rows self.now)) }
+            (answer self.now.by.now shown.now (kept_rows self.now)) (IsWorkOf self.now) }
     {
         let (groups, spent) = self.show(shown, store)?;
         match groups.into_rows(self.alloc) {
@@ -104,8 +101,7 @@ impl<'a, H: KeyHash<Key> + Copy> Query<'a, H> {
         requires columns { HasColumns self.now }
         requires shown { AreValid self.now.table.now.schema.columns shown.now }
         ensures { RowsGrouped (S.runs store.old) (S.runs store.new) result
-            (answer self.now.by.now shown.now (kept_rows self.now))
-            (IsSpentOn self.now.budget.entries self.now.by.now (kept_rows self.now)) }
+            (answer self.now.by.now shown.now (kept_rows self.now)) (IsWorkOf self.now) }
     {
         let Ok(all) = with_least(self.alloc, shown, self.by) else {
             return Err(Refusal::Memory);
