@@ -20,6 +20,7 @@ use gq_row::{Key, Limits, Row, Schema, Sequence};
 use gq_table::{Table, TableRefusal};
 use std::alloc::Global;
 use std::io::Read;
+use sw_index::expects_new_keys;
 use sw_probe::KeyHash;
 
 // Whether there was no memory for a payload.
@@ -124,14 +125,13 @@ fn stage<H: KeyHash<Key> + Copy, R: Read + Drop>(
     }
 }
 
-// Makes room for all lines of a payload once an eighth of them are read, if hardly any row replaced
-// another. If there is no memory for that, the table grows on its own.
+// Makes room for all lines of a payload if their rows are expected to have new keys. If there is no
+// memory for that, the table grows on its own.
 #[cold]
 fn make_room<H: KeyHash<Key> + Copy>(staged: &mut Table<H>, count: u64, lines: usize)
     ensures { staged.new ≡ staged.old }
 {
-    let differ = count - count / 64 <= staged.len() as u64;
-    if differ && 4_096 <= count && lines as u64 / 8 <= count {
+    if 4_096 <= count && expects_new_keys(count, staged.len() as u64, lines as u64) {
         let _ = staged.reserve(lines);
     }
 }

@@ -14,7 +14,7 @@ use crate::group_map::GroupMap;
 use crate::group_spec::GroupSpec;
 use gq_row::{Key, KeyRef, Row};
 use std::alloc::{AllocError, Global};
-use sw_index::Found;
+use sw_index::{Found, expects_new_keys};
 use sw_probe::KeyHash;
 
 // At most the budget's number of groups.
@@ -61,13 +61,12 @@ impl<H: KeyHash<Key> + Copy> ResidentTable<H> {
         })
     }
 
-    // The room to make after the next group, or 0. If the table is then full, a fifth of the rows came
-    // and nearly each began a group, the others are expected to: with room for all no growth moves keys.
+    // The room to make after the next group: for all expected rows, if it fills the table and they are
+    // expected to have new keys, and else 0.
     fn room_wanted(&self) -> usize {
         let groups = self.groups.len() as u64 + 1;
         let is_full = groups == self.groups.room() as u64;
-        let is_seen = groups >= self.expected as u64 / 5;
-        if is_full && is_seen && self.offered <= groups + groups / 64 {
+        if is_full && expects_new_keys(self.offered, groups, self.expected as u64) {
             self.expected.min(self.budget.entries() as usize)
         } else {
             0

@@ -25,7 +25,9 @@ mod found;
 mod index;
 mod numbered;
 mod removal;
+mod room;
 mod sought;
 
 pub use found::{Absence, Found};
 pub use index::Index;
+pub use room::expects_new_keys;
