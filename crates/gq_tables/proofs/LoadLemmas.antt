@@ -32,7 +32,7 @@ use Rattle.gq_engine.specs.Databases.{Database, table_at, with_table, without_ta
 use Rattle.gq_engine.specs.Loading.{refused_by, rows_told}
 use Rattle.gq_engine.specs.Refusing.{put_all_within}
 use Rattle.gq_engine.specs.Runs.{AnsweredAsLists, LegalAnswer, AsListsAnswer, WantsMemory, StoreFailed, StoreLied, SameTables, Setting}
-use Rattle.gq_engine.specs.Steps.{Outcome, create, drop_table, load_table, settle, table_in, with_rows}
+use Rattle.gq_engine.specs.Steps.{Outcome, create, load_table, settle, table_in, with_rows}
 use Rattle.gq_engine.proofs.MapLemmas.{is_finite_map, itself}
 use Rattle.gq_engine.proofs.OrderLemmas.{AlikeTables, changed_alike, keys_differ-put_all, no_rows_differ, tables_trans, without_alike}
 use Rattle.gq_tables.specs.Made.{HasRowsOf}

@@ -1,29 +1,28 @@
 -- Faults of words and of their files.
-use Rattle.std.proofs.Common.{◌≡◌, ◌∙◌, ◌⊎◌, inl, inr, get_or, ℕ, zero, suc, Bool, true, false, List, [], ◌∷◌, ◌++◌, Option, Some, None, refl, sym, ap, subst}
-use Rattle.std.specs.Prelude.{Result, Ok, Err, IfErr, IfSome, slice_index_or}
+use Rattle.std.proofs.Common.{◌≡◌, ◌∙◌, ◌⊎◌, inl, inr, get_or, ℕ, zero, suc, true, false, List, [], ◌∷◌, ◌++◌, Option, Some, refl, sym, ap, subst}
+use Rattle.std.specs.Prelude.{Result, Ok, Err, IfErr, IfSome}
 use Rattle.std.specs.Result.{IsErrAnd}
 use Rattle.std.specs.declared.io.Error.{Error}
 use Rattle.std.proofs.lemmas.Bool.{true≢false}
 use Rattle.std.proofs.lemmas.Result.{IfErr-at_err, err_from_is_err_and}
 use Rattle.gq_row.specs.declared.limits.Bounds.{Bounds}
 use Rattle.gq_row.specs.declared.schema.Column.{Column}
-use Rattle.gq_row.specs.Schemas.{positions_of}
 use Rattle.gq_load.specs.declared.short_records.Short.{Short}
 use Rattle.gq_command.specs.Commands.{Bytes}
-use Rattle.gq_command.specs.declared.command.Command.TheVariants.{Create, Drop}
+use Rattle.gq_command.specs.declared.command.Command.TheVariants.{Create}
 use Rattle.gq_command.specs.declared.command.Payload.TheVariants as payload
 use Rattle.gq_command.specs.declared.reader.Item.TheVariants as item
-use Rattle.gq_reply.specs.declared.refusal.Refusal.TheVariants.{Limit, Memory, NoColumn, TableExists}
+use Rattle.gq_reply.specs.declared.refusal.Refusal.TheVariants.{Memory}
 use Rattle.gq_reply.specs.declared.refusal.Refused.{Refused}
 use Rattle.gq_reply.specs.declared.reply.Reply.{Reply}
 use Rattle.gq_reply.specs.declared.reply.Reply.TheVariants as reply
-use Rattle.gq_reply.specs.Outcomes.{◌>>=◌, some_or, true_or}
+use Rattle.gq_reply.specs.Outcomes.{◌>>=◌}
 use Rattle.gq_reply.specs.Refusals.{told, unnumbered}
 use Rattle.gq_reply.specs.Replies.{is_refusal}
 use Rattle.gq_engine.specs.declared.csv_fault.CsvFault.{CsvFault}
 use Rattle.gq_engine.specs.declared.csv_fault.CsvFault.TheVariants as csv
-use Rattle.gq_engine.specs.Databases.{Database, table_at, without_table}
-use Rattle.gq_engine.specs.Runs.{AnsweredAsLists, LegalAnswer, AsListsAnswer, WantsMemory, StoreFailed, StoreLied, SameTables, Setting}
+use Rattle.gq_engine.specs.Databases.{Database}
+use Rattle.gq_engine.specs.Runs.{LegalAnswer, AsListsAnswer, WantsMemory, StoreFailed, StoreLied, Setting}
 use Rattle.gq_engine.specs.Staging.{HasLoaded}
 use Rattle.gq_engine.specs.Steps.{Outcome, create, load_table, settle}
 use Rattle.gq_infer.specs.declared.fault.InferFault.{InferFault}
