@@ -103,11 +103,11 @@ def run(command, output):
     return usage.ru_utime + usage.ru_stime, usage.ru_maxrss / 1024
 
 
-def row_of(cells, markdown):
-    """A row of the report."""
+def row_of(cells, markdown, width=14):
+    """A row of the report, whose first cell takes `width` places."""
     if markdown:
         return f"| {' | '.join(cells)} |"
-    return f"{cells[0]:14}" + "".join(f"{cell:>18}" for cell in cells[1:])
+    return f"{cells[0]:{width}}" + "".join(f"{cell:>18}" for cell in cells[1:])
 
 
 def measured(seconds, memory, markdown):
@@ -152,4 +152,5 @@ def main():
     sys.exit(differ)
 
 
-main()
+if __name__ == "__main__":
+    main()

@@ -142,6 +142,12 @@ def one_line_for_each_shape() -> None:
     assert len(bench().stdout.splitlines()) == 10
 
 
+def one_line_for_each_question() -> None:
+    outcome = run(["./bench", "--questions", "1000"])
+    judge(outcome, 0, Contains("all six: sum v3, count"))
+    assert len(outcome.stdout.splitlines()) == 8
+
+
 def refuse_words_of_bench(word: str) -> None:
     judge(run(["./bench", word]), 2, "", Contains("usage: ./bench"))
 
@@ -163,5 +169,6 @@ CASES = [
     *[Check(f"the machine code of {function}", partial(look_at_machine_code, function)) for function in MACHINE_CODE],
     Check("./bench 1000", measure_small_tables),
     Check("./bench 1000: a line for each shape", one_line_for_each_shape),
+    Check("./bench --questions 1000: a line for each question", one_line_for_each_question),
     *[Check(f"./bench {word}", partial(refuse_words_of_bench, word)) for word in ("x", "--help")],
 ]
