@@ -101,21 +101,6 @@ fn conditions_fit(
         && tests_fit(having.as_slice(), bounds)
 }
 
-/// Whether a grouping is within the limits of a line.
-fn group_fits(
-    table: &Text,
-    by: &Sequence<Text>,
-    shown: &Sequence<Aggregate>,
-    tests: &Sequence<Test>,
-    exists: &Option<Exists>,
-    having: &Sequence<Test>,
-    bounds: &Bounds,
-) -> bool
-    ensures { result ≡ ((is_at_most bounds.now.name table.now && (list_all (is_at_most bounds.now.name) by.now && (list_all (λ a. list_all (is_at_most bounds.now.name) (aggregate_names a)) shown.now && nat_le (length shown.now) bounds.now.aggregates))) && (list_all (test_fits bounds.now) tests.now && (exists_fits bounds.now.name exists.now && list_all (test_fits bounds.now) having.now))) }
-{
-    groups_fit(table, by, shown, bounds) && conditions_fit(tests, exists, having, bounds)
-}
-
 /// Whether a `distinct` is within the limits of a line.
 fn distinct_fits(table: &Text, on: &Sequence<Text>, tests: &Sequence<Test>, bounds: &Bounds) -> bool
     ensures { result ≡ (is_at_most bounds.now.name table.now && (list_all (is_at_most bounds.now.name) on.now && list_all (test_fits bounds.now) tests.now)) }
@@ -152,7 +137,10 @@ fn fits(command: &Command, bounds: &Bounds) -> bool
             tests,
             exists,
             having,
-        } => group_fits(table, &by.columns, shown, tests, exists, having, bounds),
+        } => {
+            groups_fit(table, &by.columns, shown, bounds)
+                && conditions_fit(tests, exists, having, bounds)
+        }
         Command::Distinct { table, on, tests } => distinct_fits(table, on, tests, bounds),
     }
 }

@@ -15,8 +15,11 @@ returns-in-Upsert c = rw c.in-Upsert.is (c.row_fits.ensures ∙ sym (upsert_fits
 pub returns-in-Delete : goal.returns-in-Delete
 returns-in-Delete c = rw c.in-Delete.is (c.row_fits-in-Delete.ensures ∙ sym (delete_fits c.args.bounds.now c.in-Delete.table c.in-Delete.values))
 
-pub returns-in-Group : goal.returns-in-Group
-returns-in-Group c = rw c.in-Group.is (c.group_fits.ensures ∙ sym (group_fits c.args.bounds.now c.in-Group.table c.in-Group.by c.in-Group.shown c.in-Group.tests c.in-Group.exists c.in-Group.having))
+pub returns-then-groups_fit : goal.returns-then-groups_fit
+returns-then-groups_fit c = grind (arith, common_steps, group_fits)
+
+pub returns-else-groups_fit : goal.returns-else-groups_fit
+returns-else-groups_fit c = grind (arith, common_steps, group_fits)
 
 pub returns-in-Distinct : goal.returns-in-Distinct
 returns-in-Distinct c = rw c.in-Distinct.is (c.distinct_fits.ensures ∙ sym (distinct_fits c.args.bounds.now c.in-Distinct.table c.in-Distinct.on c.in-Distinct.tests))
