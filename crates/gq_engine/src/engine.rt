@@ -3,7 +3,7 @@ ghost use Rattle.std.specs.Prelude.{◌≡◌, ◌∷◌, []};
 
 use crate::catalog::Catalog;
 use crate::csv_fault::CsvFault;
-use crate::grouping::{rows_asked, rows_different};
+use crate::grouping::{GroupRequest, rows_asked, rows_different};
 use crate::payloads::{stage_for, stage_text};
 use crate::showing::all_shown;
 use gq_command::{Command, Item, Payload, Test};
@@ -255,11 +255,13 @@ impl<H: KeyHash<Key> + Copy, S: RunStore> Engine<H, S> {
             clauses.now.exists clauses.now.having) result self.old self.new }
     {
         let header = header_of(self.alloc, &clauses.by, clauses.shown.as_slice())?;
-        let (hasher, catalog, store) = (self.hasher, &self.catalog, &mut self.store);
-        let (budget, spent) = (self.budget, self.spent);
-        let (rows, spent) = rows_asked(
-            self.alloc, hasher, catalog, name, clauses, store, budget, spent,
-        )?;
+        let request = GroupRequest {
+            catalog: &self.catalog,
+            name,
+            clauses,
+        };
+        let (alloc, hasher, store) = (self.alloc, self.hasher, &mut self.store);
+        let (rows, spent) = rows_asked(alloc, hasher, &request, store, self.budget, self.spent)?;
         self.spent = spent;
         Ok(Reply::Rows { header, rows })
     }

@@ -26,6 +26,14 @@ use gq_table::Table;
 use std::alloc::Global;
 use sw_probe::KeyHash;
 
+/// A `group` over the tables of a catalog, whose names aren't looked up yet.
+#[derive(Drop)]
+pub struct GroupRequest<'a, H: KeyHash<Key>> {
+    pub catalog: &'a Catalog<H>,
+    pub name: &'a str,
+    pub clauses: &'a GroupClauses,
+}
+
 // What a `group` asks of the tables of a catalog.
 #[derive(Drop)]
 struct Asked<'a, H: KeyHash<Key>> {
@@ -38,18 +46,18 @@ struct Asked<'a, H: KeyHash<Key>> {
 // Looks up what a `group` names, or says why it is refused.
 fn asked_of<'a, H: KeyHash<Key> + Copy>(
     alloc: Global,
-    catalog: &'a Catalog<H>,
-    name: &str,
-    clauses: &GroupClauses,
+    request: &GroupRequest<'a, H>,
 ) -> Result<Asked<'a, H>, Refused>
-    ensures asks { IfOk result (λ asked. Asks catalog.now name.now clauses.now
-        asked.table.now (option_copied asked.others) asked.plan) }
+    ensures asks { IfOk result (λ asked. Asks request.now.catalog.now request.now.name.now
+        request.now.clauses.now asked.table.now (option_copied asked.others) asked.plan) }
     ensures within { IfOk result (λ asked. IsWithin asked.table.now.schema.columns
         (other_columns (option_copied asked.others)) asked.plan) }
     ensures refused { IfErr result (λ why. (why ≡ unnumbered Memory)
-        ⊎ (grouped catalog.now name.now clauses.now ≡ Err why)) }
+        ⊎ (grouped request.now.catalog.now request.now.name.now request.now.clauses.now
+        ≡ Err why)) }
 {
-    let table = catalog.get(name).ok_or(Refusal::NoTable)?;
+    let (catalog, clauses) = (request.catalog, request.clauses);
+    let table = catalog.get(request.name).ok_or(Refusal::NoTable)?;
     let others = other_table(catalog, &clauses.exists)?;
     let plan = plan_group(alloc, table.schema(), columns_of(others), clauses)?;
     Ok(Asked {
@@ -87,28 +95,26 @@ fn columns_of<'a, H: KeyHash<Key> + Copy>(table: Option<&'a Table<H>>) -> &'a [C
     }
 }
 
-/// The result rows of a `group` of a catalog's table, and the work spent so far with that of this
-/// grouping; or the refusal.
+/// The result rows of a `group`, and the work spent so far with that of this grouping; or the
+/// refusal.
 pub fn rows_asked<H: KeyHash<Key> + Copy, S: RunStore>(
     alloc: Global,
     hasher: H,
-    catalog: &Catalog<H>,
-    name: &str,
-    clauses: &GroupClauses,
+    request: &GroupRequest<'_, H>,
     store: &mut S,
     budget: Budget,
     spent: Spent,
 ) -> Result<(Rows, Spent), Refused>
     ensures comes { ComesOver true (S.runs store.old).honest
-        (grouped catalog.now name.now clauses.now)
-        (under (group_header clauses.now.by clauses.now.shown) (rows_in result))
-        catalog.now catalog.now }
+        (grouped request.now.catalog.now request.now.name.now request.now.clauses.now)
+        (under (group_header request.now.clauses.now.by request.now.clauses.now.shown)
+        (rows_in result)) request.now.catalog.now request.now.catalog.now }
     ensures spent { IfOk result (λ found. Rises (S.runs store.old).honest budget.entries
-        catalog.now name.now clauses.now spent found.1) }
+        request.now.catalog.now request.now.name.now request.now.clauses.now spent found.1) }
     ensures faults { (S.runs store.old).failures + faults_in result ≤ (S.runs store.new).failures }
     ensures honest { (S.runs store.new).honest ≡ (S.runs store.old).honest }
 {
-    let asked = asked_of(alloc, catalog, name, clauses)?;
+    let asked = asked_of(alloc, request)?;
     rows_grouped(alloc, hasher, &asked, store, budget, spent)
 }
 

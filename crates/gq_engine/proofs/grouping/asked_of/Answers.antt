@@ -16,25 +16,25 @@ pub returns-in_err-table-clause-refused : goal.returns-in_err-table-clause-refus
 returns-in_err-table-clause-refused g c =
     let p = err_from_is_err_and c.from_residual.result c.from_residual.ensures.1 in
     let m = missed c.get.result c.in_err-table.field-0.0 NoTable c.in_err-table.ensures.value in
-    rw p.1 (inr (group_none c.args.catalog.now c.args.name.now c.args.clauses.now (search rules) ∙ sym (ap Err (p.2 ∙ ap unnumbered m.1))))
+    rw p.1 (inr (group_none c.args.request.now.catalog.now c.args.request.now.name.now c.args.request.now.clauses.now (search rules) ∙ sym (ap Err (p.2 ∙ ap unnumbered m.1))))
 
 pub returns-in_err-others-clause-refused : goal.returns-in_err-others-clause-refused
 returns-in_err-others-clause-refused g c =
-    let db = c.args.catalog.now in
+    let db = c.args.request.now.catalog.now in
     let p = err_from_is_err_and c.from_residual-in_err-others.result c.from_residual-in_err-others.ensures.1 in
-    let alone = subst (λ (w : Refused). other_in db c.args.clauses.now.exists ≡ Err w) (sym p.2) c.in_err-others.ensures.refused in
-    rw p.1 (inr (group_alone db c.args.name.now c.args.clauses.now c.in_ok-table.table.now (search rules) p.0 alone))
+    let alone = subst (λ (w : Refused). other_in db c.args.request.now.clauses.now.exists ≡ Err w) (sym p.2) c.in_err-others.ensures.refused in
+    rw p.1 (inr (group_alone db c.args.request.now.name.now c.args.request.now.clauses.now c.in_ok-table.table.now (search rules) p.0 alone))
 
 pub returns-in_err-plan-clause-refused : goal.returns-in_err-plan-clause-refused
 returns-in_err-plan-clause-refused g c =
-    let db = c.args.catalog.now in
+    let db = c.args.request.now.catalog.now in
     let table = c.in_ok-table.table.now in
     let other : Option PlainTable = option_copied c.in_ok-others.others in
     let p = err_from_is_err_and c.from_residual-in_err-plan.result c.from_residual-in_err-plan.ensures.1 in
-    let why = subst (λ (w : Refused). (w ≡ unnumbered Memory) ⊎ (group_plan table.schema.columns (other_columns other) c.args.clauses.now ≡ Err w)) (sym p.2) (rw (c.schema.ensures, c.columns_of.ensures) at c.in_err-plan.ensures.refused) in
+    let why = subst (λ (w : Refused). (w ≡ unnumbered Memory) ⊎ (group_plan table.schema.columns (other_columns other) c.args.request.now.clauses.now ≡ Err w)) (sym p.2) (rw (c.schema.ensures, c.columns_of.ensures) at c.in_err-plan.ensures.refused) in
     rw p.1 (elim why [
       | inl memory ↦ inl memory
-      | inr unplanned ↦ inr (group_unplanned db c.args.name.now c.args.clauses.now table (search rules) other c.in_ok-others.ensures.found p.0 unplanned)
+      | inr unplanned ↦ inr (group_unplanned db c.args.request.now.name.now c.args.request.now.clauses.now table (search rules) other c.in_ok-others.ensures.found p.0 unplanned)
     ])
 
 pub returns-clause-asks : goal.returns-clause-asks

@@ -14,8 +14,8 @@ use Rattle.gq_engine.proofs.grouping.rows_asked.Goals as goal
 
 pub returns-in_err-asked-clause-comes : goal.returns-in_err-asked-clause-comes
 returns-in_err-asked-clause-comes g c =
-    let db = c.args.catalog.now in
-    let steps = group db c.args.name.now c.args.clauses.now in
+    let db = c.args.request.now.catalog.now in
+    let steps = group db c.args.request.now.name.now c.args.request.now.clauses.now in
     let p = err_from_is_err_and c.from_residual.result c.from_residual.ensures.1 in
     let why = subst (λ (w : Refused). (w ≡ unnumbered Memory) ⊎ (steps ≡ Err w)) (sym p.2) c.in_err-asked.ensures.refused in
     rw p.1 (Plainly (same_tables db, why))
@@ -25,22 +25,22 @@ rows_grouped-requires g c = c.in_ok-asked.ensures.within
 
 pub returns-clause-comes : goal.returns-clause-comes
 returns-clause-comes g c =
-    let db = c.args.catalog.now in
-    let clauses = c.args.clauses.now in
+    let db = c.args.request.now.catalog.now in
+    let clauses = c.args.request.now.clauses.now in
     let table = c.in_ok-asked.asked.table.now in
     let other = option_copied c.in_ok-asked.asked.others in
     let plan = c.in_ok-asked.asked.plan in
     let asks = c.in_ok-asked.ensures.asks in
-    comes_over db (g.S.RunStore.runs c.args.store.now).honest (group db c.args.name.now clauses) (group_header clauses.by clauses.shown) (rows_planned plan table other)
-    (group_planned db c.args.name.now clauses table asks.found other asks.there plan asks.told) (rows_in c.rows_grouped.result) c.rows_grouped.ensures.rows
+    comes_over db (g.S.RunStore.runs c.args.store.now).honest (group db c.args.request.now.name.now clauses) (group_header clauses.by clauses.shown) (rows_planned plan table other)
+    (group_planned db c.args.request.now.name.now clauses table asks.found other asks.there plan asks.told) (rows_in c.rows_grouped.result) c.rows_grouped.ensures.rows
 
 pub returns-clause-spent : goal.returns-clause-spent
 returns-clause-spent g c =
-    let db = c.args.catalog.now in
-    let clauses = c.args.clauses.now in
+    let db = c.args.request.now.catalog.now in
+    let clauses = c.args.request.now.clauses.now in
     let table = c.in_ok-asked.asked.table.now in
     let other = option_copied c.in_ok-asked.asked.others in
     let plan = c.in_ok-asked.asked.plan in
     let asks = c.in_ok-asked.ensures.asks in
-    rises_over db c.args.name.now clauses (g.S.RunStore.runs c.args.store.now).honest c.args.budget.entries (grouping_sets plan.rollup plan.by) (rows_about plan table other) c.args.spent c.rows_grouped.result
-    (asked_planned db c.args.name.now clauses table asks.found other asks.there plan asks.told) c.rows_grouped.ensures.spent
+    rises_over db c.args.request.now.name.now clauses (g.S.RunStore.runs c.args.store.now).honest c.args.budget.entries (grouping_sets plan.rollup plan.by) (rows_about plan table other) c.args.spent c.rows_grouped.result
+    (asked_planned db c.args.request.now.name.now clauses table asks.found other asks.there plan asks.told) c.rows_grouped.ensures.spent
