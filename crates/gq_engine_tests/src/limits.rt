@@ -70,7 +70,9 @@ fn limits_from_one_to_the_greatest(rt: HostRuntime) {
 }
 
 /// A field, its value, a script, and what the script must write under that limit.
-const CASES: [(&str, u64, &[u8], &[u8]); 17] = [
+type Case<'a> = (&'a str, u64, &'a [u8], &'a [u8]);
+
+const CASES: [Case; 17] = [
     (
         "tables",
         2,
@@ -163,15 +165,8 @@ const CASES: [(&str, u64, &[u8], &[u8]); 17] = [
 ];
 
 /// Expects what a script writes under a limit, and whether it ends in a read fault.
-fn expect_case(
-    rt: &impl Abort,
-    alloc: Global,
-    field: &str,
-    value: u64,
-    script: &[u8],
-    due: &[u8],
-    faults: bool,
-) -> Result<(), Fail> {
+fn expect_case(rt: &impl Abort, alloc: Global, case: Case, faults: bool) -> Result<(), Fail> {
+    let (field, value, script, due) = case;
     let Some(limits) = Limits::new(with(field, value)) else {
         return Err(Fail::new("no limits"));
     };
@@ -182,14 +177,9 @@ fn expect_case(
 }
 
 /// Asserts what each script writes, and whether it ends in a read fault.
-fn assert_cases(
-    rt: &impl Abort,
-    alloc: Global,
-    cases: &[(&str, u64, &[u8], &[u8])],
-    faults: bool,
-) -> Result<(), Fail> {
-    for (field, value, script, due) in cases {
-        expect_case(rt, alloc, field, *value, script, due, faults)?;
+fn assert_cases(rt: &impl Abort, alloc: Global, cases: &[Case], faults: bool) -> Result<(), Fail> {
+    for case in cases {
+        expect_case(rt, alloc, *case, faults)?;
     }
     Ok(())
 }
@@ -201,7 +191,7 @@ fn each_limit_and_one_past_it(rt: HostRuntime) -> Result<(), Fail> {
 
 /// Scripts of one byte more than their limit: the lines that are whole within the limit are
 /// answered before the read fault.
-const PAST: [(&str, u64, &[u8], &[u8]); 5] = [
+const PAST: [Case; 5] = [
     ("script", 16, b"create a (x int)\n", b""),
     ("script", 17, b"create a (x int)\n\n", b"ok 0\n"),
     ("script", 18, b"\xEF\xBB\xBFcreate a (x int)", b""),

@@ -27,39 +27,45 @@ fn have_columns(columns: &[usize], rows: &VecDeque<Row>) -> bool
     rows.iter().all(|row| has_columns(columns, row))
 }
 
+/// The columns of the keys, and the column whose distinct values are counted.
+#[derive(Clone, Copy)]
+pub(crate) struct CountedColumns<'a> {
+    pub by: &'a [usize],
+    pub counted: usize,
+}
+
 /// The counts of distinct values of a column within a budget of `entries` entries, spelled out and sorted.
 fn counted<H: KeyHash<Key> + Copy>(
     alloc: Global,
     hasher: H,
-    by: &[usize],
-    column: usize,
+    columns: CountedColumns<'_>,
     rows: VecDeque<Row>,
     entries: u32,
 ) -> Result<Answer, Refusal> {
     let mut store = MemStore::new(alloc);
-    counted_over(alloc, hasher, by, column, rows, &mut store, entries)
+    counted_over(alloc, hasher, columns, rows, &mut store, entries)
 }
 
 /// As `counted`, over a store.
 pub(crate) fn counted_over<H: KeyHash<Key> + Copy, S: RunStore>(
     alloc: Global,
     hasher: H,
-    by: &[usize],
-    column: usize,
+    columns: CountedColumns<'_>,
     rows: VecDeque<Row>,
     store: &mut S,
     entries: u32,
 ) -> Result<Answer, Refusal> {
+    let CountedColumns { by, counted } = columns;
     let Some(budget) = Budget::new(entries) else {
         return Err(Refusal::Memory);
     };
-    let Ok(mut columns) = Vec::from_slice(alloc, by) else {
+    let Ok(mut read) = Vec::from_slice(alloc, by) else {
         return Err(Refusal::Memory);
     };
-    let Ok(()) = columns.push(column) else {
+    let Ok(()) = read.push(counted) else {
         return Err(Refusal::Memory);
     };
-    let fits = have_columns(columns.as_slice(), &rows) && are_even(&rows);
+    let fits = have_columns(read.as_slice(), &rows) && are_even(&rows);
     if rows.len() > 1_000_000 || !fits {
         return Err(Refusal::Damaged);
     }
@@ -72,7 +78,7 @@ pub(crate) fn counted_over<H: KeyHash<Key> + Copy, S: RunStore>(
         alloc,
         hasher,
         by,
-        column,
+        counted,
         &mut source,
         &mut sink,
         store,
@@ -89,19 +95,18 @@ pub(crate) fn counted_over<H: KeyHash<Key> + Copy, S: RunStore>(
 /// a budget of one, two and seven.
 fn by_each_hasher(
     alloc: Global,
-    by: &[usize],
-    column: usize,
+    columns: CountedColumns<'_>,
     rows: Rows,
 ) -> Result<Vec<String>, AllocError> {
     let list = rows_of(alloc, rows)?;
-    let spread = counted(alloc, Fnv1a { seed: 0 }, by, column, list, 2);
-    let between = counted(alloc, LowBits(7), by, column, rows_of(alloc, rows)?, 2);
+    let spread = counted(alloc, Fnv1a { seed: 0 }, columns, list, 2);
+    let between = counted(alloc, LowBits(7), columns, rows_of(alloc, rows)?, 2);
     let mut answers = Vec::new(alloc);
     answers.push(told(alloc, spread)?)?;
     answers.push(told(alloc, between)?)?;
     for entries in [1, 2, 7] {
         let list = rows_of(alloc, rows)?;
-        let alike = counted(alloc, Constant(0), by, column, list, entries);
+        let alike = counted(alloc, Constant(0), columns, list, entries);
         answers.push(told(alloc, alike)?)?;
     }
     Ok(answers)
@@ -154,8 +159,12 @@ const CASES: [Case; 19] = [
 
 /// Asserts that each case has the expected counts under each hasher and budget.
 fn assert_cases(rt: &impl Abort, alloc: Global, cases: &[Case]) -> Result<(), Fail> {
-    for (rows, by, column, due) in cases {
-        for found in by_each_hasher(alloc, by, *column, *rows)?.as_slice() {
+    for (rows, by, counted, due) in cases {
+        let columns = CountedColumns {
+            by,
+            counted: *counted,
+        };
+        for found in by_each_hasher(alloc, columns, *rows)?.as_slice() {
             assert_eq!(rt; found.as_str(), *due);
         }
     }

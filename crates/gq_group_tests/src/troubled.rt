@@ -1,6 +1,6 @@
 //! Groups over stores in which one call goes wrong.
 use crate::counting::Counting;
-use crate::distinct::counted_over;
+use crate::distinct::{CountedColumns, counted_over};
 use crate::distinct_keys::keys_over;
 use crate::groups::{Rows, counts_and_sums, fifty_told, grouped_over, rows_of, spec, told};
 use gq_agg::AggKind;
@@ -147,7 +147,13 @@ fn worked_over(alloc: Global, asked: Asked, call: u64) -> Result<(String, u64), 
     let mut store = Counting::new(alloc, failing);
     let found = match asked {
         Asked::Values => grouped_over(alloc, Constant(0), &spec, rows, &mut store, 1),
-        Asked::DifferentValues => { counted_over(alloc, Constant(0), &[0], 1, rows, &mut store, 1) }
+        Asked::DifferentValues => {
+            let columns = CountedColumns {
+                by: &[0],
+                counted: 1,
+            };
+            counted_over(alloc, Constant(0), columns, rows, &mut store, 1)
+        }
         Asked::Keys => keys_over(alloc, Constant(0), &[0], rows, &mut store, 1),
     };
     Ok((told(alloc, found)?, store.live))
