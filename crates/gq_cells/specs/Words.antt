@@ -14,6 +14,6 @@ abbrev pub IsWord : ℕ → ℕ → Type 0
 IsWord places word = 2 ^ 63 ≤ word → word - 2 ^ 63 < places
 
 -- the order of values by their folds, or their own order
-abbrev pub told_by : Bool → Value → Value → Ordering
-told_by true = folded_order
-told_by false = compare_values
+abbrev pub value_order : Bool → Value → Value → Ordering
+value_order true = folded_order
+value_order false = compare_values

@@ -6,7 +6,7 @@ ghost use Rattle.gq_row.specs.Written.{IsInPlace};
 ghost use Rattle.std.specs.Cmp.Lexicographic.{slice_cmp};
 ghost use Rattle.gq_cells.specs.Cells.{value_of};
 ghost use Rattle.gq_cells.specs.Lists.{IsPart, row_at};
-ghost use Rattle.gq_cells.specs.Words.{told_by, word_value};
+ghost use Rattle.gq_cells.specs.Words.{value_order, word_value};
 
 use crate::cell_ref::CellRef;
 use crate::cells::push_value;
@@ -142,7 +142,7 @@ impl TaggedCells {
         let overflow = self.overflow.as_slice();
         match compare_words(words, others, overflow, true) {
             Ordering::Equal => compare_words(words, others, overflow, false),
-            told => told,
+            order => order,
         }
     }
 
@@ -182,7 +182,7 @@ pub(crate) fn lend_word(word: u64, overflow: &[Value]) -> CellRef<'_>
 
 // Compares the values of words lexicographically: by their folds alone, or by their bytes too.
 fn compare_words(a: &[u64], b: &[u64], overflow: &[Value], by_folds: bool) -> Ordering
-    ensures { result ≡ slice_cmp (told_by by_folds)
+    ensures { result ≡ slice_cmp (value_order by_folds)
         (map (word_value overflow.now) a.now) (map (word_value overflow.now) b.now) }
 {
     let (mut left, mut right) = (a, b);
@@ -191,7 +191,7 @@ fn compare_words(a: &[u64], b: &[u64], overflow: &[Value], by_folds: bool) -> Or
             (Some((x, more)), Some((y, others))) => {
                 match compare_word(*x, *y, overflow, by_folds) {
                     Ordering::Equal => {}
-                    told => return told,
+                    order => return order,
                 }
                 left = more;
                 right = others;
@@ -204,7 +204,7 @@ fn compare_words(a: &[u64], b: &[u64], overflow: &[Value], by_folds: bool) -> Or
 }
 
 fn compare_word(x: u64, y: u64, overflow: &[Value], by_folds: bool) -> Ordering
-    ensures { result ≡ told_by by_folds (word_value overflow.now x) (word_value overflow.now y) }
+    ensures { result ≡ value_order by_folds (word_value overflow.now x) (word_value overflow.now y) }
 {
     let (own_x, own_y) = (own_value(x), own_value(y));
     let x = value_of_word(x, overflow, &own_x);

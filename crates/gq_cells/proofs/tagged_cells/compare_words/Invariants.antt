@@ -1,10 +1,10 @@
 use Rattle.std.proofs.Common.{◌≡◌, length, map}
 use Rattle.std.specs.Cmp.Lexicographic.{slice_cmp}
-use Rattle.gq_cells.specs.Words.{told_by, word_value}
+use Rattle.gq_cells.specs.Words.{value_order, word_value}
 use Rattle.gq_cells.proofs.tagged_cells.compare_words.Given as goal
 
 abbrev pub invariant-words : goal.invariant-words
-invariant-words l = slice_cmp (told_by l.by_folds) (map (word_value l.overflow) l.left) (map (word_value l.overflow) l.right) ≡ slice_cmp (told_by l.by_folds) (map (word_value l.overflow) l.fn.a) (map (word_value l.overflow) l.fn.b)
+invariant-words l = slice_cmp (value_order l.by_folds) (map (word_value l.overflow) l.left) (map (word_value l.overflow) l.right) ≡ slice_cmp (value_order l.by_folds) (map (word_value l.overflow) l.fn.a) (map (word_value l.overflow) l.fn.b)
 
 abbrev pub decreases-words : goal.decreases-words
 decreases-words l = length l.left
