@@ -6,7 +6,7 @@ use Rattle.std.specs.List.{All}
 use Rattle.gq_row.specs.declared.limits.Bounds.{Bounds}
 use Rattle.gq_token.specs.Texts.{Bytes}
 use Rattle.gq_script.specs.Script.{Entry, Loading, Plain, content, entries_by, is_end_mark, is_skipped, items_left, line_of, payload_of, raw_lines, takes_payload, without_mark}
-use Rattle.gq_script.specs.Numbering.{Begun, Numbered, NumbersTell, StandsAt, entries_of, numbered_by, numbered_left}
+use Rattle.gq_script.specs.Numbering.{Begun, Numbered, NumbersTell, IsLineAt, entries_of, numbered_by, numbered_left}
 
 -- a line outside of a payload
 
@@ -129,40 +129,40 @@ none_numbered b n bytes e = none_mapped (numbered_left b n bytes) (numbered_item
 -- each at its line
 
 module _ (loads : Bytes → Bool) (lines : List Bytes) where
-  abbrev Stands : List Numbered → Type 0
-  Stands xs = All (StandsAt lines) xs
+  abbrev AreLinesAt : List Numbered → Type 0
+  AreLinesAt xs = All (IsLineAt lines) xs
 
-  record Standing (n : ℕ) (ls : List Bytes) : Type 0 where
-    pub none : Stands (numbered_by loads n None ls)
-    pub some : (begun : Begun) → ((told : Option Bytes) → StandsAt lines (record { number = begun.number; entry = Loading begun.line told })) → Stands (numbered_by loads n (Some begun) ls)
+  record Placed (n : ℕ) (ls : List Bytes) : Type 0 where
+    pub none : AreLinesAt (numbered_by loads n None ls)
+    pub some : (begun : Begun) → ((told : Option Bytes) → IsLineAt lines (record { number = begun.number; entry = Loading begun.line told })) → AreLinesAt (numbered_by loads n (Some begun) ls)
 
-  all_stand : (n : ℕ) (front ls : List Bytes) → lines ≡ front ++ ls → n ≡ length front → Standing n ls
+  all_placed : (n : ℕ) (front ls : List Bytes) → lines ≡ front ++ ls → n ≡ length front → Placed n ls
   unfolding numbered_by
-  all_stand n front [] are count = record { none = All-nil (StandsAt lines); some = λ begun at. All-cons (StandsAt lines) (record { number = begun.number; entry = Loading begun.line None }) [] (at None) (All-nil (StandsAt lines)) }
-  all_stand n front (l ∷ ls) are count =
+  all_placed n front [] are count = record { none = All-nil (IsLineAt lines); some = λ begun at. All-cons (IsLineAt lines) (record { number = begun.number; entry = Loading begun.line None }) [] (at None) (All-nil (IsLineAt lines)) }
+  all_placed n front (l ∷ ls) are count =
       let more : lines ≡ (front ++ l ∷ []) ++ ls = are ∙ sym (append_assoc front (l ∷ []) ls) in
       let long : length (front ++ l ∷ []) ≡ suc (length front) = length-append front (l ∷ []) ∙ omega arith in
-      let rest = all_stand (suc n) (front ++ l ∷ []) ls more (ap suc count ∙ sym long) in
+      let rest = all_placed (suc n) (front ++ l ∷ []) ls more (ap suc count ∙ sym long) in
       record { none = by_skip (is_skipped (content l)) rest; some = λ begun at. by_mark begun at (is_end_mark (content l)) rest }
     where
-      here : (e : Entry) → line_of e ≡ content l → StandsAt lines (record { number = suc n; entry = e })
+      here : (e : Entry) → line_of e ≡ content l → IsLineAt lines (record { number = suc n; entry = e })
       here e is = record { front = front; raw = l; rest = ls; lines_are = are; number = ap suc count; line = is }
 
-      by_load : (t : Bool) → Standing (suc n) ls → Stands (cond t (numbered_by loads (suc n) (Some (record { number = suc n; line = content l; payload = [] })) ls) ((record { number = suc n; entry = Plain (content l) }) ∷ numbered_by loads (suc n) None ls))
+      by_load : (t : Bool) → Placed (suc n) ls → AreLinesAt (cond t (numbered_by loads (suc n) (Some (record { number = suc n; line = content l; payload = [] })) ls) ((record { number = suc n; entry = Plain (content l) }) ∷ numbered_by loads (suc n) None ls))
       by_load true rest = rest.some (record { number = suc n; line = content l; payload = [] }) (λ told. here (Loading (content l) told) refl)
-      by_load false rest = All-cons (StandsAt lines) (record { number = suc n; entry = Plain (content l) }) (numbered_by loads (suc n) None ls) (here (Plain (content l)) refl) rest.none
+      by_load false rest = All-cons (IsLineAt lines) (record { number = suc n; entry = Plain (content l) }) (numbered_by loads (suc n) None ls) (here (Plain (content l)) refl) rest.none
 
-      by_skip : (t : Bool) → Standing (suc n) ls → Stands (cond t (numbered_by loads (suc n) None ls) (cond (loads (content l)) (numbered_by loads (suc n) (Some (record { number = suc n; line = content l; payload = [] })) ls) ((record { number = suc n; entry = Plain (content l) }) ∷ numbered_by loads (suc n) None ls)))
+      by_skip : (t : Bool) → Placed (suc n) ls → AreLinesAt (cond t (numbered_by loads (suc n) None ls) (cond (loads (content l)) (numbered_by loads (suc n) (Some (record { number = suc n; line = content l; payload = [] })) ls) ((record { number = suc n; entry = Plain (content l) }) ∷ numbered_by loads (suc n) None ls)))
       by_skip true rest = rest.none
       by_skip false rest = by_load (loads (content l)) rest
 
-      by_mark : (begun : Begun) → ((told : Option Bytes) → StandsAt lines (record { number = begun.number; entry = Loading begun.line told })) → (t : Bool) → Standing (suc n) ls
-          → Stands (cond t ((record { number = begun.number; entry = Loading begun.line (Some begun.payload) }) ∷ numbered_by loads (suc n) None ls) (numbered_by loads (suc n) (Some (record begun { payload = begun.payload ++ l })) ls))
-      by_mark begun at true rest = All-cons (StandsAt lines) (record { number = begun.number; entry = Loading begun.line (Some begun.payload) }) (numbered_by loads (suc n) None ls) (at (Some begun.payload)) rest.none
+      by_mark : (begun : Begun) → ((told : Option Bytes) → IsLineAt lines (record { number = begun.number; entry = Loading begun.line told })) → (t : Bool) → Placed (suc n) ls
+          → AreLinesAt (cond t ((record { number = begun.number; entry = Loading begun.line (Some begun.payload) }) ∷ numbered_by loads (suc n) None ls) (numbered_by loads (suc n) (Some (record begun { payload = begun.payload ++ l })) ls))
+      by_mark begun at true rest = All-cons (IsLineAt lines) (record { number = begun.number; entry = Loading begun.line (Some begun.payload) }) (numbered_by loads (suc n) None ls) (at (Some begun.payload)) rest.none
       by_mark begun at false rest = rest.some (record begun { payload = begun.payload ++ l }) at
 
 pub numbers_tell : NumbersTell
 numbers_tell = record {
   items = λ b script. (same_items (takes_payload b) 0 (raw_lines (without_mark script))).none;
-  lines = λ b script. (all_stand (takes_payload b) (raw_lines (without_mark script)) 0 [] (raw_lines (without_mark script)) refl refl).none;
+  lines = λ b script. (all_placed (takes_payload b) (raw_lines (without_mark script)) 0 [] (raw_lines (without_mark script)) refl refl).none;
 }

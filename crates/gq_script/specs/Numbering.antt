@@ -46,7 +46,7 @@ abbrev pub Passed : Bounds → Stream → Stream → Type 0
 Passed b old new = IfSome old.left (λ xs. (ys : Bytes) × (new.left ≡ Some ys) × (first_entry b (raw_lines xs) ≡ first_entry b (raw_lines ys)) × (new.given + length ys ≡ old.given + length xs) × (numbered_left b old.lines xs ≡ numbered_left b new.lines ys))
 
 -- the item's line is among these lines, at the position that its number says
-pub record StandsAt (lines : List Bytes) (x : Numbered) : Type 0 where
+pub record IsLineAt (lines : List Bytes) (x : Numbered) : Type 0 where
   pub front : List Bytes
   pub raw : Bytes
   pub rest : List Bytes
@@ -57,4 +57,4 @@ pub record StandsAt (lines : List Bytes) (x : Numbered) : Type 0 where
 -- without their numbers, the numbered items are the items of the script; each has the number of its line
 pub record NumbersTell : Type 0 where
   pub items : (b : Bounds) (script : Bytes) → entries_of (numbered b script) ≡ items b script
-  pub lines : (b : Bounds) (script : Bytes) → All (StandsAt (raw_lines (without_mark script))) (numbered b script)
+  pub lines : (b : Bounds) (script : Bytes) → All (IsLineAt (raw_lines (without_mark script))) (numbered b script)
