@@ -20,7 +20,7 @@ use Rattle.gq_load.specs.Numbers.{int_of, is_filled, is_space, signed}
 use Rattle.gq_load.specs.Payloads.{arranged, load, row_of, rows_from}
 
 -- a header that is taken has as many names as the table has columns; each is a column's, and the value of the field under it is in that column
-pub record StandsUnderItsName : Type 0 where
+pub record FollowsHeader : Type 0 where
   pub many : (columns : List Column) (names : List (List ℕ)) (places : List ℕ) → places_of columns names ≡ Ok places → length places ≡ length columns
   pub under : (columns : List Column) (names : List (List ℕ)) (places : List ℕ) (values : List Value) (i place : ℕ) → places_of columns names ≡ Ok places → length values ≡ length names → i < length names
       → position_of columns (slice_index_or names i []) ≡ Some place → cell (arranged (length columns) places values) place ≡ slice_index_or values i Null

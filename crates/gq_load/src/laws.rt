@@ -1,10 +1,10 @@
 //! Laws: what the definitions mean, in the subject's own words. Each is the contract of a function
 //! that does nothing.
-ghost use Rattle.gq_load.specs.Laws.{CompletesShortOnly, ReadsInts, ReadsNulls, ReadsRecords, StandsUnderItsName};
+ghost use Rattle.gq_load.specs.Laws.{CompletesShortOnly, ReadsInts, ReadsNulls, ReadsRecords, FollowsHeader};
 
 /// The value of a field is in the column that the header names above it.
-pub fn stands_under_its_name()
-    ensures { StandsUnderItsName }
+pub fn follows_header()
+    ensures { FollowsHeader }
 {}
 
 /// Each data record gives one row, in order; or the fault is that of the first faulty record, with its
