@@ -1,5 +1,5 @@
 //! What is asked of the groups of rows.
-ghost use Rattle.std.specs.Prelude.{◌≡◌, ◌≤◌, ◌&&◌, ℕ, true, List, IfOk, length, nat_lt, take};
+ghost use Rattle.std.specs.Prelude.{◌≡◌, ◌&&◌, ℕ, true, List, IfOk, length, nat_lt};
 ghost use Rattle.std.specs.List.{list_all};
 ghost use Rattle.gq_row.specs.declared.value.Value.{Value as Cell};
 ghost use Rattle.gq_group.specs.Fitting.{has_all_asked, has_asked, reaches as does_reach};
@@ -60,17 +60,6 @@ impl GroupSpec {
         ensures { result.now ≡ self.now.aggs }
     {
         self.aggs.as_slice()
-    }
-
-    /// The grouping by a prefix of its columns, with the same aggregates.
-    pub fn prefix(&self, alloc: Global, columns: usize) -> Result<GroupSpec, AllocError>
-        requires { columns ≤ length self.now.by }
-        ensures by { IfOk result (λ spec. spec.by ≡ take columns self.now.by) }
-        ensures aggs { IfOk result (λ spec. spec.aggs ≡ self.now.aggs) }
-    {
-        let by = Vec::from_slice(alloc, &self.by()[..columns])?;
-        let aggs = Vec::from_slice(alloc, self.aggs())?;
-        Ok(GroupSpec::new(by, aggs))
     }
 
     // The same grouping, of the aggregates that are kept for each group: all but `count(*)`, since each
