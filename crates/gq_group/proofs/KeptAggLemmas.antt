@@ -11,7 +11,7 @@ use Rattle.gq_agg.specs.Aggregates.{aggregate}
 use Rattle.gq_agg.specs.Running.{Running, tally}
 use Rattle.gq_group.specs.Entries.{tallies}
 use Rattle.gq_group.specs.Groups.{answers, column_of, counts_all, is_none}
-use Rattle.gq_group.specs.KeptAggs.{others, alone, kept_aggs, told_by, IsKnown}
+use Rattle.gq_group.specs.KeptAggs.{others, alone, kept_aggs, kept_for, IsKnown}
 use Rattle.gq_group.proofs.AggLemmas.{first_at, or_true}
 
 -- ---- how many rows there were
@@ -44,7 +44,7 @@ module _ (asked : List (AggKind × ℕ)) (i place : ℕ) (d : AggKind × ℕ) (l
   left_is : drop place (kept_aggs asked) ≡ others (next ∷ drop (suc i) asked) ++ alone asked
   left_is = left ∙ ap (λ l. others l ++ alone asked) (first_at asked i d less)
 
-  pub next_left : drop (place + told_by next.0) (kept_aggs asked) ≡ others (drop (i + 1) asked) ++ alone asked
+  pub next_left : drop (place + kept_for next.0) (kept_aggs asked) ≡ others (drop (i + 1) asked) ++ alone asked
   next_left = at (counts_all next.0) left_is
     where
       at : (b : Bool) → drop place (kept_aggs asked) ≡ cond (not b) (next ∷ others (drop (suc i) asked)) (others (drop (suc i) asked)) ++ alone asked

@@ -23,8 +23,8 @@ abbrev pub kept_spec : Spec → Spec
 kept_spec spec = record { by = spec.by; aggs = kept_aggs spec.aggs }
 
 -- how many kept aggregates give an aggregate's value: one, or none for count(*)
-abbrev pub told_by : AggKind → ℕ
-told_by kind = if counts_all kind then 0 else 1
+abbrev pub kept_for : AggKind → ℕ
+kept_for kind = if counts_all kind then 0 else 1
 
 -- An aggregate of values is known: count(*) by how many rows there are, any other by the one that is kept at a place.
 abbrev pub IsKnown : Bool → AggKind → List Value → ℕ → List Running → ℕ → Type 0

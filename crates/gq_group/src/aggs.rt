@@ -8,7 +8,7 @@ ghost use Rattle.gq_agg.specs.Aggregates.{aggregate};
 ghost use Rattle.gq_agg.specs.Running.{tally, kind_of};
 ghost use Rattle.gq_group.specs.Entries.{tallies};
 ghost use Rattle.gq_group.specs.Groups.{answers, counts_all, fits_cell, is_none};
-ghost use Rattle.gq_group.specs.KeptAggs.{IsKnown, kept_aggs, told_by};
+ghost use Rattle.gq_group.specs.KeptAggs.{IsKnown, kept_aggs, kept_for};
 
 use crate::group_spec::counts_all as is_count;
 use gq_agg::{Agg, AggKind, SumRange};
@@ -72,7 +72,7 @@ pub(crate) fn take_values(
     'asked: for i in 0..asked.len() {
         let kind = asked[i].0;
         take_value(aggs, place, kind, rows, &mut values[i])?;
-        place += told_by(kind);
+        place += kept_for(kind);
     }
     Ok(())
 }
@@ -105,7 +105,7 @@ fn take_value(
     ensures value { (values : List Cell) → IsKnown (counts_all kind) kind values rows aggs.old place →
         MatchResult result (λ _. aggregate kind values ≡ Some over.new)
         (λ _. aggregate kind values ≡ None) }
-    ensures behind { drop (place + told_by kind) aggs.new ≡ drop (place + told_by kind) aggs.old }
+    ensures behind { drop (place + kept_for kind) aggs.new ≡ drop (place + kept_for kind) aggs.old }
     ensures long { length aggs.new ≡ length aggs.old }
 {
     if is_count(kind) {
@@ -117,8 +117,8 @@ fn take_value(
 
 // How many of the kept aggregates give its value: one, or none for `count(*)`.
 #[inline(always)]
-fn told_by(kind: AggKind) -> usize
-    ensures { result ≡ told_by kind }
+fn kept_for(kind: AggKind) -> usize
+    ensures { result ≡ kept_for kind }
 {
     if is_count(kind) { 0 } else { 1 }
 }

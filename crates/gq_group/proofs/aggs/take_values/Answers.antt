@@ -6,7 +6,7 @@ use Rattle.gq_agg.specs.Aggregates.{aggregate}
 use Rattle.gq_agg.specs.declared.kind.AggKind.TheVariants.{CountAll}
 use Rattle.gq_group.specs.Entries.{tallies}
 use Rattle.gq_group.specs.Groups.{answers, column_of, is_none}
-use Rattle.gq_group.specs.KeptAggs.{kept_aggs, told_by}
+use Rattle.gq_group.specs.KeptAggs.{kept_aggs, kept_for}
 use Rattle.gq_group.proofs.KeptAggLemmas.{next, next_left, next_known, next_answer, next_refused, some_kept}
 use Rattle.gq_group.proofs.aggs.take_values.Goals as goal
 
@@ -28,7 +28,7 @@ asked-preserved c =
     let place = c.asked.place in
     let value = c.take_value.new.over in
     let a = next asked i place (CountAll, 0) c.asked-test.true c.asked.invariant.left in
-    let step : c.told_by-place.result ≡ told_by a.0 = c.told_by-place.ensures in
+    let step : c.kept_for-place.result ≡ kept_for a.0 = c.kept_for-place.ensures in
     let lt : i < length c.asked.values = omega (arith, c.asked-test.true, c.asked.invariant.size) in
     record {
       size = length-set c.asked.values i value ∙ c.asked.invariant.size;
@@ -36,9 +36,9 @@ asked-preserved c =
       rest =
           ap (λ n. drop (place + n) c.take_value.new.aggs) step
           ∙ c.in_ok-take_value.ensures.behind
-          ∙ sym (drop-drop (told_by a.0) place c.asked.aggs)
-          ∙ ap (drop (told_by a.0)) c.asked.invariant.rest
-          ∙ drop-drop (told_by a.0) place c.args.aggs.now
+          ∙ sym (drop-drop (kept_for a.0) place c.asked.aggs)
+          ∙ ap (drop (kept_for a.0)) c.asked.invariant.rest
+          ∙ drop-drop (kept_for a.0) place c.args.aggs.now
           ∙ ap (λ n. drop (place + n) c.args.aggs.now) (sym step);
       left = ap (λ n. drop (place + n) (kept_aggs asked)) step ∙ next_left asked i place (CountAll, 0) c.asked-test.true c.asked.invariant.left;
       made = λ rows is.
