@@ -12,7 +12,7 @@ use Rattle.byteorder.specs.Endian.{big_number}
 use Rattle.gq_row.specs.declared.value.Value.{Value}
 use Rattle.gq_row.specs.declared.value.Value.TheVariants.{Null, Int, Text, NoCase}
 use Rattle.gq_record.specs.Records.{with_length, number_bytes, value_bytes, body_of, record_of, IsText, IsCell, IsStorable}
-use Rattle.gq_record.specs.Laws.{TellsOneRow}
+use Rattle.gq_record.specs.Laws.{DeterminesRow}
 
 -- two lists of one length before others
 pub fronts : {X : Type 0} (a b x y : List X) → length a ≡ length b → a ++ x ≡ b ++ y → (a ≡ b) × (x ≡ y)
@@ -156,9 +156,9 @@ body_once (c ∷ a) (d ∷ b) p q e =
     let rest = body_once a b (All-tail IsCell c a p) (All-tail IsCell d b q) firsts.1 in
     cc (firsts.0, rest)
 
-pub tells_one_row : TellsOneRow
+pub determines_row : DeterminesRow
 unfolding record_of
-tells_one_row a b x y p q e =
+determines_row a b x y p q e =
     let parts = block_once (body_of a) (body_of b) x y p.short q.short e in
     (body_once a b p.cells q.cells parts.0, parts.1)
 

@@ -5,5 +5,5 @@ use Rattle.gq_record.specs.Records.{IsStorable, record_of}
 
 -- bytes that begin with a row's record begin with no other row's: no record begins with another, and none is of
 -- two rows
-abbrev pub TellsOneRow : Type 0
-TellsOneRow = (a b : List Value) (x y : List ℕ) → IsStorable a → IsStorable b → record_of a ++ x ≡ record_of b ++ y → (a ≡ b) × (x ≡ y)
+abbrev pub DeterminesRow : Type 0
+DeterminesRow = (a b : List Value) (x y : List ℕ) → IsStorable a → IsStorable b → record_of a ++ x ≡ record_of b ++ y → (a ≡ b) × (x ≡ y)

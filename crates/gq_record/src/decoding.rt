@@ -19,8 +19,8 @@ pub fn take_length(bytes: &[u8]) -> Option<(u32, &[u8])>
     if bytes.len() < 4 {
         return None;
     }
-    let (front, rest) = bytes.split_at(4);
-    Some((BigEndian::read_u32(front), rest))
+    let (head, rest) = bytes.split_at(4);
+    Some((BigEndian::read_u32(head), rest))
 }
 
 // The number that the bytes begin with, and the bytes after it.
@@ -32,8 +32,8 @@ fn take_number(bytes: &[u8]) -> Option<(i64, &[u8])>
     if bytes.len() < 8 {
         return None;
     }
-    let (front, rest) = bytes.split_at(8);
-    Some((BigEndian::read_i64(front), rest))
+    let (head, rest) = bytes.split_at(8);
+    Some((BigEndian::read_i64(head), rest))
 }
 
 // The bytes after the length that these begin with, as many as it says, and the bytes after those.

@@ -24,9 +24,9 @@ fn put_text(tag: u8, text: &Text, out: &mut Vec<u8>) -> Result<(), AllocError>
     ensures ok { OnOk result (out.new.items ≡ out.old.items ++ tag ∷ with_length text.now) }
     ensures keeps { take (length out.old.items) out.new.items ≡ out.old.items }
 {
-    let mut front = [tag; 5];
-    BigEndian::write_u32(&mut front[1..], text.len() as u32);
-    out.extend_from_slice(&front)?;
+    let mut head = [tag; 5];
+    BigEndian::write_u32(&mut head[1..], text.len() as u32);
+    out.extend_from_slice(&head)?;
     out.extend_from_slice(text.as_str().as_bytes())
 }
 

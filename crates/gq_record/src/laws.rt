@@ -1,8 +1,8 @@
 //! Laws: what the definitions imply, in the subject's own words. Each is the contract of a function that does
 //! nothing.
-ghost use Rattle.gq_record.specs.Laws.{TellsOneRow};
+ghost use Rattle.gq_record.specs.Laws.{DeterminesRow};
 
 /// No row's record begins with another row's, and no record is that of two rows.
-pub fn tells_one_row()
-    ensures { TellsOneRow }
+pub fn determines_row()
+    ensures { DeterminesRow }
 {}

@@ -6,7 +6,7 @@ use Rattle.std.proofs.lemmas.List.{drop_at, take-append-drop, append_assoc, leng
 use Rattle.std.proofs.lemmas.List.Elements.{All-head, All-tail}
 use Rattle.gq_row.specs.declared.value.Value.{Value}
 use Rattle.gq_record.specs.Records.{body_of, record_of, records_of, IsStorable}
-use Rattle.gq_record.proofs.RecordLemmas.{fronts, length_once, tells_one_row}
+use Rattle.gq_record.proofs.RecordLemmas.{fronts, length_once, determines_row}
 use Rattle.gq_spill.specs.Handing.{Gave}
 use Rattle.gq_spill.specs.Laws.{ReadsBack}
 use Rattle.gq_spill.specs.Reading.{Reading, Unread, Left}
@@ -128,7 +128,7 @@ pub took_row : (r s : Reading) (a b : Runs) (rows : List (List Value)) (row : Li
 took_row r s a b [] row more left fits takes records columns given refused = absurd (omega (arith, left.count_rows))
 took_row r s a b (first ∷ rows) row more left fits takes records columns given refused =
     let found = takes (records_of (first ∷ rows)) left.bytes in
-    let same = tells_one_row first row (records_of rows) found.0 (All-head IsStorable first rows left.storable) fits found.1 in (
+    let same = determines_row first row (records_of rows) found.0 (All-head IsStorable first rows left.storable) fits found.1 in (
       rows,
       ap (λ (x : List Value). x ∷ rows) same.0,
       record {
@@ -144,7 +144,7 @@ pub right_width : (r s : Reading) (a b : Runs) (rows : List (List Value)) (row :
 right_width r s a b [] row more left fits takes = absurd (omega (arith, left.count_rows))
 right_width r s a b (first ∷ rows) row more left fits takes =
     let found = takes (records_of (first ∷ rows)) left.bytes in
-    let same = tells_one_row first row (records_of rows) found.0 (All-head IsStorable first rows left.storable) fits found.1 in
+    let same = determines_row first row (records_of rows) found.0 (All-head IsStorable first rows left.storable) fits found.1 in
     ap length (sym same.0) ∙ All-head (λ (x : List Value). length x ≡ r.columns) first rows left.widths
 
 -- ---- written rows

@@ -1,5 +1,5 @@
-use Rattle.gq_record.proofs.RecordLemmas.{tells_one_row}
-use Rattle.gq_record.proofs.laws.tells_one_row.Goals as goal
+use Rattle.gq_record.proofs.RecordLemmas.{determines_row}
+use Rattle.gq_record.proofs.laws.determines_row.Goals as goal
 
 pub returns : goal.returns
-returns c = tells_one_row
+returns c = determines_row
