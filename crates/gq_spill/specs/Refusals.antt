@@ -7,17 +7,17 @@ use Rattle.gq_spill.specs.declared.spill_refusal.SpillRefusal.{SpillRefusal}
 use Rattle.gq_spill.specs.declared.spill_refusal.SpillRefusal.TheVariants.{Memory, StoreFault, Damaged}
 
 -- the error that a store's error becomes
-abbrev pub told_as : StoreError → SpillRefusal
-told_as NoMemory = Memory
-told_as Fault = StoreFault
+abbrev pub refused_as : StoreError → SpillRefusal
+refused_as NoMemory = Memory
+refused_as Fault = StoreFault
 
 -- a result is the error that the store failed
-abbrev pub tells_fault : {T : Type 0} → Result T SpillRefusal → Bool
-tells_fault (Ok x) = false
-tells_fault (Err Memory) = false
-tells_fault (Err StoreFault) = true
-tells_fault (Err Damaged) = false
+abbrev pub reports_fault : {T : Type 0} → Result T SpillRefusal → Bool
+reports_fault (Ok x) = false
+reports_fault (Err Memory) = false
+reports_fault (Err StoreFault) = true
+reports_fault (Err Damaged) = false
 
 -- a call reports a failure of the store exactly if it failed, and the failure is counted once
-abbrev pub TellsFaults : {T : Type 0} → Result T SpillRefusal → Runs → Runs → Type 0
-TellsFaults result old new = new.failures ≡ old.failures + one_if (tells_fault result)
+abbrev pub ReportsFaults : {T : Type 0} → Result T SpillRefusal → Runs → Runs → Type 0
+ReportsFaults result old new = new.failures ≡ old.failures + one_if (reports_fault result)

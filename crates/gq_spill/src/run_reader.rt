@@ -4,7 +4,7 @@ ghost use Rattle.gq_row.specs.declared.value.Value.{Value as Cell};
 ghost use Rattle.gq_record.specs.Records.{IsStorable};
 ghost use Rattle.gq_spill.specs.Handing.{Gave, came, taken};
 ghost use Rattle.gq_spill.specs.Reading.{opened, Left};
-ghost use Rattle.gq_spill.specs.Refusals.{TellsFaults};
+ghost use Rattle.gq_spill.specs.Refusals.{ReportsFaults};
 ghost use Rattle.gq_spill.specs.Runs.{OnlyReads};
 
 use crate::run_mark::RunMark;
@@ -85,7 +85,7 @@ impl RunReader {
             (self.new.tail.end ≡ self.old.tail.end) × (self.new.records ≡ self.old.records) ×
             (self.new.columns ≡ self.old.columns) × (self.new.refused ≡ self.old.refused) }
         ensures store { OnlyReads (S.runs store.old) (S.runs store.new) }
-        ensures faults { TellsFaults result (S.runs store.old) (S.runs store.new) }
+        ensures faults { ReportsFaults result (S.runs store.old) (S.runs store.new) }
     {
         match self.tail.take(alloc, store, self.columns, row) {
             Ok(()) => {
@@ -131,7 +131,7 @@ impl RunReader {
             (self.new.columns ≡ self.old.columns) }
         ensures store { OnlyReads (S.runs store.old) (S.runs store.new) }
         ensures faults { self.old.refused ≡ None →
-            TellsFaults result (S.runs store.old) (S.runs store.new) }
+            ReportsFaults result (S.runs store.old) (S.runs store.new) }
     {
         if let Some(why) = self.refused {
             return Err(why);

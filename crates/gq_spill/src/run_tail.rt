@@ -3,7 +3,7 @@ ghost use Rattle.std.specs.Prelude.{◌≡◌, ◌++◌, ◌+◌, ◌<◌, ◌�
 ghost use Rattle.gq_row.specs.declared.value.Value.{Value as Cell};
 ghost use Rattle.gq_record.specs.Records.{IsStorable, record_of};
 ghost use Rattle.gq_spill.specs.Reading.{Unread};
-ghost use Rattle.gq_spill.specs.Refusals.{TellsFaults};
+ghost use Rattle.gq_spill.specs.Refusals.{ReportsFaults};
 ghost use Rattle.gq_spill.specs.Runs.{OnlyReads};
 
 use crate::spill_refusal::SpillRefusal;
@@ -44,7 +44,7 @@ impl RunTail {
             (self.new.end ≡ self.old.end) }
         ensures within { self.new.at + length self.new.ahead ≤ self.new.end }
         ensures store { OnlyReads (S.runs store.old) (S.runs store.new) }
-        ensures faults { TellsFaults result (S.runs store.old) (S.runs store.new) }
+        ensures faults { ReportsFaults result (S.runs store.old) (S.runs store.new) }
     {
         let held = self.ahead.len();
         if need <= held {
@@ -103,7 +103,7 @@ impl RunTail {
         ensures same { (self.new.id ≡ self.old.id) × (self.new.end ≡ self.old.end) }
         ensures within { self.new.at + length self.new.ahead ≤ self.new.end }
         ensures store { OnlyReads (S.runs store.old) (S.runs store.new) }
-        ensures faults { TellsFaults result (S.runs store.old) (S.runs store.new) }
+        ensures faults { ReportsFaults result (S.runs store.old) (S.runs store.new) }
     {
         if let Err(why) = self.fetch(store, LENGTH) {
             return Err(why);

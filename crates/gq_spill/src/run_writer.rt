@@ -2,7 +2,7 @@
 ghost use Rattle.std.specs.Prelude.{◌≡◌, ◌+◌, ◌++◌, ◌∷◌, [], List, None, IfOk, IfErr, IfSome, OnOk, OnErr, Err, IsErrOf, IsTrue, is_ok};
 ghost use Rattle.gq_row.specs.declared.value.Value.{Value as Cell};
 ghost use Rattle.gq_record.specs.Records.{IsStorable};
-ghost use Rattle.gq_spill.specs.Refusals.{TellsFaults};
+ghost use Rattle.gq_spill.specs.Refusals.{ReportsFaults};
 ghost use Rattle.gq_spill.specs.Runs.{Makes, Kept, OnlyWrites, one_if};
 ghost use Rattle.gq_spill.specs.Writing.{Wrote, begun, with_row, refusing};
 
@@ -43,7 +43,7 @@ impl RunWriter {
             IfOk result (λ w. Wrote w (S.runs store.new) []) }
         ensures err { OnErr result (Kept (S.runs store.old) (S.runs store.new)) }
         ensures count { (S.runs store.new).made ≡ (S.runs store.old).made + one_if (is_ok result) }
-        ensures faults { TellsFaults result (S.runs store.old) (S.runs store.new) }
+        ensures faults { ReportsFaults result (S.runs store.old) (S.runs store.new) }
         ensures sound { IsErrOf result SpillRefusal.Damaged → ⊥ }
     {
         match store.make() {
@@ -70,7 +70,7 @@ impl RunWriter {
             Wrote self.new (S.runs store.new) (rows ++ row.now ∷ [])) }
         ensures err { OnErr result (self.new ≡ self.old) }
         ensures store { OnlyWrites self.old.mark.id.number (S.runs store.old) (S.runs store.new) }
-        ensures faults { TellsFaults result (S.runs store.old) (S.runs store.new) }
+        ensures faults { ReportsFaults result (S.runs store.old) (S.runs store.new) }
         ensures sound { IsErrOf result SpillRefusal.Damaged → ⊥ }
     {
         self.buffer.clear();
@@ -109,7 +109,7 @@ impl RunWriter {
             (store.new ≡ store.old)) }
         ensures store { OnlyWrites self.old.mark.id.number (S.runs store.old) (S.runs store.new) }
         ensures faults { self.old.refused ≡ None →
-            TellsFaults result (S.runs store.old) (S.runs store.new) }
+            ReportsFaults result (S.runs store.old) (S.runs store.new) }
         ensures sound { self.old.refused ≡ None → IsErrOf result SpillRefusal.Damaged → ⊥ }
     {
         if let Some(why) = self.refused {

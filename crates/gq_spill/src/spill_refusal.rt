@@ -1,6 +1,6 @@
 //! Why rows can't be written to a run, or read from it.
 ghost use Rattle.std.specs.Prelude.{◌≡◌};
-ghost use Rattle.gq_spill.specs.Refusals.{told_as};
+ghost use Rattle.gq_spill.specs.Refusals.{refused_as};
 
 use crate::store_error::StoreError;
 use thiserror::Error;
@@ -22,7 +22,7 @@ pub enum SpillRefusal {
 impl SpillRefusal {
     // The error that a store's error becomes.
     pub(crate) fn of(error: StoreError) -> SpillRefusal
-        ensures { result ≡ told_as error }
+        ensures { result ≡ refused_as error }
     {
         match error {
             StoreError::Memory => SpillRefusal::Memory,

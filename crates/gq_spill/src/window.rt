@@ -1,7 +1,7 @@
 //! A run's bytes, read ahead in pieces.
 ghost use Rattle.std.specs.Prelude.{◌≡◌, ◌++◌, ◌+◌, ◌-◌, ◌<◌, ◌≤◌, ◌^◌, [], List, ℕ, length, take, drop, Some, OnOk, OnErr, IsErrOf};
 ghost use Rattle.std.specs.Prelude.{IsTrue};
-ghost use Rattle.gq_spill.specs.Refusals.{TellsFaults};
+ghost use Rattle.gq_spill.specs.Refusals.{ReportsFaults};
 ghost use Rattle.gq_spill.specs.Runs.{OnlyReads};
 
 use crate::spill_refusal::SpillRefusal;
@@ -24,7 +24,7 @@ fn read_piece<S: RunStore>(
         (c : List ℕ) → (S.runs store.old).content id.number ≡ Some c →
         length (drop at c) < length buffer.old }
     ensures store { OnlyReads (S.runs store.old) (S.runs store.new) }
-    ensures faults { TellsFaults result (S.runs store.old) (S.runs store.new) }
+    ensures faults { ReportsFaults result (S.runs store.old) (S.runs store.new) }
 {
     let wanted = buffer.len();
     match store.read(id, at, buffer) {
@@ -35,10 +35,10 @@ fn read_piece<S: RunStore>(
 }
 
 // Moves a range of the bytes to the start.
-fn move_front(bytes: &mut Vec<u8>, start: usize, end: usize)
+fn move_to_start(bytes: &mut Vec<u8>, start: usize, end: usize)
     requires ordered { start ≤ end }
     requires within { end ≤ length bytes.old.items }
-    ensures front { take (end - start) bytes.new.items ≡ take (end - start) (drop start
+    ensures kept { take (end - start) bytes.new.items ≡ take (end - start) (drop start
         bytes.old.items) }
     ensures len { length bytes.new.items ≡ length bytes.old.items }
 {
@@ -49,7 +49,7 @@ fn move_front(bytes: &mut Vec<u8>, start: usize, end: usize)
 
 // Extends the bytes to `len`, unless there are as many.
 fn lengthen(bytes: &mut Vec<u8>, len: usize) -> Result<(), AllocError>
-    ensures front { take (length bytes.old.items) bytes.new.items ≡ bytes.old.items }
+    ensures kept { take (length bytes.old.items) bytes.new.items ≡ bytes.old.items }
     ensures len { OnOk result (len ≤ length bytes.new.items) }
 {
     if bytes.len() < len {
@@ -59,7 +59,7 @@ fn lengthen(bytes: &mut Vec<u8>, len: usize) -> Result<(), AllocError>
 }
 
 // Reads `more` bytes of a run from position `at` on, and stores them after the first `held`.
-fn read_behind<S: RunStore>(
+fn read_after<S: RunStore>(
     store: &mut S,
     id: RunId,
     at: u64,
@@ -72,11 +72,11 @@ fn read_behind<S: RunStore>(
     ensures bytes { IsTrue (S.runs store.old).honest → OnOk result ((c : List ℕ) →
         (S.runs store.old).content id.number ≡ Some c →
         take (held + more) bytes.new ≡ take held bytes.old ++ take more (drop at c)) }
-    ensures front { take held bytes.new ≡ take held bytes.old }
+    ensures kept { take held bytes.new ≡ take held bytes.old }
     ensures sound { IsTrue (S.runs store.old).honest → IsErrOf result SpillRefusal.Damaged →
         (c : List ℕ) → (S.runs store.old).content id.number ≡ Some c → length (drop at c) < more }
     ensures store { OnlyReads (S.runs store.old) (S.runs store.new) }
-    ensures faults { TellsFaults result (S.runs store.old) (S.runs store.new) }
+    ensures faults { ReportsFaults result (S.runs store.old) (S.runs store.new) }
 {
     read_piece(store, id, at, &mut bytes[held..held + more])
 }
@@ -151,16 +151,16 @@ impl Window {
             length (drop at c) < more }
         ensures err { OnErr result (self.new ≡ self.old) }
         ensures store { OnlyReads (S.runs store.old) (S.runs store.new) }
-        ensures faults { TellsFaults result (S.runs store.old) (S.runs store.new) }
+        ensures faults { ReportsFaults result (S.runs store.old) (S.runs store.new) }
     {
         let held = self.len();
-        move_front(&mut self.bytes, self.start, self.end);
+        move_to_start(&mut self.bytes, self.start, self.end);
         self.start = 0;
         self.end = held;
         if lengthen(&mut self.bytes, held + more).is_err() {
             return Err(SpillRefusal::Memory);
         }
-        read_behind(store, id, at, self.bytes.as_mut_slice(), held, more)?;
+        read_after(store, id, at, self.bytes.as_mut_slice(), held, more)?;
         self.end = held + more;
         Ok(())
     }

@@ -1,6 +1,6 @@
 use Rattle.std.proofs.Common.{arith}
 use Rattle.std.proofs.lemmas.Grind.{common_steps}
-use Rattle.gq_spill.proofs.window.read_behind.Goals as goal
+use Rattle.gq_spill.proofs.window.read_after.Goals as goal
 
-pub returns-clause-front : goal.returns-clause-front
-returns-clause-front g c = grind (arith, common_steps)
+pub returns-clause-kept : goal.returns-clause-kept
+returns-clause-kept g c = grind (arith, common_steps)
