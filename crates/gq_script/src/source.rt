@@ -52,7 +52,7 @@ fn refill<R: Read>(
     ensures within { IfOk result (λ x. (x.0 ≤ x.1) × (x.1 ≤ length buffer.new)) }
     ensures bytes { IfOk result (λ x. Keeps (waiting behind_mark [] (R.remaining reader.old)) (waiting true (slice_range buffer.new x.0 x.1) (R.remaining reader.new))) }
     ensures end { IfOk result (λ x. x.0 ≡ x.1 → IsAtEnd (R.remaining reader.new)) }
-    ensures front { IfOk result (λ x. IsMarkOf behind_mark x.0 (R.remaining reader.old)) }
+    ensures mark { IfOk result (λ x. IsMarkOf behind_mark x.0 (R.remaining reader.old)) }
 {
     if behind_mark {
         match reader.read(buffer) {

@@ -63,7 +63,7 @@ fn digits_len(bytes: &[u8]) -> usize
 fn split_ascii(text: &str, len: usize) -> (&str, &str)
     requires within { len ≤ length text.now }
     requires ascii { 0 < len → slice_index text.now (len - 1) < 128 }
-    ensures front { result.0.now ≡ take len text.now }
+    ensures taken { result.0.now ≡ take len text.now }
     ensures back { result.1.now ≡ drop len text.now }
 {
     text.split_at(len)
