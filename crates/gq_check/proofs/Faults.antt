@@ -16,7 +16,7 @@ use Rattle.gq_command.specs.Items.{IsReadAs, LosesPayload}
 use Rattle.gq_command.specs.Lines.{Says}
 use Rattle.gq_command.proofs.Answered.{refused}
 use Rattle.gq_command.proofs.LoadWord.{said_load}
-use Rattle.gq_command.proofs.OneReading.{stands_some}
+use Rattle.gq_command.proofs.OneReading.{represents_some}
 use Rattle.gq_check.specs.declared.fault.Fault.{Fault}
 use Rattle.gq_check.specs.Findings.{IsFaultOf, IsToldOf, fault_in, payload_fault, refusal_fault}
 
@@ -37,30 +37,30 @@ accepted b line it e never (inr (inl same)) = absurd (never same)
 accepted b line it e never (inr (inr lost)) = absurd (none-lost b line it lost)
 
 -- a line of which this is reported, by what was kept of it
-pub told-refused : (b : Bounds) (line : OpenLine) (text : Bytes) → Gathers b.line line text → is_skipped text ≡ false → line.too_long ≡ false → line.lost ≡ false → (line.opening ≡ opening.Dash → ⊥)
+pub refused-line : (b : Bounds) (line : OpenLine) (text : Bytes) → Gathers b.line line text → is_skipped text ≡ false → line.too_long ≡ false → line.lost ≡ false → (line.opening ≡ opening.Dash → ⊥)
     → (r : LineRefusal) → IsToldOf b line.kept.items (Some r) → IsReadAs b (Plain text) (item.Refused r)
-told-refused b line text h skipped long lost never refusal.Syntax told =
-    refused b line text h skipped long lost never refusal.Syntax (λ e. told) (λ e. absurd cc) (λ e. absurd cc)
-told-refused b line text h skipped long lost never refusal.LineTooLong told =
-    refused b line text h skipped long lost never refusal.LineTooLong (λ e. absurd cc) (λ e. absurd cc) (λ e. told)
-told-refused b line text h skipped long lost never refusal.Limit told =
-    refused b line text h skipped long lost never refusal.Limit (λ e. absurd cc) (λ e. told) (λ e. absurd cc)
-told-refused b line text h skipped long lost never refusal.Memory told = inr (inl refl)
+refused-line b line text h skipped long lost never refusal.Syntax given =
+    refused b line text h skipped long lost never refusal.Syntax (λ e. given) (λ e. absurd cc) (λ e. absurd cc)
+refused-line b line text h skipped long lost never refusal.LineTooLong given =
+    refused b line text h skipped long lost never refusal.LineTooLong (λ e. absurd cc) (λ e. absurd cc) (λ e. given)
+refused-line b line text h skipped long lost never refusal.Limit given =
+    refused b line text h skipped long lost never refusal.Limit (λ e. absurd cc) (λ e. given) (λ e. absurd cc)
+refused-line b line text h skipped long lost never refusal.Memory given = inr (inl refl)
 
 -- a load, by its line and its payload
 abbrev pub either : Option Fault → Option Fault → Option Fault
 either None second = second
 either (Some f) second = Some f
 
-pub with-payload : (b : Bounds) (line : Bytes) (told : Option Bytes) (f : Option Fault) → takes_payload b line ≡ true → IsFaultOf b (Plain line) f → IsFaultOf b (Loading line told) (either f (payload_fault b.payload told))
-with-payload b line told f takes (item.Refused refusal.Memory, reads, e) = absurd reads
-with-payload b line told f takes (item.Refused refusal.Syntax, reads, e) = (item.Refused refusal.Syntax, reads, ap (λ g. either g (payload_fault b.payload told)) e)
-with-payload b line told f takes (item.Refused refusal.LineTooLong, reads, e) = (item.Refused refusal.LineTooLong, reads, ap (λ g. either g (payload_fault b.payload told)) e)
-with-payload b line told f takes (item.Refused refusal.Limit, reads, e) = (item.Refused refusal.Limit, reads, ap (λ g. either g (payload_fault b.payload told)) e)
-with-payload b line told f takes (item.Command c, reads, e) =
+pub with-payload : (b : Bounds) (line : Bytes) (given : Option Bytes) (f : Option Fault) → takes_payload b line ≡ true → IsFaultOf b (Plain line) f → IsFaultOf b (Loading line given) (either f (payload_fault b.payload given))
+with-payload b line given f takes (item.Refused refusal.Memory, reads, e) = absurd reads
+with-payload b line given f takes (item.Refused refusal.Syntax, reads, e) = (item.Refused refusal.Syntax, reads, ap (λ g. either g (payload_fault b.payload given)) e)
+with-payload b line given f takes (item.Refused refusal.LineTooLong, reads, e) = (item.Refused refusal.LineTooLong, reads, ap (λ g. either g (payload_fault b.payload given)) e)
+with-payload b line given f takes (item.Refused refusal.Limit, reads, e) = (item.Refused refusal.Limit, reads, ap (λ g. either g (payload_fault b.payload given)) e)
+with-payload b line given f takes (item.Command c, reads, e) =
     let load = said_load b line c takes reads.0 reads.1.0 in
-    let stands = stands_some b.payload told in (
-      item.Command (Load load.0 stands.0),
-      (reads.0, (load.0, stands.0, refl, subst (Says line) load.1 reads.1.0, sym (ap (fits b) load.1) ∙ reads.1.1, stands.1)),
-      ap (λ g. either g (payload_fault b.payload told)) e,
+    let carried = represents_some b.payload given in (
+      item.Command (Load load.0 carried.0),
+      (reads.0, (load.0, carried.0, refl, subst (Says line) load.1 reads.1.0, sym (ap (fits b) load.1) ∙ reads.1.1, carried.1)),
+      ap (λ g. either g (payload_fault b.payload given)) e,
     )

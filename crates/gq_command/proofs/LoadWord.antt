@@ -40,6 +40,6 @@ pub said_load : (b : Bounds) (line : Bytes) (c : Command) → takes_payload b li
 said_load b line c takes le s =
     let whole : bytes_eq (lower (first_word line)) (codes "load") ≡ true = ap (λ (l : Bytes). bytes_eq (lower (first_word l)) (codes "load")) (sym (take_all b.line line le)) ∙ takes in
     let begun = begins_load line whole in
-    let told = first_token line begun.0 begun.1 (phrase c) begun.2 begun.3 s.written in
+    let given = first_token line begun.0 begun.1 (phrase c) begun.2 begun.3 s.written in
     let is : lower (first_word line) ≡ codes "load" = (bytes_eq-Decides (lower (first_word line)) (codes "load")).0 whole in
-    load_phrase c told.0 (told.1 ∙ ap (λ (t : Token). t ∷ told.0) (load_word (first_word line) is)) (both_true (grammatical c) (keeps_rules c) s.command).1
+    load_phrase c given.0 (given.1 ∙ ap (λ (t : Token). t ∷ given.0) (load_word (first_word line) is)) (both_true (grammatical c) (keeps_rules c) s.command).1

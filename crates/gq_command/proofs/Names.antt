@@ -71,13 +71,13 @@ before (n ∷ ns) rest e = by_found (list_any (bytes_eq n) ns) refl e (before ns
         and_false true = refl
         and_false false = refl
 
-told : (added b : Bool) → added ≡ not b → b ≡ not added
-told added true e = sym (ap not e)
-told added false e = sym (ap not e)
+given : (added b : Bool) → added ≡ not b → b ≡ not added
+given added true e = sym (ap not e)
+given added false e = sym (ap not e)
 
 pub repeats : (s : BTreeSet (Bor (List ℕ))) (k : Bor (List ℕ)) (ns rest : List Bytes) (added : Bool) → Seen s ns → added ≡ not (contains str_cmp s k) → added ≡ false → no_repeats bytes_eq ((ns ++ k.now ∷ []) ++ rest) ≡ false
 repeats s k ns rest added seen is none =
-    let found : list_any (bytes_eq k.now) ns ≡ true = sym (seen k) ∙ told added (contains str_cmp s k) is ∙ ap not none in
+    let found : list_any (bytes_eq k.now) ns ≡ true = sym (seen k) ∙ given added (contains str_cmp s k) is ∙ ap not none in
     before (ns ++ k.now ∷ []) rest (push ns k.now ∙ ap (λ (b : Bool). no_repeats bytes_eq ns && not b) found ∙ and_false (no_repeats bytes_eq ns))
   where
     and_false : (b : Bool) → b && false ≡ false
@@ -86,5 +86,5 @@ repeats s k ns rest added seen is none =
 
 pub differs : (s : BTreeSet (Bor (List ℕ))) (k : Bor (List ℕ)) (ns : List Bytes) (added : Bool) → Seen s ns → added ≡ not (contains str_cmp s k) → added ≡ true → no_repeats bytes_eq ns ≡ true → no_repeats bytes_eq (ns ++ k.now ∷ []) ≡ true
 differs s k ns added seen is new so_far =
-    let none : list_any (bytes_eq k.now) ns ≡ false = sym (seen k) ∙ told added (contains str_cmp s k) is ∙ ap not new in
+    let none : list_any (bytes_eq k.now) ns ≡ false = sym (seen k) ∙ given added (contains str_cmp s k) is ∙ ap not new in
     push ns k.now ∙ ap (λ (b : Bool). no_repeats bytes_eq ns && not b) none ∙ ap (λ (b : Bool). b && true) so_far

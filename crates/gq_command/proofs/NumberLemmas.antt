@@ -134,7 +134,7 @@ module _ (loads : Bytes → Bool) (lines : List Bytes) where
 
   record Placed (n : ℕ) (ls : List Bytes) : Type 0 where
     pub none : AreLinesAt (numbered_by loads n None ls)
-    pub some : (begun : Begun) → ((told : Option Bytes) → IsLineAt lines (record { number = begun.number; entry = Loading begun.line told })) → AreLinesAt (numbered_by loads n (Some begun) ls)
+    pub some : (begun : Begun) → ((given : Option Bytes) → IsLineAt lines (record { number = begun.number; entry = Loading begun.line given })) → AreLinesAt (numbered_by loads n (Some begun) ls)
 
   all_placed : (n : ℕ) (front ls : List Bytes) → lines ≡ front ++ ls → n ≡ length front → Placed n ls
   unfolding numbered_by
@@ -149,14 +149,14 @@ module _ (loads : Bytes → Bool) (lines : List Bytes) where
       here e is = record { front = front; raw = l; rest = ls; lines_are = are; number = ap suc count; line = is }
 
       by_load : (t : Bool) → Placed (suc n) ls → AreLinesAt (cond t (numbered_by loads (suc n) (Some (record { number = suc n; line = content l; payload = [] })) ls) ((record { number = suc n; entry = Plain (content l) }) ∷ numbered_by loads (suc n) None ls))
-      by_load true rest = rest.some (record { number = suc n; line = content l; payload = [] }) (λ told. here (Loading (content l) told) refl)
+      by_load true rest = rest.some (record { number = suc n; line = content l; payload = [] }) (λ given. here (Loading (content l) given) refl)
       by_load false rest = All-cons (IsLineAt lines) (record { number = suc n; entry = Plain (content l) }) (numbered_by loads (suc n) None ls) (here (Plain (content l)) refl) rest.none
 
       by_skip : (t : Bool) → Placed (suc n) ls → AreLinesAt (cond t (numbered_by loads (suc n) None ls) (cond (loads (content l)) (numbered_by loads (suc n) (Some (record { number = suc n; line = content l; payload = [] })) ls) ((record { number = suc n; entry = Plain (content l) }) ∷ numbered_by loads (suc n) None ls)))
       by_skip true rest = rest.none
       by_skip false rest = by_load (loads (content l)) rest
 
-      by_mark : (begun : Begun) → ((told : Option Bytes) → IsLineAt lines (record { number = begun.number; entry = Loading begun.line told })) → (t : Bool) → Placed (suc n) ls
+      by_mark : (begun : Begun) → ((given : Option Bytes) → IsLineAt lines (record { number = begun.number; entry = Loading begun.line given })) → (t : Bool) → Placed (suc n) ls
           → AreLinesAt (cond t ((record { number = begun.number; entry = Loading begun.line (Some begun.payload) }) ∷ numbered_by loads (suc n) None ls) (numbered_by loads (suc n) (Some (record begun { payload = begun.payload ++ l })) ls))
       by_mark begun at true rest = All-cons (IsLineAt lines) (record { number = begun.number; entry = Loading begun.line (Some begun.payload) }) (numbered_by loads (suc n) None ls) (at (Some begun.payload)) rest.none
       by_mark begun at false rest = rest.some (record begun { payload = begun.payload ++ l }) at

@@ -15,7 +15,7 @@ use Rattle.gq_command.specs.declared.lines.LineRefusal.TheVariants as refusal
 use Rattle.gq_command.specs.declared.reader.Item.{Item}
 use Rattle.gq_command.specs.declared.reader.Item.TheVariants as item
 use Rattle.gq_command.specs.Commands.{Bytes, fits}
-use Rattle.gq_command.specs.Items.{StandsFor, IsRefusalOf, ReadsAs}
+use Rattle.gq_command.specs.Items.{Represents, IsRefusalOf, ReadsAs}
 use Rattle.gq_command.specs.Lines.{Says, command_on}
 use Rattle.gq_command.specs.Readings.{HasOneReading, ReadsOnce}
 use Rattle.gq_script.specs.Script.{Plain, Loading, entries_by, raw_lines, content, is_skipped, is_end_mark, takes_payload, without_mark}
@@ -85,61 +85,61 @@ plain_reads b line =
 
 -- a line with its payload
 
-stands_once : (most : ℕ) (told : Option Bytes) (p q : Payload) → StandsFor most told p → StandsFor most told q → p ≡ q
-stands_once most told (payload.Bytes x) (payload.Bytes y) h k = let e = sym h.0 ∙ k.0 in cc
-stands_once most told (payload.Bytes x) payload.Open h k = let e : ◌≡◌ {A = Option Bytes} (Some x) None = sym h.0 ∙ k in absurd cc
-stands_once most told (payload.Bytes x) payload.TooLong h k =
+represents_once : (most : ℕ) (given : Option Bytes) (p q : Payload) → Represents most given p → Represents most given q → p ≡ q
+represents_once most given (payload.Bytes x) (payload.Bytes y) h k = let e = sym h.0 ∙ k.0 in cc
+represents_once most given (payload.Bytes x) payload.Open h k = let e : ◌≡◌ {A = Option Bytes} (Some x) None = sym h.0 ∙ k in absurd cc
+represents_once most given (payload.Bytes x) payload.TooLong h k =
     let e : ◌≡◌ {A = Option Bytes} (Some x) (Some k.0) = sym h.0 ∙ k.1 in
     let same : length x ≡ length k.0 = ap length (some_is x k.0 e) in
     absurd (omega (arith, h.1, k.2))
-stands_once most told payload.Open (payload.Bytes y) h k = let e : ◌≡◌ {A = Option Bytes} (Some y) None = sym k.0 ∙ h in absurd cc
-stands_once most told payload.Open payload.Open h k = refl
-stands_once most told payload.Open payload.TooLong h k = let e : ◌≡◌ {A = Option Bytes} (Some k.0) None = sym k.1 ∙ h in absurd cc
-stands_once most told payload.TooLong (payload.Bytes y) h k =
+represents_once most given payload.Open (payload.Bytes y) h k = let e : ◌≡◌ {A = Option Bytes} (Some y) None = sym k.0 ∙ h in absurd cc
+represents_once most given payload.Open payload.Open h k = refl
+represents_once most given payload.Open payload.TooLong h k = let e : ◌≡◌ {A = Option Bytes} (Some k.0) None = sym k.1 ∙ h in absurd cc
+represents_once most given payload.TooLong (payload.Bytes y) h k =
     let e : ◌≡◌ {A = Option Bytes} (Some y) (Some h.0) = sym k.0 ∙ h.1 in
     let same : length y ≡ length h.0 = ap length (some_is y h.0 e) in
     absurd (omega (arith, k.1, h.2))
-stands_once most told payload.TooLong payload.Open h k = let e : ◌≡◌ {A = Option Bytes} (Some h.0) None = sym h.1 ∙ k in absurd cc
-stands_once most told payload.TooLong payload.TooLong h k = refl
-stands_once most told payload.NoMemory q h k = absurd h
-stands_once most told (payload.Bytes x) payload.NoMemory h k = absurd k
-stands_once most told payload.Open payload.NoMemory h k = absurd k
-stands_once most told payload.TooLong payload.NoMemory h k = absurd k
+represents_once most given payload.TooLong payload.Open h k = let e : ◌≡◌ {A = Option Bytes} (Some h.0) None = sym h.1 ∙ k in absurd cc
+represents_once most given payload.TooLong payload.TooLong h k = refl
+represents_once most given payload.NoMemory q h k = absurd h
+represents_once most given (payload.Bytes x) payload.NoMemory h k = absurd k
+represents_once most given payload.Open payload.NoMemory h k = absurd k
+represents_once most given payload.TooLong payload.NoMemory h k = absurd k
 
-pub stands_some : (most : ℕ) (told : Option Bytes) → (p : Payload) × StandsFor most told p
-stands_some most None = (payload.Open, refl)
-stands_some most (Some bytes) = by_length (nat_lt most (length bytes)) refl
+pub represents_some : (most : ℕ) (given : Option Bytes) → (p : Payload) × Represents most given p
+represents_some most None = (payload.Open, refl)
+represents_some most (Some bytes) = by_length (nat_lt most (length bytes)) refl
   where
-    by_length : (t : Bool) → nat_lt most (length bytes) ≡ t → (p : Payload) × StandsFor most (Some bytes) p
+    by_length : (t : Bool) → nat_lt most (length bytes) ≡ t → (p : Payload) × Represents most (Some bytes) p
     by_length true e = (payload.TooLong, (bytes, refl, ltb-true most (length bytes) e))
     by_length false e = (payload.Bytes bytes, (refl, ltb-false most (length bytes) e))
 
 load_named : (s t : Bytes) → Load s payload.Open ≡ Load t payload.Open → s ≡ t
 load_named s t e = cc
 
-loading_once : (b : Bounds) (line : Bytes) (told : Option Bytes) (x y : Item) → ReadsAs b (Loading line told) x → ReadsAs b (Loading line told) y → x ≡ y
-loading_once b line told (item.Command c) (item.Command d) h k =
+loading_once : (b : Bounds) (line : Bytes) (given : Option Bytes) (x y : Item) → ReadsAs b (Loading line given) x → ReadsAs b (Loading line given) y → x ≡ y
+loading_once b line given (item.Command c) (item.Command d) h k =
     let tables : h.1.0 ≡ k.1.0 = load_named h.1.0 k.1.0 (said_once line (Load h.1.0 payload.Open) (Load k.1.0 payload.Open) h.1.3 k.1.3) in
-    let payloads : h.1.1 ≡ k.1.1 = stands_once b.payload told h.1.1 k.1.1 h.1.5 k.1.5 in
+    let payloads : h.1.1 ≡ k.1.1 = represents_once b.payload given h.1.1 k.1.1 h.1.5 k.1.5 in
     ap item.Command (h.1.2 ∙ ap (λ (t : Bytes). Load t h.1.1) tables ∙ ap (Load k.1.0) payloads ∙ sym k.1.2)
-loading_once b line told (item.Command c) (item.Refused s) h k = absurd (not_refused b line (Load h.1.0 payload.Open) s h.0 h.1.3 h.1.4 k)
-loading_once b line told (item.Refused r) (item.Command d) h k = absurd (not_refused b line (Load k.1.0 payload.Open) r k.0 k.1.3 k.1.4 h)
-loading_once b line told (item.Refused r) (item.Refused s) h k = ap item.Refused (refused_once b line r s h k)
+loading_once b line given (item.Command c) (item.Refused s) h k = absurd (not_refused b line (Load h.1.0 payload.Open) s h.0 h.1.3 h.1.4 k)
+loading_once b line given (item.Refused r) (item.Command d) h k = absurd (not_refused b line (Load k.1.0 payload.Open) r k.0 k.1.3 k.1.4 h)
+loading_once b line given (item.Refused r) (item.Refused s) h k = ap item.Refused (refused_once b line r s h k)
 
-loading_some : (b : Bounds) (line : Bytes) (told : Option Bytes) → takes_payload b line ≡ true → (it : Item) × ReadsAs b (Loading line told) it
-loading_some b line told takes = by_plain (plain_some b line).0 (plain_some b line).1
+loading_some : (b : Bounds) (line : Bytes) (given : Option Bytes) → takes_payload b line ≡ true → (it : Item) × ReadsAs b (Loading line given) it
+loading_some b line given takes = by_plain (plain_some b line).0 (plain_some b line).1
   where
-    by_plain : (it : Item) → ReadsAs b (Plain line) it → (it : Item) × ReadsAs b (Loading line told) it
+    by_plain : (it : Item) → ReadsAs b (Plain line) it → (it : Item) × ReadsAs b (Loading line given) it
     by_plain (item.Refused r) h = (item.Refused r, h)
     by_plain (item.Command c) h =
         let load = said_load b line c takes h.0 h.1.0 in
-        let stands = stands_some b.payload told in
-        (item.Command (Load load.0 stands.0), (h.0, (load.0, stands.0, refl, subst (Says line) load.1 h.1.0, sym (ap (fits b) load.1) ∙ h.1.1, stands.1)))
+        let carried = represents_some b.payload given in
+        (item.Command (Load load.0 carried.0), (h.0, (load.0, carried.0, refl, subst (Says line) load.1 h.1.0, sym (ap (fits b) load.1) ∙ h.1.1, carried.1)))
 
-loading_reads : (b : Bounds) (line : Bytes) (told : Option Bytes) → takes_payload b line ≡ true → HasOneReading b (Loading line told)
-loading_reads b line told takes =
-    let some = loading_some b line told takes in
-    record { reading = some.0; reads = some.1; only = λ other h. loading_once b line told other some.0 h some.1 }
+loading_reads : (b : Bounds) (line : Bytes) (given : Option Bytes) → takes_payload b line ≡ true → HasOneReading b (Loading line given)
+loading_reads b line given takes =
+    let some = loading_some b line given takes in
+    record { reading = some.0; reads = some.1; only = λ other h. loading_once b line given other some.0 h some.1 }
 
 -- the items of lines, one after the other
 

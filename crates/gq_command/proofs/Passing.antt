@@ -61,21 +61,21 @@ in_order loads (l ∷ ls) = by_skip (is_skipped (content l)) refl (in_order load
 
     by_load : (b : Bool) → loads (content l) ≡ b → is_skipped (content l) ≡ false → Next loads (entries_by loads None (l ∷ ls)) (first_entry_by loads (l ∷ ls))
     by_load true e f =
-        let told : entries_by loads None (l ∷ ls) ≡ entries_by loads (Some (content l, [])) ls =
+        let given : entries_by loads None (l ∷ ls) ≡ entries_by loads (Some (content l, [])) ls =
         ap (λ (b : Bool). cond b (entries_by loads None ls) (cond (loads (content l)) (entries_by loads (Some (content l, [])) ls) (Plain (content l) ∷ entries_by loads None ls))) f ∙ ap (λ (b : Bool). cond b (entries_by loads (Some (content l, [])) ls) (Plain (content l) ∷ entries_by loads None ls)) e in
         let o : first_entry_by loads (l ∷ ls) ≡ elim (payload_of ls) [ None ↦ Some (Loading (content l) None, []) | Some x ↦ Some (Loading (content l) (Some x.0), x.1) ] = ap (λ (a : Bool). firsts loads l ls a (loads (content l))) f ∙ ap (firsts loads l ls false) e in
-        subst (Next loads (entries_by loads None (l ∷ ls))) (sym o) (by_payload (payload_of ls) (entries_by loads None (l ∷ ls)) (subst (λ (es : List Entry). Closed loads (content l) [] es (payload_of ls)) (sym told) (closed loads (content l) [] ls)))
+        subst (Next loads (entries_by loads None (l ∷ ls))) (sym o) (by_payload (payload_of ls) (entries_by loads None (l ∷ ls)) (subst (λ (es : List Entry). Closed loads (content l) [] es (payload_of ls)) (sym given) (closed loads (content l) [] ls)))
     by_load false e f =
-        let told : entries_by loads None (l ∷ ls) ≡ Plain (content l) ∷ entries_by loads None ls =
+        let given : entries_by loads None (l ∷ ls) ≡ Plain (content l) ∷ entries_by loads None ls =
         ap (λ (b : Bool). cond b (entries_by loads None ls) (cond (loads (content l)) (entries_by loads (Some (content l, [])) ls) (Plain (content l) ∷ entries_by loads None ls))) f ∙ ap (λ (b : Bool). cond b (entries_by loads (Some (content l, [])) ls) (Plain (content l) ∷ entries_by loads None ls)) e in
         let o : first_entry_by loads (l ∷ ls) ≡ Some (Plain (content l), ls) = ap (λ (a : Bool). firsts loads l ls a (loads (content l))) f ∙ ap (firsts loads l ls false) e in
-        subst (Next loads (entries_by loads None (l ∷ ls))) (sym o) told
+        subst (Next loads (entries_by loads None (l ∷ ls))) (sym o) given
 
     by_skip : (b : Bool) → is_skipped (content l) ≡ b → Next loads (entries_by loads None ls) (first_entry_by loads ls) → Next loads (entries_by loads None (l ∷ ls)) (first_entry_by loads (l ∷ ls))
     by_skip true e next =
-        let told : entries_by loads None (l ∷ ls) ≡ entries_by loads None ls = ap (λ (b : Bool). cond b (entries_by loads None ls) (cond (loads (content l)) (entries_by loads (Some (content l, [])) ls) (Plain (content l) ∷ entries_by loads None ls))) e in
+        let given : entries_by loads None (l ∷ ls) ≡ entries_by loads None ls = ap (λ (b : Bool). cond b (entries_by loads None ls) (cond (loads (content l)) (entries_by loads (Some (content l, [])) ls) (Plain (content l) ∷ entries_by loads None ls))) e in
         let o : first_entry_by loads (l ∷ ls) ≡ first_entry_by loads ls = ap (λ (a : Bool). firsts loads l ls a (loads (content l))) e in
-        subst (λ (es : List Entry). Next loads es (first_entry_by loads (l ∷ ls))) (sym told) (subst (Next loads (entries_by loads None ls)) (sym o) next)
+        subst (λ (es : List Entry). Next loads es (first_entry_by loads (l ∷ ls))) (sym given) (subst (Next loads (entries_by loads None ls)) (sym o) next)
     by_skip false e next = by_load (loads (content l)) refl e
 
 none_left : (bounds : Bounds) (ls : List Bytes) → first_entry bounds ls ≡ None → entries_by (takes_payload bounds) None ls ≡ []
@@ -165,13 +165,13 @@ by_item bounds (Some xs) (Some zs) (Some ws) g0 g1 g2 l0 l1 l2 number raw wrong 
     let len2 : g1 + length h.0 ≡ g0 + length xs = h.3 in
     let next : suc l1 ≡ l2 = omega arith in
     let named : suc l1 ≡ number = omega arith in
-    let told : first_entry bounds (raw_lines xs) ≡ Some (Plain (content raw), raw_lines ws) = h.2 ∙ ap (λ (y : Bytes). first_entry bounds (raw_lines y)) (sym same) ∙ ap (first_entry bounds) f ∙ first_of bounds raw (raw_lines ws) false e q in (
+    let given : first_entry bounds (raw_lines xs) ≡ Some (Plain (content raw), raw_lines ws) = h.2 ∙ ap (λ (y : Bytes). first_entry bounds (raw_lines y)) (sym same) ∙ ap (first_entry bounds) f ∙ first_of bounds raw (raw_lines ws) false e q in (
       record {
         entry = Plain (content raw);
         rest = ws;
-        first = told;
+        first = given;
         left_is = refl;
-        order = next_left bounds (raw_lines xs) (Plain (content raw)) (raw_lines ws) told;
+        order = next_left bounds (raw_lines xs) (Plain (content raw)) (raw_lines ws) given;
         numbered =
             at_line bounds xs h.0 zs ws l0 l1 raw h.4 same f
             ∙ plain_line (takes_payload bounds) l1 raw (raw_lines ws) e q
@@ -195,7 +195,7 @@ CountsLines n o l2 l3 p = IfSome p (λ _. IfSome n (λ xs. IfSome o (λ ys. l3 +
 
 gave_told : (bounds : Bounds) (xs ws line : Bytes) (o : Option (Bytes × List Bytes)) (left : Known) (l0 l2 l3 number : ℕ) (wrong : Option OpenLine) (p : Option Kept) (it : Item) → IfSome wrong (λ kept. Gathers bounds.line kept line) → payload_of (raw_lines ws) ≡ o → first_entry bounds (raw_lines xs) ≡ with_told line o
     → numbered_left bounds l0 xs ≡ numbered_by (takes_payload bounds) l2 (Some (begun_at number line)) (raw_lines ws) → IsPayloadOf bounds.payload o left p → CountsLines (Some ws) left l2 l3 p
-    → ((told : Option Bytes) → KeptTold bounds.payload told p → IsReadAs bounds (Loading line told) it) → Gave bounds l0 xs left l3 number wrong it
+    → ((given : Option Bytes) → KeptTold bounds.payload given p → IsReadAs bounds (Loading line given) it) → Gave bounds l0 xs left l3 number wrong it
 gave_told bounds xs ws line None left l0 l2 l3 number wrong p it kept w e numbers is counts reads = record {
   entry = Loading line None;
   rest = [];
@@ -226,7 +226,7 @@ gave_told bounds xs ws line (Some x) left l0 l2 l3 number wrong (Some p) it kept
     }
 
 by_load : (bounds : Bounds) (k m n o : Known) (g0 g1 g2 g3 l0 l1 l2 l3 number : ℕ) (raw : Bytes) (wrong : Option OpenLine) (p : Option Kept) (it : Item) → IfSome wrong (λ line. Gathers bounds.line line (content raw)) → PassedBy bounds k m g0 g1 l0 l1 → Consumes m n raw → Rises m g1 g2 (length raw) → IfSome m (λ xs. IfSome n (λ ys. raw_lines xs ≡ raw ∷ raw_lines ys)) → l2 ≡ l1 + 1 → number ≡ l2 → CountsLines n o l2 l3 p → is_skipped (content raw) ≡ false → takes_payload bounds (content raw) ≡ true
-    → IfSome n (λ xs. IsPayloadOf bounds.payload (payload_of (raw_lines xs)) o p) → IfSome n (λ xs. IfSome o (λ ys. g3 + length ys ≡ g2 + length xs)) → ((told : Option Bytes) → KeptTold bounds.payload told p → IsReadAs bounds (Loading (content raw) told) it)
+    → IfSome n (λ xs. IsPayloadOf bounds.payload (payload_of (raw_lines xs)) o p) → IfSome n (λ xs. IfSome o (λ ys. g3 + length ys ≡ g2 + length xs)) → ((given : Option Bytes) → KeptTold bounds.payload given p → IsReadAs bounds (Loading (content raw) given) it)
     → IfSome k (λ xs. Gave bounds l0 xs o l3 number wrong it) × IfSome k (λ xs. IfSome o (λ ys. g3 + length ys ≡ g0 + length xs))
 by_load bounds None m n o g0 g1 g2 g3 l0 l1 l2 l3 number raw wrong p it kept h c g f l num counts e q is d reads = (tt, tt)
 by_load bounds (Some xs) None n o g0 g1 g2 g3 l0 l1 l2 l3 number raw wrong p it kept h c g f l num counts e q is d reads = let none = h.1 in absurd cc
@@ -257,6 +257,6 @@ by_load bounds (Some xs) (Some zs) (Some ws) o g0 g1 g2 g3 l0 l1 l2 l3 number ra
         omega arith
 
 pub passed_load : (bounds : Bounds) (a b c d : Stream) (line : OpenLine) (t : TookLine bounds b c line) (number : ℕ) (wrong : Option OpenLine) (p : Option Kept) (it : Item) → number ≡ c.lines → IfSome wrong (λ kept. kept ≡ line) → Passed bounds a b → is_skipped (content t.raw) ≡ false → takes_payload bounds (content t.raw) ≡ true → TookPayload bounds.payload c d p
-    → ((told : Option Bytes) → KeptTold bounds.payload told p → IsReadAs bounds (Loading (content t.raw) told) it) → IfSome a.left (λ xs. Gave bounds a.lines xs d.left d.lines number wrong it) × Counts a d
+    → ((given : Option Bytes) → KeptTold bounds.payload given p → IsReadAs bounds (Loading (content t.raw) given) it) → IfSome a.left (λ xs. Gave bounds a.lines xs d.left d.lines number wrong it) × Counts a d
 passed_load bounds a b c d line t number wrong p it num kept h e q k reads =
     by_load bounds a.left b.left c.left d.left a.given b.given c.given d.given a.lines b.lines c.lines d.lines number t.raw wrong p it (kept_of bounds.line line (content t.raw) wrong kept t.gathers) h t.taken.bytes_are t.taken.counted t.first t.lines num k.lines e q k.is k.counted reads

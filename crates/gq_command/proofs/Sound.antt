@@ -286,11 +286,11 @@ conditions_sound table by shown ts c rest e =
     one_after : (front back ts middle after rest : List Token) → ts ≡ front ++ middle → middle ≡ back ++ after → after ≡ rest → ts ≡ front ++ (back ++ rest)
     one_after front back ts middle after rest a b d = a ∙ ap (λ (l : List Token). front ++ l) (b ∙ ap (λ (l : List Token). back ++ l) d)
 
-group_written : (t : Bytes) (by : By) (shown : List Aggregate) (tests : List Test) (exists : Option Exists) (having : List Test) (ts named grouped showing told rest : List Token)
-    → ts ≡ Name t ∷ named → named ≡ by_words by ++ grouped → grouped ≡ Fixed terminal.Show ∷ showing → showing ≡ aggregates_words shown ++ told
-    → told ≡ tests_clause terminal.Where tests ++ (exists_words exists ++ (tests_clause terminal.Having having ++ rest)) → Fixed terminal.Group ∷ ts ≡ phrase (Group t by shown tests exists having) ++ rest
+group_written : (t : Bytes) (by : By) (shown : List Aggregate) (tests : List Test) (exists : Option Exists) (having : List Test) (ts named grouped showing given rest : List Token)
+    → ts ≡ Name t ∷ named → named ≡ by_words by ++ grouped → grouped ≡ Fixed terminal.Show ∷ showing → showing ≡ aggregates_words shown ++ given
+    → given ≡ tests_clause terminal.Where tests ++ (exists_words exists ++ (tests_clause terminal.Having having ++ rest)) → Fixed terminal.Group ∷ ts ≡ phrase (Group t by shown tests exists having) ++ rest
 unfolding phrase
-group_written t by shown tests exists having ts named grouped showing told rest a b d f g =
+group_written t by shown tests exists having ts named grouped showing given rest a b d f g =
     let front : List Token = by_words by in
     let list : List Token = Fixed terminal.Show ∷ aggregates_words shown in
     let conditions : List Token = tests_clause terminal.Where tests ++ (exists_words exists ++ (tests_clause terminal.Having having ++ rest)) in
@@ -304,13 +304,13 @@ group_sound ts c rest e =
     let named = bind_some (name_at ts) (λ t. by_at t.1 >>= λ b. skip terminal.Show b.1 >>= λ s. aggregates_at s >>= λ a. conditions_behind t.0 b.0 a.0 a.1) (c, rest) e in
     let grouped = bind_some (by_at named.0.1) (λ b. skip terminal.Show b.1 >>= λ s. aggregates_at s >>= λ a. conditions_behind named.0.0 b.0 a.0 a.1) (c, rest) named.2 in
     let showing = bind_some (skip terminal.Show grouped.0.1) (λ s. aggregates_at s >>= λ a. conditions_behind named.0.0 grouped.0.0 a.0 a.1) (c, rest) grouped.2 in
-    let told = bind_some (aggregates_at showing.0) (λ a. conditions_behind named.0.0 grouped.0.0 a.0 a.1) (c, rest) showing.2 in
-    let k = conditions_sound named.0.0 grouped.0.0 told.0.0 told.0.1 c rest told.2 in
-    let shown = aggregates_sound showing.0 told.0.0 told.0.1 told.1 in
+    let given = bind_some (aggregates_at showing.0) (λ a. conditions_behind named.0.0 grouped.0.0 a.0 a.1) (c, rest) showing.2 in
+    let k = conditions_sound named.0.0 grouped.0.0 given.0.0 given.0.1 c rest given.2 in
+    let shown = aggregates_sound showing.0 given.0.0 given.0.1 given.1 in
     let by = by_sound named.0.1 grouped.0.0 grouped.0.1 grouped.1 in
-    group_told named.0.0 grouped.0.0 told.0.0 k.tests k.exists k.having c ts rest
-    (group_written named.0.0 grouped.0.0 told.0.0 k.tests k.exists k.having ts named.0.1 grouped.0.1 showing.0 told.0.1 rest (name_sound ts named.0.0 named.0.1 named.1) by.0 (skip_sound terminal.Show grouped.0.1 showing.0 showing.1) shown.0 k.written)
-    (both (columns_filled grouped.0.0.rollup grouped.0.0.columns) _ by.1 (both (some told.0.0) _ shown.1 (both (exists_filled k.exists) _ k.filled (both (list_all is_test k.tests) (list_all is_test k.having) k.tested k.tested_having)))) k.is
+    group_told named.0.0 grouped.0.0 given.0.0 k.tests k.exists k.having c ts rest
+    (group_written named.0.0 grouped.0.0 given.0.0 k.tests k.exists k.having ts named.0.1 grouped.0.1 showing.0 given.0.1 rest (name_sound ts named.0.0 named.0.1 named.1) by.0 (skip_sound terminal.Show grouped.0.1 showing.0 showing.1) shown.0 k.written)
+    (both (columns_filled grouped.0.0.rollup grouped.0.0.columns) _ by.1 (both (some given.0.0) _ shown.1 (both (exists_filled k.exists) _ k.filled (both (list_all is_test k.tests) (list_all is_test k.having) k.tested k.tested_having)))) k.is
   where
     group_told : (t : Bytes) (by : By) (shown : List Aggregate) (tests : List Test) (exists : Option Exists) (having : List Test) (c : Command) (ts rest : List Token)
         → Fixed terminal.Group ∷ ts ≡ phrase (Group t by shown tests exists having) ++ rest → grammatical (Group t by shown tests exists having) ≡ true → c ≡ Group t by shown tests exists having

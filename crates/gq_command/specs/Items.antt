@@ -17,21 +17,21 @@ use Rattle.gq_script.specs.Gathering.{Gathers}
 use Rattle.gq_script.specs.declared.gather.OpenLine.{OpenLine}
 
 -- how a payload is returned: as its bytes within the limit, as `Open` if no line ends it, and as `TooLong` past the limit
-abbrev pub StandsFor : ℕ → Option Bytes → Payload → Type 0
-StandsFor most told (payload.Bytes bytes) = (told ≡ Some bytes) × (length bytes ≤ most)
-StandsFor most told payload.Open = told ≡ None
-StandsFor most told payload.TooLong = (bytes : Bytes) × (told ≡ Some bytes) × (most < length bytes)
-StandsFor most told payload.NoMemory = ⊥
+abbrev pub Represents : ℕ → Option Bytes → Payload → Type 0
+Represents most given (payload.Bytes bytes) = (given ≡ Some bytes) × (length bytes ≤ most)
+Represents most given payload.Open = given ≡ None
+Represents most given payload.TooLong = (bytes : Bytes) × (given ≡ Some bytes) × (most < length bytes)
+Represents most given payload.NoMemory = ⊥
 
 -- how a payload is returned if an allocation may fail: a payload that a line ends may also be `NoMemory`
-abbrev pub StandsInFor : ℕ → Option Bytes → Payload → Type 0
-StandsInFor most None p = StandsFor most None p
-StandsInFor most (Some bytes) p = StandsFor most (Some bytes) p ⊎ (p ≡ payload.NoMemory)
+abbrev pub MayRepresent : ℕ → Option Bytes → Payload → Type 0
+MayRepresent most None p = Represents most None p
+MayRepresent most (Some bytes) p = Represents most (Some bytes) p ⊎ (p ≡ payload.NoMemory)
 
 -- the entry is this command, which is within the limits
 abbrev pub IsCommandOf : Bounds → Entry → Command → Type 0
 IsCommandOf b (Plain line) c = Says line c × (fits b c ≡ true)
-IsCommandOf b (Loading line told) c = (table : Bytes) × (carried : Payload) × (c ≡ Load table carried) × Says line (Load table payload.Open) × (fits b (Load table payload.Open) ≡ true) × StandsFor b.payload told carried
+IsCommandOf b (Loading line given) c = (table : Bytes) × (carried : Payload) × (c ≡ Load table carried) × Says line (Load table payload.Open) × (fits b (Load table payload.Open) ≡ true) × Represents b.payload given carried
 
 -- why a line is refused: for its length, which is checked first; since it isn't a command; or since it is one past a limit
 abbrev pub IsRefusalOf : Bounds → Bytes → LineRefusal → Type 0

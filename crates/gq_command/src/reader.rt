@@ -3,7 +3,7 @@ ghost use Rattle.std.specs.Prelude.{◌≡◌, ◌≤◌, ℕ, [], false, Option
 ghost use Rattle.gq_command.specs.Commands.{Bytes};
 ghost use Rattle.gq_script.specs.Script.{raw_lines, first_entry, items_left, is_skipped, Counts, Plain};
 ghost use Rattle.gq_script.specs.Gathering.{Gathers};
-ghost use Rattle.gq_command.specs.Items.{Gave, IsReadAs, IsReady, StandsInFor, with_payload};
+ghost use Rattle.gq_command.specs.Items.{Gave, IsReadAs, IsReady, MayRepresent, with_payload};
 ghost use Rattle.gq_script.specs.Payloads.{Holds, KeptTold};
 
 use crate::command::{Command, Payload};
@@ -71,7 +71,7 @@ fn kept_for(alloc: Global, item: &Item) -> Kept
 
 /// The payload of which this was kept; `None` is an open one.
 fn payload_of(kept: Option<Kept>) -> Payload
-    ensures { (most : ℕ) (told : Option Bytes) → KeptTold most told kept → StandsInFor most told result }
+    ensures { (most : ℕ) (given : Option Bytes) → KeptTold most given kept → MayRepresent most given result }
 {
     match kept {
         None => Payload::Open,

@@ -5,7 +5,7 @@ use Rattle.gq_command.specs.Commands.{Bytes}
 use Rattle.gq_command.proofs.Answered.{command, dash, too_long}
 use Rattle.gq_check.specs.declared.fault.Fault.TheVariants as why
 use Rattle.gq_check.specs.Findings.{IsToldOf}
-use Rattle.gq_check.proofs.Faults.{accepted, refused-so, told-refused}
+use Rattle.gq_check.proofs.Faults.{accepted, refused-so, refused-line}
 use Rattle.gq_check.proofs.checker.fault_of.Goals as goal
 use Rattle.gq_check.proofs.checker.fault_of.Goals.{in-Dash, in_default}
 
@@ -33,7 +33,7 @@ returns-in-Some-Syntax c =
     let told = subst (λ (l : Bytes). IsToldOf b l (Some refusal.Syntax)) c.as_slice.ensures.value (rw c.in-Some-Syntax.field-0-is at c.in-Some-Syntax.ensures) in
     elim c.match-matches.branch [
       | in-Dash w ↦ λ text h e. let f : true ≡ false = sym w.matches-is ∙ c.if-matches.false in absurd cc
-      | in_default w ↦ λ text h e. refused-so b text refusal.Syntax why.Syntax refl (told-refused b c.args.line.now text h e c.if-line.false c.if-line-2.false w.in_default.not-Dash refusal.Syntax told)
+      | in_default w ↦ λ text h e. refused-so b text refusal.Syntax why.Syntax refl (refused-line b c.args.line.now text h e c.if-line.false c.if-line-2.false w.in_default.not-Dash refusal.Syntax told)
     ]
 
 pub returns-in-Some-LineTooLong : goal.returns-in-Some-LineTooLong
@@ -42,7 +42,7 @@ returns-in-Some-LineTooLong c =
     let told = subst (λ (l : Bytes). IsToldOf b l (Some refusal.LineTooLong)) c.as_slice.ensures.value (rw c.in-Some-LineTooLong.field-0-is at c.in-Some-LineTooLong.ensures) in
     elim c.match-matches.branch [
       | in-Dash w ↦ λ text h e. let f : true ≡ false = sym w.matches-is ∙ c.if-matches.false in absurd cc
-      | in_default w ↦ λ text h e. refused-so b text refusal.LineTooLong why.LineTooLong refl (told-refused b c.args.line.now text h e c.if-line.false c.if-line-2.false w.in_default.not-Dash refusal.LineTooLong told)
+      | in_default w ↦ λ text h e. refused-so b text refusal.LineTooLong why.LineTooLong refl (refused-line b c.args.line.now text h e c.if-line.false c.if-line-2.false w.in_default.not-Dash refusal.LineTooLong told)
     ]
 
 pub returns-in-Some-Limit : goal.returns-in-Some-Limit
@@ -51,5 +51,5 @@ returns-in-Some-Limit c =
     let told = subst (λ (l : Bytes). IsToldOf b l (Some refusal.Limit)) c.as_slice.ensures.value (rw c.in-Some-Limit.field-0-is at c.in-Some-Limit.ensures) in
     elim c.match-matches.branch [
       | in-Dash w ↦ λ text h e. let f : true ≡ false = sym w.matches-is ∙ c.if-matches.false in absurd cc
-      | in_default w ↦ λ text h e. refused-so b text refusal.Limit why.Limit refl (told-refused b c.args.line.now text h e c.if-line.false c.if-line-2.false w.in_default.not-Dash refusal.Limit told)
+      | in_default w ↦ λ text h e. refused-so b text refusal.Limit why.Limit refl (refused-line b c.args.line.now text h e c.if-line.false c.if-line-2.false w.in_default.not-Dash refusal.Limit told)
     ]

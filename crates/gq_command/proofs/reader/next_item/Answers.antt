@@ -41,7 +41,7 @@ returns-then-not-is_skipped-clause-item g c =
     let e : is_skipped (content t.raw) ≡ false = sym (c.is_skipped.ensures l.line (content t.raw) t.gathers) ∙ c.if-not-is_skipped.true in
     let q : takes_payload l (content t.raw) ≡ true = sym (c.takes_payload-loads.ensures l (content t.raw) t.gathers) ∙ c.if-not-loads.false in
     (passed_load l c.args.source.now c.loop.source c.take_line.new.source c.take_payload.new.source c.in-Some.line t c.lines.result c.item_of-item.new.wrong c.in-Ok.kept c.with_payload.result c.lines.ensures c.item_of-item.ensures.kept c.loop.invariant e q c.in-Ok.ensures.taken
-    (λ told s. subst (IsReadAs l (Loading (content t.raw) told)) (sym c.with_payload.ensures) (loaded l (content t.raw) told c.payload_of.result c.item_of-item.result q (c.item_of-item.ensures.reads (content t.raw) t.gathers e) (c.payload_of.ensures l.payload told s)))).0
+    (λ given s. subst (IsReadAs l (Loading (content t.raw) given)) (sym c.with_payload.ensures) (loaded l (content t.raw) given c.payload_of.result c.item_of-item.result q (c.item_of-item.ensures.reads (content t.raw) t.gathers e) (c.payload_of.ensures l.payload given s)))).0
 
 pub returns-then-not-is_skipped-clause-counted : goal.returns-then-not-is_skipped-clause-counted
 returns-then-not-is_skipped-clause-counted g c =
@@ -50,7 +50,7 @@ returns-then-not-is_skipped-clause-counted g c =
     let e : is_skipped (content t.raw) ≡ false = sym (c.is_skipped.ensures l.line (content t.raw) t.gathers) ∙ c.if-not-is_skipped.true in
     let q : takes_payload l (content t.raw) ≡ true = sym (c.takes_payload-loads.ensures l (content t.raw) t.gathers) ∙ c.if-not-loads.false in
     (passed_load l c.args.source.now c.loop.source c.take_line.new.source c.take_payload.new.source c.in-Some.line t c.lines.result c.item_of-item.new.wrong c.in-Ok.kept c.with_payload.result c.lines.ensures c.item_of-item.ensures.kept c.loop.invariant e q c.in-Ok.ensures.taken
-    (λ told s. subst (IsReadAs l (Loading (content t.raw) told)) (sym c.with_payload.ensures) (loaded l (content t.raw) told c.payload_of.result c.item_of-item.result q (c.item_of-item.ensures.reads (content t.raw) t.gathers e) (c.payload_of.ensures l.payload told s)))).1
+    (λ given s. subst (IsReadAs l (Loading (content t.raw) given)) (sym c.with_payload.ensures) (loaded l (content t.raw) given c.payload_of.result c.item_of-item.result q (c.item_of-item.ensures.reads (content t.raw) t.gathers e) (c.payload_of.ensures l.payload given s)))).1
 
 pub returns-then-not-is_skipped-clause-ready : goal.returns-then-not-is_skipped-clause-ready
 returns-then-not-is_skipped-clause-ready g c =
