@@ -13,7 +13,7 @@ use Rattle.gq_infer.specs.declared.fault.InferFault.TheVariants.{Header, Limit}
 use Rattle.gq_infer.specs.Files.{header_fault, names_fault, same_columns, table_columns}
 use Rattle.gq_infer.specs.Kinds.{kind_of}
 use Rattle.gq_infer.specs.Messages.{bad_table_text}
-use Rattle.gq_infer.specs.Words.{cut_of, file_of, front_of, has_columns, is_name, name_of}
+use Rattle.gq_infer.specs.Words.{cut_of, file_of, declaration_of, has_columns, is_name, name_of}
 use Rattle.gq_infer.specs.declared.bad_table.BadTable.TheVariants.{NoName}
 
 -- kinds of fields
@@ -166,11 +166,11 @@ no_file : (name_of (codes "t=") ≡ codes "t") × (file_of (codes "t=") ≡ [])
 unfolding cut_of
 no_file = (refl, refl)
 
-by_hand : (has_columns (codes "t (a int)=x.csv") ≡ true) × (front_of (codes "t (a int)=x.csv") ≡ codes "t (a int)")
+by_hand : (has_columns (codes "t (a int)=x.csv") ≡ true) × (declaration_of (codes "t (a int)=x.csv") ≡ codes "t (a int)")
 unfolding cut_of
 by_hand = (refl, refl)
 
-inside_quotes : (front_of (codes "t (\"a=b\" int)=x.csv") ≡ codes "t (\"a=b\" int)") × (file_of (codes "t (\"a=b\" int)=x.csv") ≡ codes "x.csv")
+inside_quotes : (declaration_of (codes "t (\"a=b\" int)=x.csv") ≡ codes "t (\"a=b\" int)") × (file_of (codes "t (\"a=b\" int)=x.csv") ≡ codes "x.csv")
 unfolding cut_of
 inside_quotes = (refl, refl)
 

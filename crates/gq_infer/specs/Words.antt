@@ -22,8 +22,8 @@ abbrev pub has_cut : List ℕ → Bool
 has_cut word = nat_lt (cut_of word) (length word)
 
 -- what comes before it
-abbrev pub front_of : List ℕ → List ℕ
-front_of word = take (cut_of word) word
+abbrev pub declaration_of : List ℕ → List ℕ
+declaration_of word = take (cut_of word) word
 
 -- the file: what comes after it, or the whole word
 abbrev pub file_of : List ℕ → List ℕ
@@ -39,7 +39,7 @@ without_extension name = if length (before_last (λ b. b == 46) name) == 0 then 
 
 -- the name that a word gives its table
 abbrev pub name_of : List ℕ → List ℕ
-name_of word = if has_cut word then front_of word else without_extension (base_name word)
+name_of word = if has_cut word then declaration_of word else without_extension (base_name word)
 
 -- whether a name has from 1 to most bytes
 abbrev pub is_name : ℕ → List ℕ → Bool
@@ -47,11 +47,11 @@ is_name most name = not (length name == 0) && nat_le (length name) most
 
 -- whether a word has columns by hand: a parenthesis before its cut
 abbrev pub has_columns : List ℕ → Bool
-has_columns word = has_cut word && list_any (λ b. b == 40) (front_of word)
+has_columns word = has_cut word && list_any (λ b. b == 40) (declaration_of word)
 
 -- the line that then says them
 abbrev pub create_line : List ℕ → List ℕ
-create_line front = codes "create " ++ front
+create_line declaration = codes "create " ++ declaration
 
 -- columns and a key by hand
 pub record Given : Type 0 where
@@ -59,25 +59,25 @@ pub record Given : Type 0 where
   pub key : List (List ℕ)
 
 -- the part before `=` names a table with these columns and key, within the limits of a line
-pub record SaysTable (bounds : Bounds) (front name : List ℕ) (columns : List Column) (key : List (List ℕ)) : Type 0 where
-  pub said : Says (create_line front) (Create name columns key)
+pub record SaysTable (bounds : Bounds) (declaration name : List ℕ) (columns : List Column) (key : List (List ℕ)) : Type 0 where
+  pub said : Says (create_line declaration) (Create name columns key)
   pub within : fits bounds (Create name columns key) ≡ true
 
 -- the part before `=` names no table
 abbrev pub SaysNoTable : List ℕ → Type 0
-SaysNoTable front = (name : List ℕ) (columns : List Column) (key : List (List ℕ)) → Says (create_line front) (Create name columns key) → ⊥
+SaysNoTable declaration = (name : List ℕ) (columns : List Column) (key : List (List ℕ)) → Says (create_line declaration) (Create name columns key) → ⊥
 
 -- the part before `=` is longer than a line, or a command with it is past a limit
 abbrev pub PassesLimit : Bounds → List ℕ → Type 0
-PassesLimit bounds front = (bounds.line < length (create_line front)) ⊎ ((c : Command) × Says (create_line front) c × (fits bounds c ≡ false))
+PassesLimit bounds declaration = (bounds.line < length (create_line declaration)) ⊎ ((c : Command) × Says (create_line declaration) c × (fits bounds c ≡ false))
 
 -- a command creates no table
 abbrev pub CreatesNone : Command → Type 0
 CreatesNone command = (name : List ℕ) (columns : List Column) (key : List (List ℕ)) → command ≡ Create name columns key → ⊥
 
 -- why a part before `=` with a parenthesis is refused
-abbrev pub IsRefusedFront : Bounds → List ℕ → BadTable → Type 0
-IsRefusedFront bounds front Memory = Unit {0}
-IsRefusedFront bounds front NoName = ⊥
-IsRefusedFront bounds front NotColumns = SaysNoTable front
-IsRefusedFront bounds front Limit = PassesLimit bounds front
+abbrev pub IsRefusedDeclaration : Bounds → List ℕ → BadTable → Type 0
+IsRefusedDeclaration bounds declaration Memory = Unit {0}
+IsRefusedDeclaration bounds declaration NoName = ⊥
+IsRefusedDeclaration bounds declaration NotColumns = SaysNoTable declaration
+IsRefusedDeclaration bounds declaration Limit = PassesLimit bounds declaration

@@ -6,7 +6,7 @@
 //! file, without its folder and its last extension.
 ghost use Rattle.std.specs.Prelude.{◌≡◌, ◌==◌, ◌<◌, ◌≤◌, ◌⊎◌, ◌&&◌, not, if◌then◌else◌, true, false, None, IfOk, IfErr, IsErrOf, IfSome, ℕ, List, MatchOption, length, slice_index};
 ghost use Rattle.gq_command.specs.Commands.{is_command};
-ghost use Rattle.gq_infer.specs.Words.{CreatesNone, IsRefusedFront, PassesLimit, SaysNoTable, SaysTable, cut_of, file_of, front_of, create_line, has_columns, is_name, name_of};
+ghost use Rattle.gq_infer.specs.Words.{CreatesNone, IsRefusedDeclaration, PassesLimit, SaysNoTable, SaysTable, cut_of, file_of, declaration_of, create_line, has_columns, is_name, name_of};
 
 use crate::bad_table::BadTable;
 use crate::path::stem;
@@ -108,24 +108,24 @@ pub fn table_word<'a>(
         × (is_name limits.now.bounds.name (name_of word.now) ≡ false) }
     // Columns by hand.
     ensures given { has_columns word.now ≡ true → IfOk result (λ t. MatchOption t.columns ⊥
-        (λ g. SaysTable limits.now.bounds (front_of word.now) t.name g.columns g.key)) }
+        (λ g. SaysTable limits.now.bounds (declaration_of word.now) t.name g.columns g.key)) }
     ensures command { IfOk result (λ t. IfSome t.columns (λ g. (table : List ℕ)
         → is_command (Command.Create table g.columns g.key) ≡ true)) }
     ensures not_columns { IsErrOf result BadTable.NotColumns → (has_columns word.now ≡ true)
-        × SaysNoTable (front_of word.now) }
+        × SaysNoTable (declaration_of word.now) }
     ensures limit { IsErrOf result BadTable.Limit → (has_columns word.now ≡ true)
-        × PassesLimit limits.now.bounds (front_of word.now) }
+        × PassesLimit limits.now.bounds (declaration_of word.now) }
 {
     let cut = cut_of(word.as_bytes());
     if cut == word.len() {
         return named(alloc, stem(word), word, limits);
     }
-    let front = &word[..cut];
+    let declaration = &word[..cut];
     let file = &word[cut + 1..];
-    if front.as_bytes().contains(&b'(') {
-        given(alloc, front, file, limits)
+    if declaration.as_bytes().contains(&b'(') {
+        given(alloc, declaration, file, limits)
     } else {
-        named(alloc, front, file, limits)
+        named(alloc, declaration, file, limits)
     }
 }
 
@@ -187,16 +187,16 @@ fn named<'a>(
 /// A table whose name and columns follow the word `create` of a command.
 fn given<'a>(
     alloc: Global,
-    front: &str,
+    declaration: &str,
     file: &'a str,
     limits: &Limits,
 ) -> Result<TableWord<'a>, BadTable>
     ensures file { IfOk result (λ t. t.file.now ≡ file.now) }
     ensures given { IfOk result (λ t. MatchOption t.columns ⊥
-        (λ g. SaysTable limits.now.bounds front.now t.name g.columns g.key)) }
-    ensures refused { IfErr result (λ why. IsRefusedFront limits.now.bounds front.now why) }
+        (λ g. SaysTable limits.now.bounds declaration.now t.name g.columns g.key)) }
+    ensures refused { IfErr result (λ why. IsRefusedDeclaration limits.now.bounds declaration.now why) }
 {
-    let Ok(line) = create_line(alloc, front.as_bytes()) else {
+    let Ok(line) = create_line(alloc, declaration.as_bytes()) else {
         return Err(BadTable::Memory);
     };
     match parse_line(alloc, line.as_slice(), limits) {
@@ -214,12 +214,12 @@ fn given<'a>(
     }
 }
 
-fn create_line(alloc: Global, front: &[u8]) -> Result<Vec<u8>, AllocError>
-    ensures { IfOk result (λ line. line.items ≡ create_line front.now) }
+fn create_line(alloc: Global, declaration: &[u8]) -> Result<Vec<u8>, AllocError>
+    ensures { IfOk result (λ line. line.items ≡ create_line declaration.now) }
 {
-    let mut line = Vec::with_capacity(alloc, front.len())?;
+    let mut line = Vec::with_capacity(alloc, declaration.len())?;
     line.extend_from_slice(b"create ")?;
-    line.extend_from_slice(front)?;
+    line.extend_from_slice(declaration)?;
     Ok(line)
 }
 

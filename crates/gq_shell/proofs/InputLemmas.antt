@@ -17,8 +17,8 @@ use Rattle.gq_options.specs.CommandLine.{Asked, Text}
 use Rattle.gq_row.specs.declared.limits.Bounds.{Bounds}
 use Rattle.gq_row.specs.Limits.{GREATEST}
 use Rattle.gq_infer.specs.declared.word.TableWord.{TableWord}
-use Rattle.gq_infer.specs.Said.{SaysFront, SaysWord}
-use Rattle.gq_infer.specs.Words.{SaysTable, file_of, front_of, has_columns, is_name, name_of}
+use Rattle.gq_infer.specs.Said.{SaysDeclaration, SaysWord}
+use Rattle.gq_infer.specs.Words.{SaysTable, file_of, declaration_of, has_columns, is_name, name_of}
 use Rattle.gq_tables.specs.declared.fault.TableFault.{TableFault}
 use Rattle.gq_tables.specs.Faults.{fault_text, status_of}
 use Rattle.gq_tables.specs.Files.{AreFiles}
@@ -135,10 +135,10 @@ was_taken was any now n a = n ∙ ap (λ b. was || b) a ∙ or_true was
 
 -- what a word says, by how it begins
 pub says : (bounds : Bounds) (text : Text) (word : TableWord) → bounds ≡ GREATEST → word.file.now ≡ file_of text → (has_columns text ≡ false → (word.name ≡ name_of text) × (is_name bounds.name word.name ≡ true) × (word.columns ≡ None))
-    → (has_columns text ≡ true → MatchOption word.columns ⊥ (λ given. SaysTable bounds (front_of text) word.name given.columns given.key)) → SaysWord GREATEST text word
-says bounds text word greatest file named given = subst (λ (b : Bounds). SaysWord b text word) greatest (record { file_is = file; front_is = by (has_columns text) refl })
+    → (has_columns text ≡ true → MatchOption word.columns ⊥ (λ given. SaysTable bounds (declaration_of text) word.name given.columns given.key)) → SaysWord GREATEST text word
+says bounds text word greatest file named given = subst (λ (b : Bounds). SaysWord b text word) greatest (record { file_is = file; declaration_is = by (has_columns text) refl })
   where
-    by : (b : Bool) → has_columns text ≡ b → SaysFront bounds text b word
+    by : (b : Bool) → has_columns text ≡ b → SaysDeclaration bounds text b word
     by false e = named e
     by true e = given e
 
@@ -165,8 +165,8 @@ pub not_made : {S : Type 0} (sources : Sources S) (asked : Asked) (errors : Stre
     → StoppedForMemory errors status ⊎ ((word : TableWord) → fault.word < length words → Stopped errors (fault_text (short_by asked.ragged) (get_or words fault.word word).file.now fault.why) (status_of fault.why) status)
     → NotMade sources asked errors status
 not_made sources asked errors status words fault said reason within (inl memory) = NoMemory memory
-not_made sources asked errors status words fault said reason within (inr told) =
-    WrongFile (record { words = words; said = said; fault = fault; reason = reason; within = within; told = λ word. told word within })
+not_made sources asked errors status words fault said reason within (inr reported) =
+    WrongFile (record { words = words; said = said; fault = fault; reason = reason; within = within; reported = λ word. reported word within })
 
 pub ran_asked : {S : Type 0} (sources : Sources S) (asked : Asked) (seed : RunSeed) (replies errors : Stream) (status : ℕ)
     → IsSeedFor asked.seed seed → RanFrom sources asked seed replies errors status ⊎ HadNoTables sources asked replies errors status → RanAsked sources asked replies errors status
