@@ -17,6 +17,6 @@ all-clean b [] h = All-nil (Clean b)
 all-clean b (x ∷ xs) (inl h) = All-cons (Clean b) x xs h.0 (all-clean b xs h.1)
 all-clean b (x ∷ xs) (inr h) = let e : ◌≡◌ {A = List Report} [] (h.0 ∷ h.1) = h.2 in absurd cc
 
-pub none-told : (b : Bounds) (xs : List Numbered) → All (Clean b) xs → Reports b xs []
-none-told b [] h = refl
-none-told b (x ∷ xs) h = inl (All-head (Clean b) x xs h, none-told b xs (All-tail (Clean b) x xs h))
+pub none-given : (b : Bounds) (xs : List Numbered) → All (Clean b) xs → Reports b xs []
+none-given b [] h = refl
+none-given b (x ∷ xs) h = inl (All-head (Clean b) x xs h, none-given b xs (All-tail (Clean b) x xs h))

@@ -60,7 +60,7 @@ by-mark b n m m1 (Some xs) (Some zs) (Some ws) front raw f num fault w c h e =
       ws,
       refl,
       λ number line. record {
-        told = Some front;
+        given = Some front;
         items =
             w.2 number line
             ∙ ap (λ (y : Bytes). numbered_by (takes_payload b) m (Some (begun-with number line front)) (raw_lines y)) (sym same)
@@ -86,7 +86,7 @@ by-open b n m (Some xs) (Some zs) after front w h =
       [],
       h.1,
       λ number line. record {
-        told = None;
+        given = None;
         items =
             w.2 number line
             ∙ ap (λ (y : Bytes). numbered_by (takes_payload b) m (Some (begun-with number line front)) (raw_lines y)) (sym same)

@@ -132,10 +132,10 @@ taken-loading b number m text old new f p takes fault passed = by-known old.left
           h.0,
           h.1,
           record {
-            entry = Loading text is.told;
+            entry = Loading text is.given;
             line_is = refl;
             items = ap (λ (t : Bool). cond t (numbered_by (takes_payload b) number (Some (record { number = number; line = text; payload = [] })) (raw_lines xs)) ((record { number = number; entry = Plain text }) ∷ numbered_left b number xs)) takes ∙ is.items;
-            fault = subst (λ (q : Option Fault). IsFaultOf b (Loading text is.told) (either f q)) is.fault (with-payload b text is.told f takes fault);
+            fault = subst (λ (q : Option Fault). IsFaultOf b (Loading text is.given) (either f q)) is.fault (with-payload b text is.given f takes fault);
           },
         )
 

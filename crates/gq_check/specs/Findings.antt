@@ -38,7 +38,7 @@ payload_fault most (Some bytes) = if nat_lt most (length bytes) then Some why.Pa
 abbrev pub fault_in : Bounds → Entry → Item → Option Fault
 fault_in b e (item.Refused r) = refusal_fault r
 fault_in b (Plain line) (item.Command c) = None
-fault_in b (Loading line told) (item.Command c) = payload_fault b.payload told
+fault_in b (Loading line given) (item.Command c) = payload_fault b.payload given
 
 -- the entry reads as an item whose fault, if any, is `f`
 abbrev pub IsFaultOf : Bounds → Entry → Option Fault → Type 0

@@ -14,9 +14,9 @@ HasRoom most None bytes = most < length bytes
 
 -- the load `begun` has a payload with this fault, and the following items are those of the remaining lines
 pub record IsPassed (b : Bounds) (begun : Begun) (n : ℕ) (bytes : Bytes) (f : Option Fault) (m : ℕ) (rest : Bytes) : Type 0 where
-  pub told : Option Bytes
-  pub items : numbered_by (takes_payload b) n (Some begun) (raw_lines bytes) ≡ (record { number = begun.number; entry = Loading begun.line told }) ∷ numbered_by (takes_payload b) m None (raw_lines rest)
-  pub fault : payload_fault b.payload told ≡ f
+  pub given : Option Bytes
+  pub items : numbered_by (takes_payload b) n (Some begun) (raw_lines bytes) ≡ (record { number = begun.number; entry = Loading begun.line given }) ∷ numbered_by (takes_payload b) m None (raw_lines rest)
+  pub fault : payload_fault b.payload given ≡ f
 
 -- after `n` lines the payload of a load was skipped, whichever load it belongs to; it has this fault, and the remaining bytes follow `m` lines
 abbrev pub PassedPayload : Bounds → ℕ → Stream → Stream → Option Fault → ℕ → Type 0

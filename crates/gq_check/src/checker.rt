@@ -9,7 +9,7 @@ ghost use Rattle.gq_check.specs.Stepping.{TookItem};
 ghost use Rattle.gq_check.specs.declared.fault.Fault.TheVariants as why;
 
 use crate::fault::{CheckFault, Fault};
-use crate::message::told_of;
+use crate::message::message_of;
 use crate::payload::pass_payload;
 use crate::refusal::refusal_of;
 use crate::report::Report;
@@ -77,12 +77,12 @@ pub fn report_of(
     } else {
         line.kept.as_slice()
     };
-    let told = told_of(alloc, fault, text, limits)?;
+    let written = message_of(alloc, fault, text, limits)?;
     Ok(Report {
         line: number,
         fault,
-        column: column_of(line, told.at, limits.bounds.line),
-        message: told.message,
+        column: column_of(line, written.at, limits.bounds.line),
+        message: written.message,
     })
 }
 

@@ -25,26 +25,26 @@ fn says_command(alloc: Global, line: &[u8], limits: &Limits) -> Result<bool, All
     }
 }
 
-/// Whether `front` followed by `end` parses as a command.
-fn leads_with(alloc: Global, front: &[u8], end: &[u8], limits: &Limits) -> Result<bool, AllocError>
-    ensures { IfOk result (λ b. b ≡ true → Leads front.now) }
+/// Whether `prefix` followed by `end` parses as a command.
+fn leads_with(alloc: Global, prefix: &[u8], end: &[u8], limits: &Limits) -> Result<bool, AllocError>
+    ensures { IfOk result (λ b. b ≡ true → Leads prefix.now) }
 {
-    let mut line = Vec::from_slice(alloc, front)?;
+    let mut line = Vec::from_slice(alloc, prefix)?;
     line.extend_from_slice(end)?;
     says_command(alloc, line.as_slice(), limits)
 }
 
-/// Whether `front` followed by one of `ends` parses as a command.
+/// Whether `prefix` followed by one of `ends` parses as a command.
 fn leads_with_any(
     alloc: Global,
-    front: &[u8],
+    prefix: &[u8],
     ends: &[&str],
     limits: &Limits,
 ) -> Result<bool, AllocError>
-    ensures { IfOk result (λ b. b ≡ true → Leads front.now) }
+    ensures { IfOk result (λ b. b ≡ true → Leads prefix.now) }
 {
     for end in ends {
-        if leads_with(alloc, front, end.as_bytes(), limits)? {
+        if leads_with(alloc, prefix, end.as_bytes(), limits)? {
             return Ok(true);
         }
     }
@@ -63,19 +63,19 @@ fn names_behind(alloc: Global, begin: &str, count: usize) -> Result<String, Allo
     Ok(list)
 }
 
-/// Whether `front` parses as a command with `count` more names, as a prefix does that ends within
+/// Whether `prefix` parses as a command with `count` more names, as a prefix does that ends within
 /// the lists of an `exists`.
 fn leads_with_names(
     alloc: Global,
-    front: &[u8],
+    prefix: &[u8],
     count: usize,
     limits: &Limits,
 ) -> Result<bool, AllocError>
-    ensures { IfOk result (λ b. b ≡ true → Leads front.now) }
+    ensures { IfOk result (λ b. b ≡ true → Leads prefix.now) }
 {
     for begin in &BEFORE_LISTS {
         let list = names_behind(alloc, begin, count)?;
-        if leads_with(alloc, front, list.as_bytes(), limits)? {
+        if leads_with(alloc, prefix, list.as_bytes(), limits)? {
             return Ok(true);
         }
     }
@@ -84,12 +84,12 @@ fn leads_with_names(
 
 /// How many more commas the first list of an `exists` has than the second; both may be open. `None`
 /// if no piece is `exists`.
-fn commas_ahead(alloc: Global, front: &[u8]) -> Result<Option<usize>, AllocError> {
-    let pieces = pieces_of(alloc, front)?;
+fn commas_ahead(alloc: Global, prefix: &[u8]) -> Result<Option<usize>, AllocError> {
+    let pieces = pieces_of(alloc, prefix)?;
     let mut ahead: Option<usize> = None;
     let mut closed = false;
     for piece in &pieces {
-        match (front.get(piece.start..piece.end), ahead) {
+        match (prefix.get(piece.start..piece.end), ahead) {
             (Some(word), None) if word.eq_ignore_ascii_case(b"exists") => ahead = Some(0),
             (Some([b')']), Some(_)) => closed = true,
             (Some([b',']), Some(commas)) if closed => ahead = Some(commas.saturating_sub(1)),
@@ -108,19 +108,19 @@ struct Search<'a> {
     limits: &'a Limits,
 }
 
-/// Whether `front` is the prefix of a command, as far as the tables show.
-fn leads(alloc: Global, front: &[u8], search: &Search) -> Result<bool, AllocError>
-    ensures { IfOk result (λ b. b ≡ true → Leads front.now) }
+/// Whether `prefix` begins a command, as far as the tables show.
+fn leads(alloc: Global, prefix: &[u8], search: &Search) -> Result<bool, AllocError>
+    ensures { IfOk result (λ b. b ≡ true → Leads prefix.now) }
 {
-    if leads_with_any(alloc, front, search.ends, search.limits)? {
+    if leads_with_any(alloc, prefix, search.ends, search.limits)? {
         return Ok(true);
     }
-    let Some(commas) = commas_ahead(alloc, front)? else {
+    let Some(commas) = commas_ahead(alloc, prefix)? else {
         return Ok(false);
     };
     // One more name if the prefix ends within a list, after a comma or the opening parenthesis.
     for count in commas..commas.saturating_add(2) {
-        if leads_with_names(alloc, front, count, search.limits)? {
+        if leads_with_names(alloc, prefix, count, search.limits)? {
             return Ok(true);
         }
     }
@@ -138,13 +138,13 @@ fn leads_up_to(
         return Ok(false);
     };
     match line.get(..piece.end) {
-        Some(front) => leads(alloc, front, search),
+        Some(prefix) => leads(alloc, prefix, search),
         None => Ok(false),
     }
 }
 
 /// How many pieces the longest prefix of a command has.
-fn front_len(
+fn prefix_len(
     alloc: Global,
     line: &[u8],
     pieces: &[Piece],
@@ -169,13 +169,13 @@ fn front_len(
 /// Whether a word can follow the prefix.
 fn leads_on(
     alloc: Global,
-    front: &[u8],
+    prefix: &[u8],
     search: &Search,
     spelled: &[u8],
 ) -> Result<bool, AllocError> {
-    let mut longer = Vec::from_slice(alloc, front)?;
+    let mut longer = Vec::from_slice(alloc, prefix)?;
     longer.extend_from_slice(spelled)?;
-    let ends = if front.is_empty() {
+    let ends = if prefix.is_empty() {
         ends_of(spelled.get(1..).unwrap_or(b""))
     } else {
         search.ends
@@ -184,15 +184,15 @@ fn leads_on(
 }
 
 /// The words that can follow the prefix.
-fn words_behind(
+fn words_after(
     alloc: Global,
-    front: &[u8],
+    prefix: &[u8],
     search: &Search,
     among: &[(&'static str, &'static str)],
 ) -> Result<Vec<(&'static str, &'static str)>, AllocError> {
     let mut words = Vec::new(alloc);
     for word in among {
-        if leads_on(alloc, front, search, word.1.as_bytes())? {
+        if leads_on(alloc, prefix, search, word.1.as_bytes())? {
             words.push(*word)?;
         }
     }
@@ -203,7 +203,7 @@ fn words_behind(
 #[derive(Drop)]
 pub struct Diagnosis {
     /// The length of that prefix in bytes.
-    pub front: usize,
+    pub prefix: usize,
     /// The piece after it; empty at the line's end.
     pub piece: Piece,
     /// The words that can follow, as messages show them and as they are spelled.
@@ -229,20 +229,20 @@ fn diagnose_pieces(
         ends: ends_of(first_word(line, pieces)),
         limits,
     };
-    let count = front_len(alloc, line, pieces, &search)?;
-    let front = front_end(line, pieces, count);
-    let (text, _behind) = line.split_at(front);
+    let count = prefix_len(alloc, line, pieces, &search)?;
+    let prefix = prefix_end(line, pieces, count);
+    let (text, _after) = line.split_at(prefix);
     let whole = says_command(alloc, text, limits)?;
     Ok(Diagnosis {
-        front,
-        piece: piece_behind(line, pieces, count),
-        words: words_behind(alloc, text, &search, &WORDS)?,
+        prefix,
+        piece: piece_after(line, pieces, count),
+        words: words_after(alloc, text, &search, &WORDS)?,
         whole,
     })
 }
 
 /// Where the first `count` pieces of a line end, in bytes.
-fn front_end(line: &[u8], pieces: &[Piece], count: usize) -> usize
+fn prefix_end(line: &[u8], pieces: &[Piece], count: usize) -> usize
     ensures { result ≤ length line.now }
 {
     let Some(last) = count.checked_sub(1) else {
@@ -255,7 +255,7 @@ fn front_end(line: &[u8], pieces: &[Piece], count: usize) -> usize
 }
 
 /// The piece after the first `count`, or an empty one at the line's end.
-fn piece_behind(line: &[u8], pieces: &[Piece], count: usize) -> Piece {
+fn piece_after(line: &[u8], pieces: &[Piece], count: usize) -> Piece {
     match pieces.get(count) {
         Some(piece) => *piece,
         None => Piece {

@@ -12,7 +12,7 @@ use std::alloc::{AllocError, Global};
 
 /// A message about a line, and the byte that it is about.
 #[derive(Drop)]
-pub struct Told {
+pub struct LineMessage {
     /// How many bytes precede that byte.
     pub at: usize,
     pub message: String,
@@ -34,33 +34,33 @@ fn limit_message(fault: Fault) -> &'static str
 }
 
 /// The message for a line with this fault; that for `Syntax` depends on the text.
-pub fn told_of(
+pub fn message_of(
     alloc: Global,
     fault: Fault,
     text: &[u8],
     limits: &Limits,
-) -> Result<Told, AllocError>
-    ensures one_line { IfOk result (λ told. IsOneLine (string_bytes told.message)) }
-    ensures limit { fault ≢ why.Syntax → IfOk result (λ told. string_bytes told.message ≡ limit_message fault) }
+) -> Result<LineMessage, AllocError>
+    ensures one_line { IfOk result (λ written. IsOneLine (string_bytes written.message)) }
+    ensures limit { fault ≢ why.Syntax → IfOk result (λ written. string_bytes written.message ≡ limit_message fault) }
 {
     if fault == Fault::Syntax {
-        let told = told_of_syntax(alloc, text, limits)?;
-        if told.message.as_bytes().contains(&b'\n') {
-            return Ok(Told {
+        let written = syntax_message(alloc, text, limits)?;
+        if written.message.as_bytes().contains(&b'\n') {
+            return Ok(LineMessage {
                 at: 0,
                 message: String::from_str(alloc, "not a command")?,
             });
         }
-        return Ok(told);
+        return Ok(written);
     }
-    Ok(Told {
+    Ok(LineMessage {
         at: 0,
         message: String::from_str(alloc, limit_message(fault))?,
     })
 }
 
 /// Says what could follow the longest prefix of a command, and what was found there.
-fn told_of_syntax(alloc: Global, text: &[u8], limits: &Limits) -> Result<Told, AllocError> {
+fn syntax_message(alloc: Global, text: &[u8], limits: &Limits) -> Result<LineMessage, AllocError> {
     let diagnosis = diagnose(alloc, text, limits)?;
     let piece = text
         .get(diagnosis.piece.start..diagnosis.piece.end)
@@ -68,7 +68,7 @@ fn told_of_syntax(alloc: Global, text: &[u8], limits: &Limits) -> Result<Told, A
     let mut message = String::new(alloc);
     push_expected(alloc, &mut message, &diagnosis, piece)?;
     push_found(&mut message, piece)?;
-    Ok(Told {
+    Ok(LineMessage {
         at: diagnosis.piece.start,
         message,
     })
