@@ -3,7 +3,7 @@ use Rattle.std.proofs.Common.{◌≡◌, ◌+◌, ℕ, List, [], ◌++◌, take,
 use Rattle.std.specs.Io.KnownBytes.{Appends, Keeps}
 use Rattle.std.proofs.lemmas.List.{take-append-drop, append-nil}
 use Rattle.std.proofs.Math.Seq.{take-add}
-use Rattle.gq_engine.specs.Sending.{AppendsFront}
+use Rattle.gq_engine.specs.Sending.{AppendsPrefix}
 
 pub appends_more : (a b c : Option (List ℕ)) (x y : List ℕ) → Appends a b x → Appends b c y → Appends a c (x ++ y)
 appends_more None b c x y h k = tt
@@ -28,17 +28,17 @@ taken bytes rest i n e = ap (λ l. take i bytes ++ take n l) e ∙ sym (take-add
 pub wrote_more : (a b c : Option (List ℕ)) (bytes rest : List ℕ) (i n : ℕ) → rest ≡ drop i bytes → Appends a b (take i bytes) → Appends b c (take n rest) → Appends a c (take (i + n) bytes)
 wrote_more a b c bytes rest i n e h k = let P : List ℕ → Type 0 = λ l. Appends a c l in subst P (taken bytes rest i n e) (appends_more a b c (take i bytes) (take n rest) h k)
 
-pub front_kept : (a b c : Option (List ℕ)) (bytes : List ℕ) (i : ℕ) → Appends a b (take i bytes) → Keeps b c → AppendsFront a c bytes
-front_kept a b c bytes i h k = record {
-  front = take i bytes;
+pub prefix_kept : (a b c : Option (List ℕ)) (bytes : List ℕ) (i : ℕ) → Appends a b (take i bytes) → Keeps b c → AppendsPrefix a c bytes
+prefix_kept a b c bytes i h k = record {
+  prefix = take i bytes;
   rest = drop i bytes;
   is = sym (take-append-drop i bytes);
   appends = appends_kept a b c (take i bytes) h k;
 }
 
-pub front_more : (a b c : Option (List ℕ)) (bytes rest : List ℕ) (i n : ℕ) → rest ≡ drop i bytes → Appends a b (take i bytes) → Appends b c (take n rest) → AppendsFront a c bytes
-front_more a b c bytes rest i n e h k = record {
-  front = take (i + n) bytes;
+pub prefix_more : (a b c : Option (List ℕ)) (bytes rest : List ℕ) (i n : ℕ) → rest ≡ drop i bytes → Appends a b (take i bytes) → Appends b c (take n rest) → AppendsPrefix a c bytes
+prefix_more a b c bytes rest i n e h k = record {
+  prefix = take (i + n) bytes;
   rest = drop (i + n) bytes;
   is = sym (take-append-drop (i + n) bytes);
   appends = wrote_more a b c bytes rest i n e h k;

@@ -13,7 +13,7 @@ use Rattle.gq_reply.specs.declared.refusal.Refused.{Refused}
 use Rattle.gq_reply.specs.declared.reply.Reply.TheVariants as reply
 use Rattle.gq_reply.specs.Refusals.{unnumbered}
 use Rattle.gq_query.specs.Answers.{rows_shown}
-use Rattle.gq_engine.specs.Databases.{Database, StandsAt, table_at, with_table, without_table, names_differ}
+use Rattle.gq_engine.specs.Databases.{Database, IsTableAt, table_at, with_table, without_table, names_differ}
 use Rattle.gq_engine.specs.Loading.{bytes_told, is_lost, rows_told}
 use Rattle.gq_engine.specs.Refusing.{put_all_within}
 use Rattle.gq_engine.specs.Steps.{drop_table, with_rows, load_table, show_table}
@@ -70,5 +70,5 @@ module _ (short : Short) (limits : Bounds) (db : Database) (name : List ℕ) whe
         finds NoTable (table_at db name) table _ found ∙ gives (rows_told short limits table.schema bytes) rows _ h ∙ gives (with_rows limits db name rows) new _ k
 
 -- without the table at a place
-pub dropped_at : (db : Database) (name : List ℕ) (i : ℕ) → StandsAt db name i → IsTrue (names_differ db) → without_table db name ≡ remove db i
+pub dropped_at : (db : Database) (name : List ℕ) (i : ℕ) → IsTableAt db name i → IsTrue (names_differ db) → without_table db name ≡ remove db i
 dropped_at db name i s differ = without_at db name i s.entry s.within s.here s.named differ

@@ -90,12 +90,12 @@ module _ (db : Database) (name : Bytes) (clauses : GroupClauses) where
 
       pub group_planned : (plan : GroupPlan) → group_plan table.schema.columns (other_columns other) clauses ≡ Ok plan
           → group db name clauses ≡ (some_or SumRange (rows_planned plan table other) >>= λ rows. Ok (db, reply.Rows (group_header clauses.by clauses.shown) rows))
-      group_planned plan told =
-          finds NoTable (table_at db name) table _ found ∙ gives (other_in db clauses.exists) other _ there ∙ gives (group_plan table.schema.columns (other_columns other) clauses) plan _ told
+      group_planned plan planned =
+          finds NoTable (table_at db name) table _ found ∙ gives (other_in db clauses.exists) other _ there ∙ gives (group_plan table.schema.columns (other_columns other) clauses) plan _ planned
 
       pub asked_planned : (plan : GroupPlan) → group_plan table.schema.columns (other_columns other) clauses ≡ Ok plan → rows_asked db name clauses ≡ Ok (grouping_sets plan.rollup plan.by, rows_about plan table other)
-      asked_planned plan told =
-          finds NoTable (table_at db name) table _ found ∙ gives (other_in db clauses.exists) other _ there ∙ gives (group_plan table.schema.columns (other_columns other) clauses) plan _ told
+      asked_planned plan planned =
+          finds NoTable (table_at db name) table _ found ∙ gives (other_in db clauses.exists) other _ there ∙ gives (group_plan table.schema.columns (other_columns other) clauses) plan _ planned
 
 module _ (db : Database) (name : Bytes) (on : List Bytes) (tests : List Test) where
   pub distinct_none : table_at db name ≡ None → distinct db name on tests ≡ Err (unnumbered NoTable)
@@ -111,7 +111,7 @@ module _ (db : Database) (name : Bytes) (on : List Bytes) (tests : List Test) wh
 
     pub distinct_planned : (plan : DistinctPlan) → distinct_plan table.schema.columns on tests ≡ Ok plan
         → distinct db name on tests ≡ (some_or SumRange (Some (keys_planned plan table)) >>= λ rows. Ok (db, reply.Rows on rows))
-    distinct_planned plan told = finds NoTable (table_at db name) table _ found ∙ gives (distinct_plan table.schema.columns on tests) plan _ told
+    distinct_planned plan planned = finds NoTable (table_at db name) table _ found ∙ gives (distinct_plan table.schema.columns on tests) plan _ planned
 
   -- a line names a column
   pub some_on : is_command (Distinct name on tests) ≡ true → 0 < length on

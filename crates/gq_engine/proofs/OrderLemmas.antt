@@ -40,7 +40,7 @@ use Rattle.gq_plan.specs.Plans.{distinct_plan, group_plan}
 use Rattle.gq_engine.specs.Databases.{Database, table_at, with_table, without_table, IsKeyed}
 use Rattle.gq_row.specs.Fitting.{fits_columns, is_null, stored_in}
 use Rattle.gq_reply.specs.Outcomes.{◌>>=◌, some_or, true_or}
-use Rattle.gq_reply.specs.Refusals.{unnumbered, told, refused}
+use Rattle.gq_reply.specs.Refusals.{unnumbered, of_refused, refused}
 use Rattle.gq_engine.specs.Loading.{is_lost, bytes_told, rows_told}
 use Rattle.gq_engine.specs.Refusing.{has_null_key, rows_with, put_within, put_all_within, fits_key, stored_key}
 use Rattle.gq_engine.specs.Runs.{Setting, LegalAnswer, AsListsAnswer, WantsMemory, StoreFailed, StoreLied, SameTables, ReachesGrouping, IsGrouped, AnsweredAlike, AnsweredAsLists}
@@ -415,7 +415,7 @@ module _ (limits : Bounds) (a b : Database) (k : IsKeyed a) (same : SameTables a
   settled_alike (Ok x) (Ok y) h = h
   settled_alike (Ok x) (Err w) h = absurd h
   settled_alike (Err v) (Ok y) h = absurd h
-  settled_alike (Err v) (Err w) h = record { reply = ap told h; same = same; keyed = k }
+  settled_alike (Err v) (Err w) h = record { reply = ap of_refused h; same = same; keyed = k }
 
   item_alike : (it : Item) → Alikes (step limits a it) (step limits b it)
   item_alike (item.Command c) = settled_alike (outcome limits a c) (outcome limits b c) (command_alike c)
@@ -493,11 +493,11 @@ answered_done setting old c answer new h =
 pub answered_memory : (setting : Setting) (old : Database) (it : Item) (new : Database) → SameTables old new → AnsweredAlike setting old it (refused Memory) new
 answered_memory setting old it new same = record { last = old; legal = WantsMemory refl refl; same = same }
 
-pub answered_refused : (setting : Setting) (old : Database) (c : Command) (why : Refused) (new : Database) → Comes (outcome setting.limits old c) (Err why) old new → AnsweredAlike setting old (item.Command c) (told why) new
+pub answered_refused : (setting : Setting) (old : Database) (c : Command) (why : Refused) (new : Database) → Comes (outcome setting.limits old c) (Err why) old new → AnsweredAlike setting old (item.Command c) (of_refused why) new
 answered_refused setting old c why new h = from h.1
   where
-    from : (why ≡ unnumbered Memory) ⊎ (outcome setting.limits old c ≡ Err why) → AnsweredAlike setting old (item.Command c) (told why) new
-    from (inl e) = subst (λ (w : Refused). AnsweredAlike setting old (item.Command c) (told w) new) (sym e) (answered_memory setting old (item.Command c) new h.0)
+    from : (why ≡ unnumbered Memory) ⊎ (outcome setting.limits old c ≡ Err why) → AnsweredAlike setting old (item.Command c) (of_refused why) new
+    from (inl e) = subst (λ (w : Refused). AnsweredAlike setting old (item.Command c) (of_refused w) new) (sym e) (answered_memory setting old (item.Command c) new h.0)
     from (inr e) = record { last = old; legal = AsListsAnswer (ap (settle old) (sym e)); same = h.0 }
 
 -- the result of a command that takes no memory
@@ -507,7 +507,7 @@ answered_surely limits old c answer new h = record {
   same = subst (λ (p : Outcome). SameTables (settle old p).0 new) (sym h.done) h.same;
 }
 
-pub refused_surely : (limits : Bounds) (old : Database) (c : Command) (why : Refused) (new : Database) → ComesSurely (outcome limits old c) (Err why) old new → AnsweredAsLists limits old (item.Command c) (told why) new
+pub refused_surely : (limits : Bounds) (old : Database) (c : Command) (why : Refused) (new : Database) → ComesSurely (outcome limits old c) (Err why) old new → AnsweredAsLists limits old (item.Command c) (of_refused why) new
 refused_surely limits old c why new h = record {
   reply = sym (ap (λ (p : Outcome). (settle old p).1) h.1);
   same = subst (λ (p : Outcome). SameTables (settle old p).0 new) (sym h.1) h.0;

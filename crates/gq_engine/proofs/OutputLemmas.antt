@@ -21,9 +21,9 @@ use Rattle.gq_engine.specs.declared.run.Fault.{Fault}
 use Rattle.gq_engine.specs.declared.sending.WriteFault.{WriteFault}
 use Rattle.gq_engine.specs.declared.run.Fault.TheVariants as fault
 use Rattle.gq_engine.specs.Headline.{Answered, Ran, State}
-use Rattle.gq_engine.specs.Outputs.{AreComplaints, IsComplaint, IsResultIn, RanAs, Tells, TellsOn, between, complaint, is_result, result_in, text_as, texts, texts_after}
+use Rattle.gq_engine.specs.Outputs.{AreComplaints, IsComplaint, IsResultIn, RanAs, Complains, ComplainsOn, between, complaint, is_result, result_in, text_as, texts, texts_after}
 use Rattle.gq_engine.specs.Runs.{Setting}
-use Rattle.gq_engine.specs.Sending.{AppendsFront}
+use Rattle.gq_engine.specs.Sending.{AppendsPrefix}
 use Rattle.gq_engine.proofs.Bytes.{appends_more, appends_nothing}
 
 or_false : (b : Bool) → (b || false) ≡ b
@@ -50,61 +50,61 @@ complaints_push output (n ∷ ns) item (x ∷ xs) r said text e h k =
     (h.0, h.1 ++ text, ap (λ (l : Bytes). l ++ text) h.2 ∙ append_assoc h.0 h.1 text, h.3, complaints_push output ns item xs r h.1 text (omega (arith, e)) h.4 k)
 
 -- a stream has all of the bytes while it takes them, and a prefix once it has failed
-abbrev pub Told : Bool → Option Bytes → Option Bytes → Bytes → Type 0
-Told true before after bytes = Appends before after bytes
-Told false before after bytes = AppendsFront before after bytes
+abbrev pub Reported : Bool → Option Bytes → Option Bytes → Bytes → Type 0
+Reported true before after bytes = Appends before after bytes
+Reported false before after bytes = AppendsPrefix before after bytes
 
-pub told_nothing : (a : Option Bytes) → Told true a a []
-told_nothing a = appends_nothing a
+pub reported_nothing : (a : Option Bytes) → Reported true a a []
+reported_nothing a = appends_nothing a
 
-pub front_longer : (a b : Option Bytes) (x y : Bytes) → AppendsFront a b x → AppendsFront a b (x ++ y)
-front_longer a b x y h = record { front = h.front; rest = h.rest ++ y; is = ap (λ l. l ++ y) h.is ∙ append_assoc h.front h.rest y; appends = h.appends }
+pub prefix_longer : (a b : Option Bytes) (x y : Bytes) → AppendsPrefix a b x → AppendsPrefix a b (x ++ y)
+prefix_longer a b x y h = record { prefix = h.prefix; rest = h.rest ++ y; is = ap (λ l. l ++ y) h.is ∙ append_assoc h.prefix h.rest y; appends = h.appends }
 
-pub whole_front : (a b : Option Bytes) (x : Bytes) → Appends a b x → AppendsFront a b x
-whole_front a b x h = record { front = x; rest = []; is = sym (append-nil x); appends = h }
+pub whole_prefix : (a b : Option Bytes) (x : Bytes) → Appends a b x → AppendsPrefix a b x
+whole_prefix a b x h = record { prefix = x; rest = []; is = sym (append-nil x); appends = h }
 
-pub front_after : (a b c : Option Bytes) (x y : Bytes) → Appends a b x → AppendsFront b c y → AppendsFront a c (x ++ y)
-front_after a b c x y h k = record { front = x ++ k.front; rest = k.rest; is = ap (λ l. x ++ l) k.is ∙ sym (append_assoc x k.front k.rest); appends = appends_more a b c x k.front h k.appends }
+pub prefix_after : (a b c : Option Bytes) (x y : Bytes) → Appends a b x → AppendsPrefix b c y → AppendsPrefix a c (x ++ y)
+prefix_after a b c x y h k = record { prefix = x ++ k.prefix; rest = k.rest; is = ap (λ l. x ++ l) k.is ∙ sym (append_assoc x k.prefix k.rest); appends = appends_more a b c x k.prefix h k.appends }
 
 -- a result's text after what comes before it: a prefix of the latter was written, or all of it and a prefix of the text
-pub result_front : (output : Output) (earlier : Bool) (r : Reply) (a b : Option Bytes) (bytes : Bytes) → IsResultIn output r bytes → AppendsFront a b (between output earlier) → AppendsFront a b (text_as output earlier r)
-result_front output earlier (reply.Done n) a b bytes is h = absurd is
-result_front output earlier (reply.Rows header rows) a b bytes is h = front_longer a b (between output earlier) (result_in output header rows) h
-result_front output earlier (reply.Refused why number) a b bytes is h = absurd is
+pub result_prefix : (output : Output) (earlier : Bool) (r : Reply) (a b : Option Bytes) (bytes : Bytes) → IsResultIn output r bytes → AppendsPrefix a b (between output earlier) → AppendsPrefix a b (text_as output earlier r)
+result_prefix output earlier (reply.Done n) a b bytes is h = absurd is
+result_prefix output earlier (reply.Rows header rows) a b bytes is h = prefix_longer a b (between output earlier) (result_in output header rows) h
+result_prefix output earlier (reply.Refused why number) a b bytes is h = absurd is
 
-pub result_cut : (output : Output) (earlier : Bool) (r : Reply) (a b c : Option Bytes) (bytes : Bytes) → IsResultIn output r bytes → Appends a b (between output earlier) → AppendsFront b c bytes → AppendsFront a c (text_as output earlier r)
+pub result_cut : (output : Output) (earlier : Bool) (r : Reply) (a b c : Option Bytes) (bytes : Bytes) → IsResultIn output r bytes → Appends a b (between output earlier) → AppendsPrefix b c bytes → AppendsPrefix a c (text_as output earlier r)
 result_cut output earlier (reply.Done n) a b c bytes is h k = absurd is
-result_cut output earlier (reply.Rows header rows) a b c bytes is h k = let P : Bytes → Type 0 = λ l. AppendsFront a c (between output earlier ++ l) in subst P is (front_after a b c (between output earlier) bytes h k)
+result_cut output earlier (reply.Rows header rows) a b c bytes is h k = let P : Bytes → Type 0 = λ l. AppendsPrefix a c (between output earlier ++ l) in subst P is (prefix_after a b c (between output earlier) bytes h k)
 result_cut output earlier (reply.Refused why number) a b c bytes is h k = absurd is
 
-pub told_as_front : (is_open : Bool) (a b : Option Bytes) (x : Bytes) → Told is_open a b x → AppendsFront a b x
-told_as_front true a b x h = whole_front a b x h
-told_as_front false a b x h = h
+pub reported_as_prefix : (is_open : Bool) (a b : Option Bytes) (x : Bytes) → Reported is_open a b x → AppendsPrefix a b x
+reported_as_prefix true a b x h = whole_prefix a b x h
+reported_as_prefix false a b x h = h
 
-pub told_more : (is_open is_open' : Bool) (a b c : Option Bytes) (x y : Bytes) → Told is_open a b x → TellsOn is_open is_open' b c y → Told is_open' a c (x ++ y)
-told_more true true a b c x y h k = appends_more a b c x y h k
-told_more true false a b c x y h k = front_after a b c x y h k
-told_more false true a b c x y h k = absurd k
-told_more false false a b c x y h k = let P : Option Bytes → Type 0 = λ o. AppendsFront a o (x ++ y) in subst P (sym k) (front_longer a b x y h)
+pub reported_more : (is_open is_open' : Bool) (a b c : Option Bytes) (x y : Bytes) → Reported is_open a b x → ComplainsOn is_open is_open' b c y → Reported is_open' a c (x ++ y)
+reported_more true true a b c x y h k = appends_more a b c x y h k
+reported_more true false a b c x y h k = prefix_after a b c x y h k
+reported_more false true a b c x y h k = absurd k
+reported_more false false a b c x y h k = let P : Option Bytes → Type 0 = λ o. AppendsPrefix a o (x ++ y) in subst P (sym k) (prefix_longer a b x y h)
 
 -- bytes that were sent, by whether all were
-pub sent : (r : Result (Unit {0}) WriteFault) (ok : Bool) (a b : Option Bytes) (x : Bytes) → ok ≡ is_ok r → OnOk r (Appends a b x) → IfErr r (λ _. AppendsFront a b x) → TellsOn true ok a b x
-sent (Ok done) ok a b x e h k = let P : Bool → Type 0 = λ o. TellsOn true o a b x in subst P (sym e) h
-sent (Err why) ok a b x e h k = let P : Bool → Type 0 = λ o. TellsOn true o a b x in subst P (sym e) k
+pub sent : (r : Result (Unit {0}) WriteFault) (ok : Bool) (a b : Option Bytes) (x : Bytes) → ok ≡ is_ok r → OnOk r (Appends a b x) → IfErr r (λ _. AppendsPrefix a b x) → ComplainsOn true ok a b x
+sent (Ok done) ok a b x e h k = let P : Bool → Type 0 = λ o. ComplainsOn true o a b x in subst P (sym e) h
+sent (Err why) ok a b x e h k = let P : Bool → Type 0 = λ o. ComplainsOn true o a b x in subst P (sym e) k
 
-pub told_fixed : (b : Bounds) (output : Output) (line : ℕ) (wrong : Option OpenLine) (r : Reply) (was_open is_open : Bool) (before after : Option Bytes) (text : Bytes) → text ≡ complaint output line r → TellsOn was_open is_open before after text
-    → Tells b output line wrong r was_open is_open before after
-told_fixed b output line wrong r was_open is_open before after text e t = record { text = text; about = λ item num kept. inl (e ∙ ap (λ (n : ℕ). complaint output n r) (sym num)); told = t }
+pub reported_fixed : (b : Bounds) (output : Output) (line : ℕ) (wrong : Option OpenLine) (r : Reply) (was_open is_open : Bool) (before after : Option Bytes) (text : Bytes) → text ≡ complaint output line r → ComplainsOn was_open is_open before after text
+    → Complains b output line wrong r was_open is_open before after
+reported_fixed b output line wrong r was_open is_open before after text e t = record { text = text; about = λ item num kept. inl (e ∙ ap (λ (n : ℕ). complaint output n r) (sym num)); reported = t }
 
-pub silent : (b : Bounds) (output : Output) (line : ℕ) (wrong : Option OpenLine) (r : Reply) (is_open : Bool) (before : Option Bytes) → is_open ≡ false → Tells b output line wrong r is_open is_open before before
+pub silent : (b : Bounds) (output : Output) (line : ℕ) (wrong : Option OpenLine) (r : Reply) (is_open : Bool) (before : Option Bytes) → is_open ≡ false → Complains b output line wrong r is_open is_open before before
 silent b output line wrong r is_open before e =
-    let P : Bool → Type 0 = λ o. TellsOn o o before before (complaint output line r) in
-    told_fixed b output line wrong r is_open is_open before before (complaint output line r) refl (subst P (sym e) refl)
+    let P : Bool → Type 0 = λ o. ComplainsOn o o before before (complaint output line r) in
+    reported_fixed b output line wrong r is_open is_open before before (complaint output line r) refl (subst P (sym e) refl)
 
-pub unrefused : (b : Bounds) (output : Output) (line : ℕ) (wrong : Option OpenLine) (r : Reply) (is_open : Bool) (before : Option Bytes) → is_open ≡ true → is_refusal r ≡ false → Tells b output line wrong r is_open is_open before before
+pub unrefused : (b : Bounds) (output : Output) (line : ℕ) (wrong : Option OpenLine) (r : Reply) (is_open : Bool) (before : Option Bytes) → is_open ≡ true → is_refusal r ≡ false → Complains b output line wrong r is_open is_open before before
 unrefused b output line wrong r is_open before e f =
-    let P : Bool → Type 0 = λ o. TellsOn o o before before [] in
-    told_fixed b output line wrong r is_open is_open before before [] (sym (nothing output r f)) (subst P (sym e) (appends_nothing before))
+    let P : Bool → Type 0 = λ o. ComplainsOn o o before before [] in
+    reported_fixed b output line wrong r is_open is_open before before [] (sym (nothing output r f)) (subst P (sym e) (appends_nothing before))
   where
     nothing : (output : Output) (r : Reply) → is_refusal r ≡ false → complaint output line r ≡ []
     nothing Replies r f = refl
@@ -127,9 +127,9 @@ items_done : (limits : Bounds) (script : Bytes) (done left : List Numbered) → 
 items_done limits script done left e = sym (numbered_items limits 0 (without_mark script)) ∙ ap entries_of e ∙ map-append (λ (x : Numbered). x.entry) done left
 
 -- a run that writes replies
-pub ran_plainly : (setting : Setting) (old : State) (script : Option Bytes) (new : State) (before after errors told : Option Bytes) (ended : Result Summary Fault) → RanAs Replies setting old script new before after errors told ended → Ran setting old script new before after ended
-ran_plainly setting old None new before after errors told ended h = tt
-ran_plainly setting old (Some script) new before after errors told (Ok summary) h =
+pub ran_plainly : (setting : Setting) (old : State) (script : Option Bytes) (new : State) (before after errors reported : Option Bytes) (ended : Result Summary Fault) → RanAs Replies setting old script new before after errors reported ended → Ran setting old script new before after ended
+ran_plainly setting old None new before after errors reported ended h = tt
+ran_plainly setting old (Some script) new before after errors reported (Ok summary) h =
     let Q : List Entry → Type 0 = λ entries. Answered setting old entries new h.replies in
     let P : Bytes → Type 0 = λ l. Appends before after l in
     record {
@@ -140,7 +140,7 @@ ran_plainly setting old (Some script) new before after errors told (Ok summary) 
       commands = h.ends.commands;
       refused = h.ends.refused;
     }
-ran_plainly setting old (Some script) new before after errors told (Err fault.Read) h =
+ran_plainly setting old (Some script) new before after errors reported (Err fault.Read) h =
     let P : Bytes → Type 0 = λ l. Appends before after l in
     record {
       done = entries_of h.done;
@@ -150,8 +150,8 @@ ran_plainly setting old (Some script) new before after errors told (Err fault.Re
       answered = h.answered;
       written = subst P (plain_after false h.replies) h.wrote;
     }
-ran_plainly setting old (Some script) new before after errors told (Err fault.Write) h =
-    let P : Bytes → Type 0 = λ l. Appends before after (l ++ h.wrote.front) in
+ran_plainly setting old (Some script) new before after errors reported (Err fault.Write) h =
+    let P : Bytes → Type 0 = λ l. Appends before after (l ++ h.wrote.prefix) in
     let A : List Reply → Type 0 = λ l. Answered setting old (entries_of h.done) new l in
     record {
       done = entries_of h.done;
@@ -160,7 +160,7 @@ ran_plainly setting old (Some script) new before after errors told (Err fault.Wr
       replies = h.wrote.first;
       last = h.wrote.last;
       answered = subst A h.wrote.is h.answered;
-      front = h.wrote.front;
+      prefix = h.wrote.prefix;
       rest = h.wrote.rest;
       cut = sym (plain (list_any is_result h.wrote.first) h.wrote.last) ∙ h.wrote.cut;
       written = subst P (plain_after false h.wrote.first) h.wrote.written;

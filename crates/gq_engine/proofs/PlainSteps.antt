@@ -30,7 +30,7 @@ use Rattle.gq_engine.specs.Databases.{Database, table_at}
 use Rattle.std.specs.List.{list_any}
 use Rattle.gq_row.specs.Fitting.{fits_columns, is_null, stored_in}
 use Rattle.gq_reply.specs.Outcomes.{◌>>=◌, some_or, true_or}
-use Rattle.gq_reply.specs.Refusals.{told, unnumbered}
+use Rattle.gq_reply.specs.Refusals.{of_refused, unnumbered}
 use Rattle.gq_engine.specs.Refusing.{has_null_key, rows_with, put_within, put_all_within, fits_key, stored_key}
 use Rattle.gq_engine.specs.Loading.{is_lost, bytes_told, fault_refusal, refused_by, rows_told}
 use Rattle.gq_engine.specs.Runs.{is_store_fault}
@@ -39,7 +39,7 @@ use Rattle.gq_engine.specs.Steps.{table_in, outcome, create, drop_table, with_ro
 -- steps whose refusal is no failure of the run store
 abbrev Refuses : {X : Type 0} → (X → Bool) → Result X Refused → Type 0
 Refuses fault (Ok x) = fault x ≡ false
-Refuses fault (Err why) = is_store_fault (told why) ≡ false
+Refuses fault (Err why) = is_store_fault (of_refused why) ≡ false
 
 then_refuses : {X Y : Type 0} (p : X → Bool) (q : Y → Bool) (m : Result X Refused) (f : X → Result Y Refused) → Refuses p m → ((x : X) → Refuses q (f x)) → Refuses q (m >>= f)
 then_refuses p q (Ok x) f h k = k x
@@ -48,11 +48,11 @@ then_refuses p q (Err why) f h k = h
 abbrev never : {X : Type 0} → X → Bool
 never x = false
 
-test_refuses : (why : Refusal) (b : Bool) → is_store_fault (told (unnumbered why)) ≡ false → Refuses never (true_or why b)
+test_refuses : (why : Refusal) (b : Bool) → is_store_fault (of_refused (unnumbered why)) ≡ false → Refuses never (true_or why b)
 test_refuses why true h = refl
 test_refuses why false h = h
 
-some_refuses : {X : Type 0} (why : Refusal) (o : Option X) → is_store_fault (told (unnumbered why)) ≡ false → Refuses never (some_or why o)
+some_refuses : {X : Type 0} (why : Refusal) (o : Option X) → is_store_fault (of_refused (unnumbered why)) ≡ false → Refuses never (some_or why o)
 some_refuses why None h = h
 some_refuses why (Some x) h = refl
 
@@ -71,7 +71,7 @@ payload_refuses payload.Open = refl
 payload_refuses payload.TooLong = refl
 payload_refuses payload.NoMemory = refl
 
-fault_refuses : (why : LoadRefusal) → is_store_fault (told (fault_refusal why)) ≡ false
+fault_refuses : (why : LoadRefusal) → is_store_fault (of_refused (fault_refusal why)) ≡ false
 fault_refuses (fault.NullKey number) = refl
 fault_refuses fault.Header = refl
 fault_refuses (fault.FieldCount number) = refl
@@ -178,5 +178,5 @@ module _ (limits : Bounds) (db : Database) where
   pub done_tells : (c : Command) (last : Database) (answer : Reply) → outcome limits db c ≡ Ok (last, answer) → is_store_fault answer ≡ false
   done_tells c last answer e = subst (Refuses faulty) e (command_refuses c)
 
-  pub refused_tells : (c : Command) (why : Refused) → outcome limits db c ≡ Err why → is_store_fault (told why) ≡ false
+  pub refused_tells : (c : Command) (why : Refused) → outcome limits db c ≡ Err why → is_store_fault (of_refused why) ≡ false
   refused_tells c why e = subst (Refuses faulty) e (command_refuses c)

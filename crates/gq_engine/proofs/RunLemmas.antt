@@ -18,16 +18,16 @@ use Rattle.gq_reply.specs.declared.reply.Reply.{Reply}
 use Rattle.gq_engine.specs.declared.run.Summary.{Summary}
 use Rattle.gq_engine.specs.declared.run.Fault.{Fault}
 use Rattle.gq_engine.specs.declared.run.Fault.TheVariants as fault
-use Rattle.gq_engine.specs.Sending.{AppendsFront}
+use Rattle.gq_engine.specs.Sending.{AppendsPrefix}
 use Rattle.gq_engine.specs.Databases.{Database, IsKeyed}
 use Rattle.gq_reply.specs.Refusals.{refused}
 use Rattle.gq_reply.specs.Replies.{is_refusal}
 use Rattle.gq_engine.specs.Runs.{Setting, LegalAnswer, AsListsAnswer, WantsMemory, StoreFailed, StoreLied, AnsweredAlike, LegalStep, LegalRun, SameTables, FaultsHappened, is_store_fault}
 use Rattle.gq_engine.specs.Headline.{State}
 use Rattle.gq_engine.specs.declared.output.Output.{Output}
-use Rattle.gq_engine.specs.Outputs.{AreComplaints, RanAs, Tells, complaint, is_result, text_as, texts}
-use Rattle.gq_engine.specs.Serving.{Wrote, WroteFront}
-use Rattle.gq_engine.proofs.OutputLemmas.{Told, front_longer, any_push, complaints_push, told_as_front, told_more, told_nothing, texts_push}
+use Rattle.gq_engine.specs.Outputs.{AreComplaints, RanAs, Complains, complaint, is_result, text_as, texts}
+use Rattle.gq_engine.specs.Serving.{Wrote, WrotePrefix}
+use Rattle.gq_engine.proofs.OutputLemmas.{Reported, prefix_longer, any_push, complaints_push, reported_as_prefix, reported_more, reported_nothing, texts_push}
 use Rattle.gq_engine.proofs.OrderLemmas.{same_tables, answer_lost, answered_from, keyed_after}
 use Rattle.gq_engine.proofs.Bytes.{appends_more, appends_nothing}
 
@@ -45,7 +45,7 @@ pub record Point : Type 0 where
   pub now : State
   pub reader : Pending
   pub after : Option Bytes
-  pub told : Option Bytes
+  pub reported : Option Bytes
   pub earlier : Bool
   pub is_open : Bool
   pub commands : ℕ
@@ -69,7 +69,7 @@ pub record SoFar (c : Course) (script : Bytes) (p : Point) : Type 0 where
   pub earlier_is : p.earlier ≡ list_any is_result replies
   pub said : Bytes
   pub complaints : AreComplaints c.output done replies said
-  pub complained : Told p.is_open c.errors p.told said
+  pub complained : Reported p.is_open c.errors p.reported said
   pub commands : p.commands ≡ length replies
   pub refusals : p.refused ≡ count_by is_refusal replies
 
@@ -114,11 +114,11 @@ step_of setting between entry it reply new r h =
     ]
 
 pub begin : (c : Course) (reader : Pending) → IsKeyed c.old.database → IfSome c.script (λ bytes. reader.left ≡ Some (without_mark bytes)) → IfSome c.script (λ bytes. reader.given + length (without_mark bytes) ≡ length bytes) → reader.lines ≡ 0
-    → Going c (record { now = c.old; reader = reader; after = c.before; told = c.errors; earlier = false; is_open = true; commands = 0; refused = 0 })
+    → Going c (record { now = c.old; reader = reader; after = c.before; reported = c.errors; earlier = false; is_open = true; commands = 0; refused = 0 })
 begin c reader k h counted none = begin_at c.script h counted
   where
     start : Point
-    start = record { now = c.old; reader = reader; after = c.before; told = c.errors; earlier = false; is_open = true; commands = 0; refused = 0 }
+    start = record { now = c.old; reader = reader; after = c.before; reported = c.errors; earlier = false; is_open = true; commands = 0; refused = 0 }
 
     begin_at : (script : Option Bytes) → IfSome script (λ bytes. reader.left ≡ Some (without_mark bytes)) → IfSome script (λ bytes. reader.given + length (without_mark bytes) ≡ length bytes) → going c script start
     begin_at None h counted = tt
@@ -139,7 +139,7 @@ begin c reader k h counted none = begin_at c.script h counted
       earlier_is = refl;
       said = [];
       complaints = refl;
-      complained = told_nothing c.errors;
+      complained = reported_nothing c.errors;
       commands = refl;
       refusals = refl;
     }
@@ -182,11 +182,11 @@ abbrev GaveNext : Bounds → Pending → Bytes → Pending → Item → Type 0
 GaveNext b reader bytes reader' it = Gave b reader.lines bytes reader'.left reader'.lines reader'.line reader'.wrong it
 
 -- one more item was answered, its text written, and a refusal reported
-go_on : (c : Course) (script : Option Bytes) (p : Point) (reader' : Pending) (after' told' : Option Bytes) (is_open' : Bool) (it : Item) (reply : Reply) (new : State)
-    → going c script p → IfSome p.reader.left (λ bytes. GaveNext c.setting.limits p.reader bytes reader' it) → Counted p.reader reader' → Wrote c.output p.earlier c.setting p.now it new p.after after' reply → Tells c.setting.limits c.output reader'.line reader'.wrong reply p.is_open is_open' p.told told'
-    → going c script (record { now = new; reader = reader'; after = after'; told = told'; earlier = p.earlier || is_result reply; is_open = is_open'; commands = p.commands + 1; refused = cond (is_refusal reply) (p.refused + 1) p.refused })
-go_on c None p reader' after' told' is_open' it reply new h given counted wrote told = tt
-go_on c (Some script) p reader' after' told' is_open' it reply new h given counted wrote told =
+go_on : (c : Course) (script : Option Bytes) (p : Point) (reader' : Pending) (after' reported' : Option Bytes) (is_open' : Bool) (it : Item) (reply : Reply) (new : State)
+    → going c script p → IfSome p.reader.left (λ bytes. GaveNext c.setting.limits p.reader bytes reader' it) → Counted p.reader reader' → Wrote c.output p.earlier c.setting p.now it new p.after after' reply → Complains c.setting.limits c.output reader'.line reader'.wrong reply p.is_open is_open' p.reported reported'
+    → going c script (record { now = new; reader = reader'; after = after'; reported = reported'; earlier = p.earlier || is_result reply; is_open = is_open'; commands = p.commands + 1; refused = cond (is_refusal reply) (p.refused + 1) p.refused })
+go_on c None p reader' after' reported' is_open' it reply new h given counted wrote reported = tt
+go_on c (Some script) p reader' after' reported' is_open' it reply new h given counted wrote reported =
     let P : Option Bytes → Type 0 = λ o. IfSome o (λ bytes. GaveNext c.setting.limits p.reader bytes reader' it) in
     let gave : GaveNext c.setting.limits p.reader h.rest reader' it = subst P h.left_is given in
     let item : Numbered = record { number = reader'.line; entry = gave.entry } in
@@ -209,9 +209,9 @@ go_on c (Some script) p reader' after' told' is_open' it reply new h given count
           let own : Appends p.after after' text = let Q : Bool → Type 0 = λ b. Appends p.after after' (text_as c.output b reply) in subst Q h.earlier_is wrote.written in
           let Q : Bytes → Type 0 = λ l. Appends c.before after' l in subst Q (sym (texts_push c.output h.replies reply)) (appends_more c.before p.after after' (texts c.output h.replies) text h.written own);
       earlier_is = ap (λ b. b || is_result reply) h.earlier_is ∙ sym (any_push h.replies reply);
-      said = h.said ++ told.text;
-      complaints = complaints_push c.output h.done item h.replies reply h.said told.text h.answers h.complaints (told.about item refl gave.kept);
-      complained = told_more p.is_open is_open' c.errors p.told told' h.said told.text h.complained told.told;
+      said = h.said ++ reported.text;
+      complaints = complaints_push c.output h.done item h.replies reply h.said reported.text h.answers h.complaints (reported.about item refl gave.kept);
+      complained = reported_more p.is_open is_open' c.errors p.reported reported' h.said reported.text h.complained reported.reported;
       commands = omega (arith, h.commands, length-append h.replies (reply ∷ []));
       refusals = ap (λ k. cond (is_refusal reply) (k + 1) k) h.refusals ∙ sym (count_by-push is_refusal h.replies reply);
     }
@@ -222,7 +222,7 @@ IsOver b reader reader' = IfSome reader.left (λ bytes. (items_left b bytes ≡ 
 
 -- the result of a run that stops here
 abbrev Comes : Course → Option Bytes → Point → Result Summary Fault → Type 0
-Comes c script p ended = RanAs c.output c.setting c.old script p.now c.before p.after c.errors p.told ended
+Comes c script p ended = RanAs c.output c.setting c.old script p.now c.before p.after c.errors p.reported ended
 
 ended : (c : Course) (script : Option Bytes) (p : Point) (reader' : Pending)
     → going c script p → IsOver c.setting.limits p.reader reader' → Counted p.reader reader' → reader'.given ≤ c.setting.limits.script → Comes c script p (Ok (record { commands = p.commands; refused = p.refused }))
@@ -241,7 +241,7 @@ ended c (Some script) p reader' h none counted few =
       wrote = h.written;
       said = h.said;
       complaints = h.complaints;
-      complained = told_as_front p.is_open c.errors p.told h.said h.complained;
+      complained = reported_as_prefix p.is_open c.errors p.reported h.said h.complained;
       ends = record {
         within = omega (arith, all, h.counted, few);
         nothing_left = over;
@@ -262,7 +262,7 @@ stopped c (Some script) p h = record {
   wrote = h.written;
   said = h.said;
   complaints = h.complaints;
-  complained = told_as_front p.is_open c.errors p.told h.said h.complained;
+  complained = reported_as_prefix p.is_open c.errors p.reported h.said h.complained;
   ends = tt;
 }
 
@@ -271,15 +271,15 @@ stopped_reading c p h = stopped c c.script p h
 
 -- a write failed
 cut : (c : Course) (script : Option Bytes) (p : Point) (reader' : Pending) (after' : Option Bytes) (it : Item) (new : State)
-    → going c script p → IfSome p.reader.left (λ bytes. GaveNext c.setting.limits p.reader bytes reader' it) → WroteFront c.output p.earlier c.setting p.now it new p.after after'
-    → RanAs c.output c.setting c.old script new c.before after' c.errors p.told (Err fault.Write)
+    → going c script p → IfSome p.reader.left (λ bytes. GaveNext c.setting.limits p.reader bytes reader' it) → WrotePrefix c.output p.earlier c.setting p.now it new p.after after'
+    → RanAs c.output c.setting c.old script new c.before after' c.errors p.reported (Err fault.Write)
 cut c None p reader' after' it new h given wrote = tt
 cut c (Some script) p reader' after' it new h given wrote =
     let P : Option Bytes → Type 0 = λ o. IfSome o (λ bytes. GaveNext c.setting.limits p.reader bytes reader' it) in
     let gave : GaveNext c.setting.limits p.reader h.rest reader' it = subst P h.left_is given in
     let item : Numbered = record { number = reader'.line; entry = gave.entry } in
     let next : AnsweredAlike c.setting h.last it wrote.answer new.database = answered_from c.setting h.last p.now.database new.database it wrote.answer h.keyed h.same wrote.legal in
-    let own : AppendsFront p.after after' (text_as c.output (list_any is_result h.replies) wrote.answer) = let Q : Bool → Type 0 = λ b. AppendsFront p.after after' (text_as c.output b wrote.answer) in subst Q h.earlier_is wrote.written in
+    let own : AppendsPrefix p.after after' (text_as c.output (list_any is_result h.replies) wrote.answer) = let Q : Bool → Type 0 = λ b. AppendsPrefix p.after after' (text_as c.output b wrote.answer) in subst Q h.earlier_is wrote.written in
     record {
       done = h.done ++ item ∷ [];
       left = numbered_left c.setting.limits reader'.lines gave.rest;
@@ -295,14 +295,14 @@ cut c (Some script) p reader' after' it new h given wrote =
         first = h.replies;
         last = wrote.answer;
         is = refl;
-        front = own.front;
+        prefix = own.prefix;
         rest = own.rest;
         cut = own.is;
-        written = appends_more c.before p.after after' (texts c.output h.replies) own.front h.written own.appends;
+        written = appends_more c.before p.after after' (texts c.output h.replies) own.prefix h.written own.appends;
       };
       said = h.said ++ complaint c.output reader'.line wrote.answer;
       complaints = complaints_push c.output h.done item h.replies wrote.answer h.said (complaint c.output reader'.line wrote.answer) h.answers h.complaints (inl refl);
-      complained = front_longer c.errors p.told h.said (complaint c.output reader'.line wrote.answer) (told_as_front p.is_open c.errors p.told h.said h.complained);
+      complained = prefix_longer c.errors p.reported h.said (complaint c.output reader'.line wrote.answer) (reported_as_prefix p.is_open c.errors p.reported h.said h.complained);
       ends = tt;
     }
 
@@ -315,25 +315,25 @@ ended_at c p here b reader' e f h none counted few =
     let g : b ≡ c.setting.limits = f ∙ ap (λ (s : Setting). s.limits) e in
     ended c c.script p reader' h (subst P g none) counted (subst Q g few)
 
-pub go_on_at : (c : Course) (p : Point) (here : Setting) (b : Bounds) (reader' : Pending) (after' told' : Option Bytes) (earlier' is_open' : Bool) (n' m' : ℕ) (it : Item) (output : Output) (there : Bounds) (reply : Reply) (new : State) → here ≡ c.setting → b ≡ here.limits
+pub go_on_at : (c : Course) (p : Point) (here : Setting) (b : Bounds) (reader' : Pending) (after' reported' : Option Bytes) (earlier' is_open' : Bool) (n' m' : ℕ) (it : Item) (output : Output) (there : Bounds) (reply : Reply) (new : State) → here ≡ c.setting → b ≡ here.limits
     → n' ≡ p.commands + 1 → m' ≡ cond (is_refusal reply) (p.refused + 1) p.refused → earlier' ≡ (p.earlier || is_result reply)
-    → output ≡ c.output → there ≡ c.setting.limits → Going c p → IfSome p.reader.left (λ bytes. GaveNext b p.reader bytes reader' it) → Counted p.reader reader' → Wrote c.output p.earlier here p.now it new p.after after' reply → Tells there output reader'.line reader'.wrong reply p.is_open is_open' p.told told'
-    → Going c (record { now = new; reader = reader'; after = after'; told = told'; earlier = earlier'; is_open = is_open'; commands = n'; refused = m' })
-go_on_at c p here b reader' after' told' earlier' is_open' n' m' it output there reply new e f q r t o at h given counted wrote told =
+    → output ≡ c.output → there ≡ c.setting.limits → Going c p → IfSome p.reader.left (λ bytes. GaveNext b p.reader bytes reader' it) → Counted p.reader reader' → Wrote c.output p.earlier here p.now it new p.after after' reply → Complains there output reader'.line reader'.wrong reply p.is_open is_open' p.reported reported'
+    → Going c (record { now = new; reader = reader'; after = after'; reported = reported'; earlier = earlier'; is_open = is_open'; commands = n'; refused = m' })
+go_on_at c p here b reader' after' reported' earlier' is_open' n' m' it output there reply new e f q r t o at h given counted wrote reported =
     let P : Bounds → Type 0 = λ k. IfSome p.reader.left (λ bytes. GaveNext k p.reader bytes reader' it) in
-    let O : Output → Type 0 = λ k. Tells there k reader'.line reader'.wrong reply p.is_open is_open' p.told told' in
-    let A : Bounds → Type 0 = λ k. Tells k c.output reader'.line reader'.wrong reply p.is_open is_open' p.told told' in
+    let O : Output → Type 0 = λ k. Complains there k reader'.line reader'.wrong reply p.is_open is_open' p.reported reported' in
+    let A : Bounds → Type 0 = λ k. Complains k c.output reader'.line reader'.wrong reply p.is_open is_open' p.reported reported' in
     let Q : Setting → Type 0 = λ s. Wrote c.output p.earlier s p.now it new p.after after' reply in
-    let N : ℕ → Type 0 = λ k. Going c (record { now = new; reader = reader'; after = after'; told = told'; earlier = p.earlier || is_result reply; is_open = is_open'; commands = k; refused = cond (is_refusal reply) (p.refused + 1) p.refused }) in
-    let M : ℕ → Type 0 = λ k. Going c (record { now = new; reader = reader'; after = after'; told = told'; earlier = p.earlier || is_result reply; is_open = is_open'; commands = n'; refused = k }) in
-    let B : Bool → Type 0 = λ k. Going c (record { now = new; reader = reader'; after = after'; told = told'; earlier = k; is_open = is_open'; commands = n'; refused = m' }) in
-    subst B (sym t) (subst M (sym r) (subst N (sym q) (go_on c c.script p reader' after' told' is_open' it reply new h (subst P (f ∙ ap (λ (s : Setting). s.limits) e) given) counted (subst Q e wrote) (subst A at (subst O o told)))))
+    let N : ℕ → Type 0 = λ k. Going c (record { now = new; reader = reader'; after = after'; reported = reported'; earlier = p.earlier || is_result reply; is_open = is_open'; commands = k; refused = cond (is_refusal reply) (p.refused + 1) p.refused }) in
+    let M : ℕ → Type 0 = λ k. Going c (record { now = new; reader = reader'; after = after'; reported = reported'; earlier = p.earlier || is_result reply; is_open = is_open'; commands = n'; refused = k }) in
+    let B : Bool → Type 0 = λ k. Going c (record { now = new; reader = reader'; after = after'; reported = reported'; earlier = k; is_open = is_open'; commands = n'; refused = m' }) in
+    subst B (sym t) (subst M (sym r) (subst N (sym q) (go_on c c.script p reader' after' reported' is_open' it reply new h (subst P (f ∙ ap (λ (s : Setting). s.limits) e) given) counted (subst Q e wrote) (subst A at (subst O o reported)))))
 
 pub stopped_writing_at : (c : Course) (p : Point) (here : Setting) (b : Bounds) (reader' : Pending) (after' : Option Bytes) (it : Item) (new : State) → here ≡ c.setting → b ≡ here.limits
-    → Going c p → IfSome p.reader.left (λ bytes. GaveNext b p.reader bytes reader' it) → WroteFront c.output p.earlier here p.now it new p.after after' → RanAs c.output c.setting c.old c.script new c.before after' c.errors p.told (Err fault.Write)
+    → Going c p → IfSome p.reader.left (λ bytes. GaveNext b p.reader bytes reader' it) → WrotePrefix c.output p.earlier here p.now it new p.after after' → RanAs c.output c.setting c.old c.script new c.before after' c.errors p.reported (Err fault.Write)
 stopped_writing_at c p here b reader' after' it new e f h given wrote =
     let P : Bounds → Type 0 = λ k. IfSome p.reader.left (λ bytes. GaveNext k p.reader bytes reader' it) in
-    let Q : Setting → Type 0 = λ s. WroteFront c.output p.earlier s p.now it new p.after after' in
+    let Q : Setting → Type 0 = λ s. WrotePrefix c.output p.earlier s p.now it new p.after after' in
     cut c c.script p reader' after' it new h (subst P (f ∙ ap (λ (s : Setting). s.limits) e) given) (subst Q e wrote)
 
 pub few_refused : (b : Bool) (m n : ℕ) → m ≤ n → cond b (m + 1) m ≤ n + 1

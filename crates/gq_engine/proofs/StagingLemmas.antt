@@ -25,7 +25,7 @@ use Rattle.gq_reply.specs.Refusals.{unnumbered}
 use Rattle.gq_table.specs.Changes.{IsPut}
 use Rattle.gq_table.proofs.StagedLemmas.{loaded_again}
 use Rattle.gq_reply.proofs.StepLemmas.{gives, stops, finds, passes}
-use Rattle.gq_engine.specs.Databases.{Database, IsKeyed, StandsAt, table_at, with_table}
+use Rattle.gq_engine.specs.Databases.{Database, IsKeyed, IsTableAt, table_at, with_table}
 use Rattle.gq_engine.specs.declared.csv_fault.CsvFault.{CsvFault}
 use Rattle.gq_engine.specs.declared.csv_fault.CsvFault.TheVariants as csv_fault
 use Rattle.gq_engine.specs.Loading.{IsTold, bytes_told, csv_told, fault_refusal, is_lost, refused_by, refused_in, rows_told}
@@ -266,8 +266,8 @@ module _ (short : Short) (limits : Bounds) (db : Database) (name : List ℕ) whe
         by_text (Some bytes) h = staged_refused short limits db name own.table own.found keyed (payload.Bytes bytes) bytes refl refl staged count h X why new changes
 
 -- the table at the place of a name is the one of that name
-pub stands_schema : (db : Database) (name : List ℕ) (i : ℕ) (at : List ℕ × PlainTable) (h : PlainSchema) → StandsAt db name i → at ≡ get_or db i at → IfSome (table_at db name) (λ table. h ≡ table.schema) → h ≡ at.1.schema
-stands_schema db name i at h s is asked =
+pub schema_at : (db : Database) (name : List ℕ) (i : ℕ) (at : List ℕ × PlainTable) (h : PlainSchema) → IsTableAt db name i → at ≡ get_or db i at → IfSome (table_at db name) (λ table. h ≡ table.schema) → h ≡ at.1.schema
+schema_at db name i at h s is asked =
     let same : at ≡ s.entry = is ∙ get_or_default db i at s.entry s.within ∙ sym s.here in
     subst (λ (e : List ℕ × PlainTable). h ≡ e.1.schema) (sym same) (subst (λ o. IfSome o (λ (table : PlainTable). h ≡ table.schema)) s.table asked)
 

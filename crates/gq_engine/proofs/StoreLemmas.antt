@@ -8,7 +8,7 @@ use Rattle.gq_reply.specs.declared.refusal.Refusal.TheVariants.{Memory}
 use Rattle.gq_reply.specs.declared.refusal.Refused.{Refused}
 use Rattle.gq_reply.specs.declared.reply.Reply.{Reply}
 use Rattle.gq_reply.specs.declared.reply.Reply.TheVariants as reply
-use Rattle.gq_reply.specs.Refusals.{told, unnumbered}
+use Rattle.gq_reply.specs.Refusals.{of_refused, unnumbered}
 use Rattle.gq_engine.specs.Databases.{Database}
 use Rattle.gq_engine.specs.Runs.{Setting, StoreFailed, StoreLied, SameTables, AnsweredAlike, KeptUnlessDone, FaultsHappened, is_grouping, is_store_fault}
 use Rattle.gq_engine.specs.Serving.{Comes, ComesOver, Plainly, StoreFails, StoreLies, reply_of}
@@ -53,8 +53,8 @@ no_fault answer before after none h =
 pub plain_faults : (limits : Bounds) (db : Database) (c : Command) (result : Result Reply Refused) (new : Database) (before after : ℕ)
     → Comes (outcome limits db c) result db new → after ≡ before → FaultsHappened (reply_of result ∷ []) before after
 plain_faults limits db c (Ok answer) new before after h same = no_fault answer before after (done_tells limits db c h.last answer h.done) (omega (arith, same))
-plain_faults limits db c (Err why) new before after h same = no_fault (told why) before after (from h.1) (omega (arith, same))
+plain_faults limits db c (Err why) new before after h same = no_fault (of_refused why) before after (from h.1) (omega (arith, same))
   where
-    from : (why ≡ unnumbered Memory) ⊎ (outcome limits db c ≡ Err why) → is_store_fault (told why) ≡ false
-    from (inl e) = ap (λ (w : Refused). is_store_fault (told w)) e
+    from : (why ≡ unnumbered Memory) ⊎ (outcome limits db c ≡ Err why) → is_store_fault (of_refused why) ≡ false
+    from (inl e) = ap (λ (w : Refused). is_store_fault (of_refused w)) e
     from (inr e) = refused_tells limits db c why e

@@ -3,11 +3,11 @@ use Rattle.std.proofs.Common.{◌≡◌, ◌+◌, ◌<◌, ℕ, true, cond, List
 use Rattle.std.specs.Prelude.{bytes_eq}
 use Rattle.std.proofs.lemmas.List.{drop_more, set_split}
 use Rattle.gq_row.specs.Tables.{PlainTable}
-use Rattle.gq_engine.specs.Databases.{Database, table_at, with_table, StandsAt}
+use Rattle.gq_engine.specs.Databases.{Database, table_at, with_table, IsTableAt}
 
-pub stands_at : (db : Database) (name : List ℕ) (i : ℕ) (old : List ℕ × PlainTable) → i < length db → old ≡ get_or db i old → bytes_eq old.0 name ≡ true
-    → table_at db name ≡ table_at (drop i db) name → ((t : PlainTable) → with_table db name t ≡ take i db ++ with_table (drop i db) name t) → StandsAt db name i
-stands_at db name i old lt is same there after = record {
+pub is_table_at : (db : Database) (name : List ℕ) (i : ℕ) (old : List ℕ × PlainTable) → i < length db → old ≡ get_or db i old → bytes_eq old.0 name ≡ true
+    → table_at db name ≡ table_at (drop i db) name → ((t : PlainTable) → with_table db name t ≡ take i db ++ with_table (drop i db) name t) → IsTableAt db name i
+is_table_at db name i old lt is same there after = record {
   within = lt;
   entry = old;
   here = is;

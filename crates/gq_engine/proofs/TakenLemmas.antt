@@ -19,7 +19,7 @@ use Rattle.gq_table.specs.declared.refusal.TableRefusal.TheVariants as untaken
 use Rattle.gq_table.specs.Changes.{IsPut, IsLoaded}
 use Rattle.gq_table.specs.Refusing.{row_refusal, load_refusal, WhyNotPut, WhyNotLoaded}
 use Rattle.gq_reply.proofs.StepLemmas.{finds}
-use Rattle.gq_engine.specs.Databases.{Database, IsKeyed, names_differ, table_at, with_table, without_table, StandsAt}
+use Rattle.gq_engine.specs.Databases.{Database, IsKeyed, names_differ, table_at, with_table, without_table, IsTableAt}
 use Rattle.gq_reply.specs.Outcomes.{◌>>=◌, true_or}
 use Rattle.gq_engine.specs.Refusing.{rows_with, put_within, put_all_within, fits_key, stored_key, key_within, table_refusal}
 use Rattle.gq_engine.specs.Runs.{SameTables}
@@ -79,7 +79,7 @@ same_at (x ∷ db) (suc i) name s t h moved = (refl, refl, IsPermutation-refl x.
 
 -- the table of a name has the rows that its steps give, or was left
 pub took : {X : Type 0} (steps : PlainTable → Result Rows Refused) (db : Database) (name : List ℕ) (i : ℕ) (at : List ℕ × PlainTable) (result : Result X Refused) (new : PlainTable)
-    → StandsAt db name i → at ≡ get_or db i at → Takes (steps at.1) result at.1 new
+    → IsTableAt db name i → at ≡ get_or db i at → Takes (steps at.1) result at.1 new
     → Changes (table_in db name >>= λ table. steps table >>= λ rows. Ok (with_table db name (record table { rows = rows }))) result db (set db i (at.0, new))
 took steps db name i at (Ok x) new s is h =
     let same : at ≡ s.entry = is ∙ get_or_default db i at s.entry s.within ∙ sym s.here in
@@ -147,7 +147,7 @@ delete-tests db name values table found =
 
 -- the table of a name without the row of the key that values name, or as it was
 pub took_out : (db : Database) (name : List ℕ) (i : ℕ) (at : List ℕ × PlainTable) (values : List Value) (result : Result Bool Refused) (new : PlainTable)
-    → StandsAt db name i → at ≡ get_or db i at → Deletes values result at.1 new → Settles deleted (delete_row db name values) result db (set db i (at.0, new))
+    → IsTableAt db name i → at ≡ get_or db i at → Deletes values result at.1 new → Settles deleted (delete_row db name values) result db (set db i (at.0, new))
 took_out db name i at values (Ok found) new s is h =
     let same : at ≡ s.entry = is ∙ get_or_default db i at s.entry s.within ∙ sym s.here in
     let there : table_at db name ≡ Some at.1 = s.table ∙ ap (λ (e : List ℕ × PlainTable). Some e.1) (sym same) in
@@ -165,13 +165,13 @@ took_out db name i at values (Err why) new s is h =
     (subst (SameTables db) (sym kept) (same_tables db), delete-tests db name values at.1 there ∙ ap (λ r. r >>= λ _. delete_from db name (key_named at.1.schema values) at.1) h.1)
 
 -- without the table at a place the names still differ, and so do keys
-pub removed_stands : (db : Database) (name : List ℕ) (i : ℕ) (new : Database) → StandsAt db name i → IsTrue (names_differ db) × IsKeyed db → new ≡ remove db i → IsTrue (names_differ new) × IsKeyed new
-removed_stands db name i new s h e =
+pub removed_at : (db : Database) (name : List ℕ) (i : ℕ) (new : Database) → IsTableAt db name i → IsTrue (names_differ db) × IsKeyed db → new ≡ remove db i → IsTrue (names_differ new) × IsKeyed new
+removed_at db name i new s h e =
     let P : Database → Type 0 = λ d. IsTrue (names_differ d) × IsKeyed d in
     subst P (sym (e ∙ sym (dropped_at db name i s h.0))) (differ_without db name h.0, without_keyed db name h.1)
 
 -- and the table is dropped
-pub removed : (db : Database) (name : List ℕ) (i : ℕ) (new : Database) → StandsAt db name i → IsTrue (names_differ db) × IsKeyed db → new ≡ remove db i → Settles {X = Unit {0}} (λ _. reply.Done 0) (drop_table db name) (Ok tt) db new
+pub removed : (db : Database) (name : List ℕ) (i : ℕ) (new : Database) → IsTableAt db name i → IsTrue (names_differ db) × IsKeyed db → new ≡ remove db i → Settles {X = Unit {0}} (λ _. reply.Done 0) (drop_table db name) (Ok tt) db new
 removed db name i new s h e = (
   without_table db name,
   drop_takes db name s.entry.1 s.table,

@@ -49,10 +49,10 @@ pub record StoppedWriting (setting : Setting) (old : State) (script : Bytes) (ne
   pub replies : List Reply
   pub last : Reply
   pub answered : Answered setting old done new (replies ++ last ∷ [])
-  pub front : Bytes
+  pub prefix : Bytes
   pub rest : Bytes
-  pub cut : text last ≡ front ++ rest
-  pub written : Appends before after (flat_map text replies ++ front)
+  pub cut : text last ≡ prefix ++ rest
+  pub written : Appends before after (flat_map text replies ++ prefix)
 
 -- What a run did, where the script's bytes are known; before and after are the writer's bytes.
 abbrev pub Ran : Setting → State → Option Bytes → State → Option Bytes → Option Bytes → Result Summary Fault → Type 0

@@ -21,7 +21,7 @@ use Rattle.gq_engine.specs.declared.run.Fault.{Fault}
 use Rattle.gq_engine.specs.declared.run.Fault.TheVariants as fault
 use Rattle.gq_engine.specs.Headline.{Answered, State}
 use Rattle.gq_engine.specs.Runs.{Setting}
-use Rattle.gq_engine.specs.Sending.{AppendsFront}
+use Rattle.gq_engine.specs.Sending.{AppendsPrefix}
 
 abbrev pub is_result : Reply → Bool
 is_result (reply.Done n) = false
@@ -99,10 +99,10 @@ pub record WroteInPart (output : Output) (replies : List Reply) (before after : 
   pub first : List Reply
   pub last : Reply
   pub is : replies ≡ first ++ last ∷ []
-  pub front : Bytes
+  pub prefix : Bytes
   pub rest : Bytes
-  pub cut : text_as output (list_any is_result first) last ≡ front ++ rest
-  pub written : Appends before after (texts output first ++ front)
+  pub cut : text_as output (list_any is_result first) last ≡ prefix ++ rest
+  pub written : Appends before after (texts output first ++ prefix)
 
 -- all texts were written, where no write failed
 abbrev pub WroteTexts : Output → List Reply → Option Bytes → Option Bytes → Result Summary Fault → Type 0
@@ -122,7 +122,7 @@ Ends setting script left replies (Ok summary) = CameToEnd setting script left re
 Ends setting script left replies (Err why) = ⊤
 
 -- A prefix of the script's items were answered, their texts written, and the refusals among them reported with the numbers of their lines, as far as the standard error took it; all items, if there was no fault.
-pub record RanInto (output : Output) (setting : Setting) (old : State) (script : Bytes) (new : State) (before after errors told : Option Bytes) (ended : Result Summary Fault) : Type 0 where
+pub record RanInto (output : Output) (setting : Setting) (old : State) (script : Bytes) (new : State) (before after errors reported : Option Bytes) (ended : Result Summary Fault) : Type 0 where
   pub done : List Numbered
   pub left : List Numbered
   pub first : numbered setting.limits script ≡ done ++ left
@@ -131,23 +131,23 @@ pub record RanInto (output : Output) (setting : Setting) (old : State) (script :
   pub wrote : WroteTexts output replies before after ended
   pub said : Bytes
   pub complaints : AreComplaints output done replies said
-  pub complained : AppendsFront errors told said
+  pub complained : AppendsPrefix errors reported said
   pub ends : Ends setting script left replies ended
 
 -- the same where the script's bytes are known
 abbrev pub RanAs : Output → Setting → State → Option Bytes → State → Option Bytes → Option Bytes → Option Bytes → Option Bytes → Result Summary Fault → Type 0
-RanAs output setting old None new before after errors told ended = ⊤
-RanAs output setting old (Some script) new before after errors told ended = RanInto output setting old script new before after errors told ended
+RanAs output setting old None new before after errors reported ended = ⊤
+RanAs output setting old (Some script) new before after errors reported ended = RanInto output setting old script new before after errors reported ended
 
 -- bytes were sent to a stream that takes them or has failed, and then takes nothing more
-abbrev pub TellsOn : Bool → Bool → Option Bytes → Option Bytes → Bytes → Type 0
-TellsOn true true before after bytes = Appends before after bytes
-TellsOn true false before after bytes = AppendsFront before after bytes
-TellsOn false true before after bytes = ⊥
-TellsOn false false before after bytes = after ≡ before
+abbrev pub ComplainsOn : Bool → Bool → Option Bytes → Option Bytes → Bytes → Type 0
+ComplainsOn true true before after bytes = Appends before after bytes
+ComplainsOn true false before after bytes = AppendsPrefix before after bytes
+ComplainsOn false true before after bytes = ⊥
+ComplainsOn false false before after bytes = after ≡ before
 
 -- so was a complaint about any item with this number of whose line this is kept
-pub record Tells (b : Bounds) (output : Output) (line : ℕ) (wrong : Option OpenLine) (r : Reply) (was_open is_open : Bool) (before after : Option Bytes) : Type 0 where
+pub record Complains (b : Bounds) (output : Output) (line : ℕ) (wrong : Option OpenLine) (r : Reply) (was_open is_open : Bool) (before after : Option Bytes) : Type 0 where
   pub text : Bytes
   pub about : (item : Numbered) → item.number ≡ line → IfSome wrong (λ kept. Gathers b.line kept (line_of item.entry)) → IsComplaint output item r text
-  pub told : TellsOn was_open is_open before after text
+  pub reported : ComplainsOn was_open is_open before after text

@@ -14,12 +14,12 @@ use Rattle.gq_reply.specs.declared.reply.Reply.TheVariants as reply
 use Rattle.gq_engine.specs.declared.sending.WriteFault.{WriteFault}
 use Rattle.gq_engine.specs.Databases.{Database}
 use Rattle.gq_engine.specs.Headline.{State}
-use Rattle.gq_reply.specs.Refusals.{unnumbered, told}
+use Rattle.gq_reply.specs.Refusals.{unnumbered, of_refused}
 use Rattle.gq_engine.specs.declared.output.Output.{Output}
 use Rattle.gq_engine.specs.Outputs.{text_as}
 use Rattle.gq_engine.specs.Runs.{Setting, AnsweredAlike, IsGrouped, is_store_fault, SameTables, KeptUnlessDone, FaultsHappened}
 use Rattle.gq_engine.specs.Refusing.{key_within, stored_key}
-use Rattle.gq_engine.specs.Sending.{AppendsFront}
+use Rattle.gq_engine.specs.Sending.{AppendsPrefix}
 use Rattle.gq_engine.specs.Steps.{Outcome, settle, key_named}
 
 -- the steps of a command result in this reply, and in tables that are these but for the order of rows
@@ -37,7 +37,7 @@ Comes steps (Err why) old new = SameTables old new × ((why ≡ unnumbered Memor
 -- the reply to a command with this result
 abbrev pub reply_of : Result Reply Refused → Reply
 reply_of (Ok answer) = answer
-reply_of (Err why) = told why
+reply_of (Err why) = of_refused why
 
 -- What a command did over a run store: as above; or, if its steps reach a grouping, the store failed, or the result is any if the store isn't honest. The last two leave the tables but for the order of rows.
 pub data ComesOver (grouping honest : Bool) (steps : Outcome) (result : Result Reply Refused) (old new : Database) : Type 0 where
@@ -62,7 +62,7 @@ under header (Err why) = Err why
 -- the number of failures of the run store that a result reports
 abbrev pub faults_in : {X : Type 0} → Result X Refused → ℕ
 faults_in (Ok x) = 0
-faults_in (Err why) = count_by is_store_fault (told why ∷ [])
+faults_in (Err why) = count_by is_store_fault (of_refused why ∷ [])
 
 -- the same of a command that takes no memory
 abbrev pub ComesSurely : Outcome → Result Reply Refused → Database → Database → Type 0
@@ -108,12 +108,12 @@ pub record Wrote (output : Output) (earlier : Bool) (setting : Setting) (old : S
   pub written : Appends before after (text_as output earlier answer)
 
 -- an item was answered, and a prefix of the answer was written
-pub record WroteFront (output : Output) (earlier : Bool) (setting : Setting) (old : State) (it : Item) (new : State) (before after : Option Bytes) : Type 0 where
+pub record WrotePrefix (output : Output) (earlier : Bool) (setting : Setting) (old : State) (it : Item) (new : State) (before after : Option Bytes) : Type 0 where
   pub answer : Reply
   pub legal : AnsweredAlike setting old.database it answer new.database
   pub faults : FaultsHappened (answer ∷ []) old.failures new.failures
-  pub written : AppendsFront before after (text_as output earlier answer)
+  pub written : AppendsPrefix before after (text_as output earlier answer)
 
 abbrev pub Served : Output → Bool → Setting → State → Item → State → Option Bytes → Option Bytes → Result Reply WriteFault → Type 0
 Served output earlier setting old it new before after (Ok answer) = Wrote output earlier setting old it new before after answer
-Served output earlier setting old it new before after (Err e) = WroteFront output earlier setting old it new before after
+Served output earlier setting old it new before after (Err e) = WrotePrefix output earlier setting old it new before after

@@ -36,7 +36,7 @@ use Rattle.gq_plan.specs.Plans.{distinct_plan, group_plan}
 use Rattle.gq_engine.specs.Databases.{Database, table_at, with_table, without_table}
 use Rattle.gq_engine.specs.Loading.{is_lost, bytes_told, rows_told}
 use Rattle.gq_reply.specs.Outcomes.{◌>>=◌, some_or, true_or}
-use Rattle.gq_reply.specs.Refusals.{told, refused}
+use Rattle.gq_reply.specs.Refusals.{of_refused, refused}
 use Rattle.gq_engine.specs.Refusing.{put_within, put_all_within, fits_key, stored_key}
 
 -- the outcome of a command: the database and the reply if it is carried out, or why it is refused
@@ -122,7 +122,7 @@ other_in db (Some exists) = do
 pub record Asks (db : Database) (name : List ℕ) (clauses : GroupClauses) (table : PlainTable) (other : Option PlainTable) (plan : GroupPlan) : Type 0 where
   pub found : table_at db name ≡ Some table
   pub there : other_in db clauses.exists ≡ Ok other
-  pub told : group_plan table.schema.columns (other_columns other) clauses ≡ Ok plan
+  pub planned : group_plan table.schema.columns (other_columns other) clauses ≡ Ok plan
 
 -- the rows that a `group` is about by its plan: those of its table that the condition keeps and that have the match among the rows of the other
 abbrev pub rows_about : GroupPlan → PlainTable → Option PlainTable → List (List Value)
@@ -166,7 +166,7 @@ outcome bounds db (Distinct table on tests) = distinct db table on tests
 -- a refusal is the reply, and leaves the database
 abbrev pub settle : Database → Outcome → Database × Reply
 settle db (Ok done) = done
-settle db (Err why) = (db, told why)
+settle db (Err why) = (db, of_refused why)
 
 -- the refusal of a line
 abbrev pub line_refusal : LineRefusal → Refusal

@@ -4,7 +4,7 @@ ghost use Rattle.gq_row.specs.Fitting.{stored_in};
 ghost use Rattle.gq_reply.specs.declared.reply.Reply.TheVariants.{Done};
 ghost use Rattle.gq_reply.specs.Refusals.{unnumbered};
 ghost use Rattle.gq_table.specs.ValidTables.{IsValidTable};
-ghost use Rattle.gq_engine.specs.Databases.{table_at, StandsAt, IsKeyed};
+ghost use Rattle.gq_engine.specs.Databases.{table_at, IsTableAt, IsKeyed};
 ghost use Rattle.gq_engine.specs.Refusing.{put_within, put_all_within, table_refusal};
 ghost use Rattle.gq_engine.specs.Serving.{Changes, Settles, Takes, Deletes, deleted};
 ghost use Rattle.gq_engine.specs.Steps.{with_row, with_rows, delete_row, drop_table};
@@ -131,7 +131,7 @@ impl<H: KeyHash<Key> + Copy> Catalog<H> {
 
 fn find_table<H: KeyHash<Key>>(tables: &[(Text, Table<H>)], name: &str) -> Option<usize>
     ensures { MatchOption result (table_at tables.now name.now ≡ None)
-        (λ i. StandsAt tables.now name.now i) }
+        (λ i. IsTableAt tables.now name.now i) }
 {
     for (i, entry) in tables.iter().enumerate() {
         if entry.0.as_str() == name {

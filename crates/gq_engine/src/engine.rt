@@ -115,7 +115,7 @@ impl<H: KeyHash<Key> + Copy, S: RunStore> Engine<H, S> {
     {
         match self.carry_out(command) {
             Ok(reply) => reply,
-            Err(refused) => Reply::told(refused),
+            Err(refused) => Reply::of_refused(refused),
         }
     }
 

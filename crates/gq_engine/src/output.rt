@@ -4,8 +4,8 @@ ghost use Rattle.std.specs.Prelude.{◌≡◌, ◌||◌, IfErr, IfOk, IfSome, On
 ghost use Rattle.std.specs.Io.KnownBytes.{Appends};
 ghost use Rattle.gq_reply.specs.Replies.{IsLine};
 ghost use Rattle.gq_command.specs.Script.{Gathers, Numbered, line_of};
-ghost use Rattle.gq_engine.specs.Outputs.{Diagnosed, IsDiagnosed, Tells, between, complaint, is_result, line_in, result_in, text_as};
-ghost use Rattle.gq_engine.specs.Sending.{AppendsFront};
+ghost use Rattle.gq_engine.specs.Outputs.{Diagnosed, IsDiagnosed, Complains, between, complaint, is_result, line_in, result_in, text_as};
+ghost use Rattle.gq_engine.specs.Sending.{AppendsPrefix};
 
 use crate::sending::{WriteFault, send};
 use gq_cells::Rows;
@@ -59,7 +59,7 @@ pub(crate) fn send_between<W: Write>(
     earlier: bool,
 ) -> Result<(), WriteFault>
     ensures ok { OnOk result (Appends (W.contents writer.old) (W.contents writer.new) (between output earlier)) }
-    ensures err { IfErr result (λ _. AppendsFront (W.contents writer.old) (W.contents writer.new)
+    ensures err { IfErr result (λ _. AppendsPrefix (W.contents writer.old) (W.contents writer.new)
         (between output earlier)) }
 {
     match output {
@@ -76,7 +76,7 @@ pub(crate) fn send_line<W: Write>(
 ) -> Result<(), WriteFault>
     requires { IsLine reply.now }
     ensures ok { OnOk result (Appends (W.contents writer.old) (W.contents writer.new) (line_in output reply.now)) }
-    ensures err { IfErr result (λ _. AppendsFront (W.contents writer.old) (W.contents writer.new)
+    ensures err { IfErr result (λ _. AppendsPrefix (W.contents writer.old) (W.contents writer.new)
         (line_in output reply.now)) }
 {
     match output {
@@ -95,7 +95,7 @@ pub(crate) struct Complaints {
 impl Complaints {
     /// Reports the reply to the last item, if it is a refusal.
     #[inline]
-    pub(crate) fn tell<R: Read, E: Write>(
+    pub(crate) fn report<R: Read, E: Write>(
         &mut self,
         alloc: Global,
         limits: &Limits,
@@ -104,7 +104,7 @@ impl Complaints {
         errors: &mut E,
     )
         ensures output { self.new.output ≡ self.old.output }
-        ensures told { Tells limits.now.bounds self.old.output script.now.line script.now.wrong reply.now self.old.is_open self.new.is_open
+        ensures reported { Complains limits.now.bounds self.old.output script.now.line script.now.wrong reply.now self.old.is_open self.new.is_open
             (E.contents errors.old) (E.contents errors.new) }
         ensures quiet { self.old.output ≡ Output.Replies → errors.new ≡ errors.old }
     {
@@ -114,11 +114,11 @@ impl Complaints {
         if !reply.is_refusal() {
             return;
         }
-        self.tell_refusal(alloc, limits, script, reply, errors);
+        self.report_refusal(alloc, limits, script, reply, errors);
     }
 
     // Reports a reply, if it is a refusal.
-    fn tell_refusal<R: Read, E: Write>(
+    fn report_refusal<R: Read, E: Write>(
         &mut self,
         alloc: Global,
         limits: &Limits,
@@ -128,7 +128,7 @@ impl Complaints {
     )
         requires { self.old.is_open ≡ true }
         ensures output { self.new.output ≡ self.old.output }
-        ensures told { Tells limits.now.bounds self.old.output script.now.line script.now.wrong reply.now self.old.is_open self.new.is_open
+        ensures reported { Complains limits.now.bounds self.old.output script.now.line script.now.wrong reply.now self.old.is_open self.new.is_open
             (E.contents errors.old) (E.contents errors.new) }
         ensures quiet { self.old.output ≡ Output.Replies → errors.new ≡ errors.old }
     {

@@ -4,7 +4,7 @@ ghost use Rattle.std.specs.Io.KnownBytes.{Appends};
 ghost use Rattle.gq_command.specs.Items.{IsReady};
 ghost use Rattle.gq_reply.specs.Replies.{IsLine, is_refusal};
 ghost use Rattle.gq_engine.specs.Outputs.{IsResultIn, is_result, text_as};
-ghost use Rattle.gq_engine.specs.Sending.{AppendsFront};
+ghost use Rattle.gq_engine.specs.Sending.{AppendsPrefix};
 ghost use Rattle.gq_engine.specs.Steps.{line_refusal};
 
 use crate::engine::Engine;
@@ -117,7 +117,7 @@ impl<H: KeyHash<Key> + Copy, S: RunStore> Engine<H, S> {
             match self.serve(output, earlier, item, writer) {
                 Ok(reply) => {
                     summary.add(&reply);
-                    complaints.tell(self.alloc(), self.limits(), &script, &reply, errors);
+                    complaints.report(self.alloc(), self.limits(), &script, &reply, errors);
                     earlier = had_result(earlier, &reply);
                 }
                 Err(WriteFault) => return Err(Fault::Write),
@@ -196,7 +196,7 @@ fn send_reply<W: Write>(
     requires made { IfSome made (λ bytes. IsResultIn output reply.now bytes.items) }
     requires line { IfNone made (IsLine reply.now) }
     ensures ok { OnOk result (Appends (W.contents writer.old) (W.contents writer.new) (text_as output earlier reply.now)) }
-    ensures err { IfErr result (λ _. AppendsFront (W.contents writer.old) (W.contents writer.new)
+    ensures err { IfErr result (λ _. AppendsPrefix (W.contents writer.old) (W.contents writer.new)
         (text_as output earlier reply.now)) }
 {
     match made {

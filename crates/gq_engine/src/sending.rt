@@ -1,7 +1,7 @@
 //! Bytes sent to a writer.
 ghost use Rattle.std.specs.Prelude.{◌≡◌, IfErr, OnOk};
 ghost use Rattle.std.specs.Io.KnownBytes.{Appends};
-ghost use Rattle.gq_engine.specs.Sending.{AppendsFront};
+ghost use Rattle.gq_engine.specs.Sending.{AppendsPrefix};
 
 use std::io::Write;
 use thiserror::Error;
@@ -15,7 +15,7 @@ pub struct WriteFault;
 /// the bytes was written then.
 pub fn send<W: Write>(writer: &mut W, bytes: &[u8]) -> Result<(), WriteFault>
     ensures ok { OnOk result (Appends (W.contents writer.old) (W.contents writer.new) bytes.now) }
-    ensures err { IfErr result (λ _. AppendsFront (W.contents writer.old) (W.contents writer.new)
+    ensures err { IfErr result (λ _. AppendsPrefix (W.contents writer.old) (W.contents writer.new)
         bytes.now) }
 {
     let mut at = 0;

@@ -22,7 +22,7 @@ pub fn plan_distinct(
     on: &[Text],
     tests: &[Test],
 ) -> Result<DistinctPlan, Refused>
-    ensures told { IfOk result (λ plan.
+    ensures planned { IfOk result (λ plan.
         distinct_plan schema.now.columns on.now tests.now ≡ Ok plan) }
     ensures refused { IfErr result (λ why. (why ≡ unnumbered Memory)
         ⊎ (distinct_plan schema.now.columns on.now tests.now ≡ Err why)) }
@@ -45,7 +45,7 @@ fn find_distinct(
     on: &[Text],
     tests: &[Test],
 ) -> Result<DistinctPlan, Refused>
-    ensures told { IfOk result (λ plan.
+    ensures planned { IfOk result (λ plan.
         distinct_named schema.now.columns on.now tests.now ≡ Ok plan) }
     ensures refused { IfErr result (λ why. (why ≡ unnumbered Memory)
         ⊎ (distinct_named schema.now.columns on.now tests.now ≡ Err why)) }

@@ -29,7 +29,7 @@ pub fn plan_group(
     others: &[Column],
     clauses: &GroupClauses,
 ) -> Result<GroupPlan, Refused>
-    ensures told { IfOk result (λ plan.
+    ensures planned { IfOk result (λ plan.
         group_plan schema.now.columns others.now clauses.now ≡ Ok plan) }
     ensures refused { IfErr result (λ why. (why ≡ unnumbered Memory)
         ⊎ (group_plan schema.now.columns others.now clauses.now ≡ Err why)) }
@@ -49,7 +49,7 @@ fn find_group(
     others: &[Column],
     clauses: &GroupClauses,
 ) -> Result<GroupPlan, Refused>
-    ensures told { IfOk result (λ plan.
+    ensures planned { IfOk result (λ plan.
         group_named schema.now.columns others.now clauses.now ≡ Ok plan) }
     ensures refused { IfErr result (λ why. (why ≡ unnumbered Memory)
         ⊎ (group_named schema.now.columns others.now clauses.now ≡ Err why)) }

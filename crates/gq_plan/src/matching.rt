@@ -20,7 +20,7 @@ pub fn find_matching(
     others: &[Column],
     exists: &Option<Exists>,
 ) -> Result<Option<Matching>, Refused>
-    ensures told { IfOk result (λ matching.
+    ensures planned { IfOk result (λ matching.
         matching_named columns.now others.now exists.now ≡ Ok matching) }
     ensures refused { IfErr result (λ why. (why ≡ unnumbered Memory)
         ⊎ (matching_named columns.now others.now exists.now ≡ Err why)) }

@@ -11,11 +11,11 @@ abbrev pub unnumbered : Refusal → Refused
 unnumbered why = record { why = why; number = None }
 
 -- the reply for a refusal
-abbrev pub told : Refused → Reply
-told refused = reply.Refused refused.why refused.number
+abbrev pub of_refused : Refused → Reply
+of_refused refused = reply.Refused refused.why refused.number
 
 abbrev pub refused : Refusal → Reply
-refused why = told (unnumbered why)
+refused why = of_refused (unnumbered why)
 
 -- what a refusal means, in a few words
 abbrev pub words_of : Refusal → List ℕ

@@ -1,6 +1,6 @@
 //! Replies.
 ghost use Rattle.std.specs.Prelude.{◌≡◌};
-ghost use Rattle.gq_reply.specs.Refusals.{refused, told};
+ghost use Rattle.gq_reply.specs.Refusals.{refused, of_refused};
 ghost use Rattle.gq_reply.specs.Replies.{is_refusal as refuses};
 
 use crate::refusal::{Refusal, Refused};
@@ -23,12 +23,12 @@ impl Reply {
     pub fn refused(why: Refusal) -> Reply
         ensures { result ≡ refused why }
     {
-        Reply::told(Refused::from(why))
+        Reply::of_refused(Refused::from(why))
     }
 
     /// The reply for a refusal.
-    pub fn told(refused: Refused) -> Reply
-        ensures { result ≡ told refused }
+    pub fn of_refused(refused: Refused) -> Reply
+        ensures { result ≡ of_refused refused }
     {
         Reply::Refused {
             code: refused.why,

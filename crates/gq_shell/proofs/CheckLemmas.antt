@@ -7,7 +7,7 @@ use Rattle.gq_row.specs.Limits.{GREATEST}
 use Rattle.gq_token.specs.Texts.{some}
 use Rattle.gq_command.specs.Commands.{Bytes}
 use Rattle.gq_command.specs.Script.{Numbered, numbered_left, without_mark}
-use Rattle.gq_engine.specs.Sending.{AppendsFront}
+use Rattle.gq_engine.specs.Sending.{AppendsPrefix}
 use Rattle.gq_engine.proofs.Bytes.{appends_more}
 use Rattle.gq_check.specs.declared.report.Report.{Report}
 use Rattle.gq_check.specs.Reports.{Between, Place, Reports, report_text}
@@ -61,8 +61,8 @@ told-all name script start now before after any reports begins t end = by-known 
         }
 
 -- a prefix of them
-front-of : (name : Bytes) (script : Known) (start now : Place) (replies : Stream) (reports : List Report) → Begins script start → Between GREATEST start now reports → GotFront replies (texts name reports) → IfSome script (λ bytes. ToldFront name bytes replies)
-front-of name script start now replies reports begins between told = by-known script begins.left
+prefix-of : (name : Bytes) (script : Known) (start now : Place) (replies : Stream) (reports : List Report) → Begins script start → Between GREATEST start now reports → GotFront replies (texts name reports) → IfSome script (λ bytes. ToldFront name bytes replies)
+prefix-of name script start now replies reports begins between told = by-known script begins.left
   where
     by-known : (k : Known) → IfSome k (λ bytes. start.left ≡ Some (without_mark bytes)) → IfSome k (λ bytes. ToldFront name bytes replies)
     by-known None left = tt
@@ -77,16 +77,16 @@ front-of name script start now replies reports begins between told = by-known sc
           told = told;
         }
 
-pub told-front : (name : Bytes) (script : Known) (start now : Place) (before after : Known) (any : Bool) (reports : List Report) → Begins script start → Telling name start now before after any reports → IfSome script (λ bytes. ToldFront name bytes (record { before = before; after = after }))
-told-front name script start now before after any reports begins t = front-of name script start now (record { before = before; after = after }) reports begins t.between (record { front = texts name reports; rest = []; is = sym (append-nil (texts name reports)); appends = t.written })
+pub told-prefix : (name : Bytes) (script : Known) (start now : Place) (before after : Known) (any : Bool) (reports : List Report) → Begins script start → Telling name start now before after any reports → IfSome script (λ bytes. ToldFront name bytes (record { before = before; after = after }))
+told-prefix name script start now before after any reports begins t = prefix-of name script start now (record { before = before; after = after }) reports begins t.between (record { prefix = texts name reports; rest = []; is = sym (append-nil (texts name reports)); appends = t.written })
 
 -- the last of them cut short
 pub told-cut : (name : Bytes) (script : Known) (start now next : Place) (before mid after : Known) (any : Bool) (reports : List Report) (r : Report) → Begins script start → Telling name start now before mid any reports → Between GREATEST now next (r ∷ [])
-    → AppendsFront mid after (report_text name r) → IfSome script (λ bytes. ToldFront name bytes (record { before = before; after = after }))
+    → AppendsPrefix mid after (report_text name r) → IfSome script (λ bytes. ToldFront name bytes (record { before = before; after = after }))
 told-cut name script start now next before mid after any reports r begins t step cut =
-    front-of name script start next (record { before = before; after = after }) (reports ++ r ∷ []) begins (on-from GREATEST start now next reports (r ∷ []) t.between step) (record {
-      front = texts name reports ++ cut.front;
+    prefix-of name script start next (record { before = before; after = after }) (reports ++ r ∷ []) begins (on-from GREATEST start now next reports (r ∷ []) t.between step) (record {
+      prefix = texts name reports ++ cut.prefix;
       rest = cut.rest;
-      is = texts-append name reports (r ∷ []) ∙ ap (λ (l : Bytes). texts name reports ++ l) (append-nil (report_text name r) ∙ cut.is) ∙ sym (append_assoc (texts name reports) cut.front cut.rest);
-      appends = appends_more before mid after (texts name reports) cut.front t.written cut.appends;
+      is = texts-append name reports (r ∷ []) ∙ ap (λ (l : Bytes). texts name reports ++ l) (append-nil (report_text name r) ∙ cut.is) ∙ sym (append_assoc (texts name reports) cut.prefix cut.rest);
+      appends = appends_more before mid after (texts name reports) cut.prefix t.written cut.appends;
     })

@@ -10,7 +10,7 @@ use Rattle.gq_engine.specs.declared.output.Output.TheVariants.{Replies}
 use Rattle.gq_engine.specs.Headline.{State}
 use Rattle.gq_engine.specs.Outputs.{RanAs}
 use Rattle.gq_engine.specs.Runs.{Setting}
-use Rattle.gq_engine.specs.Sending.{AppendsFront}
+use Rattle.gq_engine.specs.Sending.{AppendsPrefix}
 use Rattle.gq_shell.specs.Streams.{Stream}
 use Rattle.gq_shell.specs.declared.seeding.RunSeed.{RunSeed}
 use Rattle.gq_shell.specs.declared.seeding.RunSeed.TheVariants.{Given, Drawn}
@@ -51,4 +51,4 @@ pub record EndedWith (output : Output) (setting : Setting) (old : State) (script
   pub ran : RanAs output setting old script new replies.before replies.after errors.before refusals ended
   pub quiet : output ≡ Replies → refusals ≡ errors.before
   pub status_is : status ≡ status_of ended
-  pub told : AppendsFront refusals errors.after (errors_text report ended)
+  pub told : AppendsPrefix refusals errors.after (errors_text report ended)

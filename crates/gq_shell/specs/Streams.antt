@@ -2,7 +2,7 @@
 use Rattle.std.specs.Prelude.{◌≡◌, Option, Result, Ok, Err}
 use Rattle.std.specs.Io.KnownBytes.{Appends}
 use Rattle.gq_command.specs.Commands.{Bytes}
-use Rattle.gq_engine.specs.Sending.{AppendsFront}
+use Rattle.gq_engine.specs.Sending.{AppendsPrefix}
 use Rattle.gq_shell.specs.declared.telling.CutShort.{CutShort}
 
 -- one stream's bytes before and after, where they are known
@@ -24,7 +24,7 @@ Got s bytes = Appends s.before s.after bytes
 
 -- a prefix of this was written to it, and nothing else
 abbrev pub GotFront : Stream → Bytes → Type 0
-GotFront s bytes = AppendsFront s.before s.after bytes
+GotFront s bytes = AppendsPrefix s.before s.after bytes
 
 -- it took all of a text, or a prefix of it
 abbrev pub Told : Stream → Bytes → Result (Unit {0}) CutShort → Type 0

@@ -282,8 +282,8 @@ fn a_standard_error_that_takes_little(rt: HostRuntime) -> Result<(), Fail> {
             );
             assert_eq!(rt; status, 3);
             let told: &[u8] = b"groupsh: read fault\n";
-            let (front, _rest) = told.split_at((2 * room).min(told.len()));
-            assert_eq!(rt; errors.written.as_slice(), front);
+            let (prefix, _rest) = told.split_at((2 * room).min(told.len()));
+            assert_eq!(rt; errors.written.as_slice(), prefix);
         }
     }
     Ok(())

@@ -26,7 +26,7 @@ use Rattle.gq_reply.specs.declared.refusal.Refused.{Refused}
 use Rattle.gq_reply.specs.declared.reply.Reply.{Reply}
 use Rattle.gq_reply.specs.declared.reply.Reply.TheVariants as reply
 use Rattle.gq_reply.specs.Outcomes.{◌>>=◌, some_or, true_or}
-use Rattle.gq_reply.specs.Refusals.{told}
+use Rattle.gq_reply.specs.Refusals.{of_refused}
 use Rattle.gq_reply.specs.Replies.{is_refusal}
 use Rattle.gq_engine.specs.Databases.{Database, table_at, with_table, without_table}
 use Rattle.gq_engine.specs.Loading.{refused_by, rows_told}
@@ -119,10 +119,10 @@ record Settled (old : Database) (steps : Outcome) (last : Database) : Type 0 whe
 settled : (old : Database) (steps : Outcome) (last : Database) (answer : Reply) → (last, answer) ≡ settle old steps → is_refusal answer ≡ false → Settled old steps last
 settled old (Ok done) last answer h fine = record { answer = answer; done = ap Ok (sym h) }
 settled old (Err why) last answer h fine =
-    let same : answer ≡ told why = ap (λ (p : Database × Reply). p.1) h in
+    let same : answer ≡ of_refused why = ap (λ (p : Database × Reply). p.1) h in
     absurd (true≢false (sym (ap is_refusal same) ∙ fine))
 
-not_refused : (answer : Reply) (why : Refused) → answer ≡ told why → is_refusal answer ≡ false → ⊥
+not_refused : (answer : Reply) (why : Refused) → answer ≡ of_refused why → is_refusal answer ≡ false → ⊥
 not_refused answer why h fine = true≢false (sym (ap is_refusal h) ∙ fine)
 
 -- a create that was carried out

@@ -17,7 +17,7 @@ use Rattle.gq_reply.specs.declared.refusal.Refused.{Refused}
 use Rattle.gq_reply.specs.declared.reply.Reply.{Reply}
 use Rattle.gq_reply.specs.declared.reply.Reply.TheVariants as reply
 use Rattle.gq_reply.specs.Outcomes.{◌>>=◌}
-use Rattle.gq_reply.specs.Refusals.{told, unnumbered}
+use Rattle.gq_reply.specs.Refusals.{of_refused, unnumbered}
 use Rattle.gq_reply.specs.Replies.{is_refusal}
 use Rattle.gq_engine.specs.declared.csv_fault.CsvFault.{CsvFault}
 use Rattle.gq_engine.specs.declared.csv_fault.CsvFault.TheVariants as csv
@@ -70,15 +70,15 @@ refusal_in other (reply.Done count) = other
 refusal_in other (reply.Rows header rows) = other
 refusal_in other (reply.Refused found number) = record { why = found; number = number }
 
-told_same : (a b : Refused) → told a ≡ told b → a ≡ b
-told_same a b h = ap (refusal_in a) h
+of_refused_same : (a b : Refused) → of_refused a ≡ of_refused b → a ≡ b
+of_refused_same a b h = ap (refusal_in a) h
 
--- what is told to be refused was refused by the steps, if these never come to a refusal themselves
-steps_refused : (old last : Database) (steps : Outcome) (refused : Refused) → ((db : Database) (answer : Reply) → steps ≡ Ok (db, answer) → is_refusal answer ≡ false) → (last, told refused) ≡ settle old steps → steps ≡ Err refused
+-- what is said to be refused was refused by the steps, if these never come to a refusal themselves
+steps_refused : (old last : Database) (steps : Outcome) (refused : Refused) → ((db : Database) (answer : Reply) → steps ≡ Ok (db, answer) → is_refusal answer ≡ false) → (last, of_refused refused) ≡ settle old steps → steps ≡ Err refused
 steps_refused old last (Ok done) refused never h =
-    let same : told refused ≡ done.1 = ap (λ (p : Database × Reply). p.1) h in
+    let same : of_refused refused ≡ done.1 = ap (λ (p : Database × Reply). p.1) h in
     absurd (true≢false (ap is_refusal same ∙ never done.0 done.1 refl))
-steps_refused old last (Err found) refused never h = ap Err (sym (told_same refused found (ap (λ (p : Database × Reply). p.1) h)))
+steps_refused old last (Err found) refused never h = ap Err (sym (of_refused_same refused found (ap (λ (p : Database × Reply). p.1) h)))
 
 ok_same : {A : Type 0} (x y : A) → ◌≡◌ {A = Result A Refused} (Ok x) (Ok y) → x ≡ y
 ok_same x y h = ap (λ r. elim r [ Ok z ↦ z | Err e ↦ x ]) h
@@ -103,9 +103,9 @@ create_refused short file word setting old new columns key why.ReadFault h = tt
 create_refused short file word setting old new columns key why.Memory h = tt
 create_refused short file word setting old new columns key (why.Refused refused) h = by h.0.legal
   where
-    by : LegalAnswer setting old (item.Command (Create word.name columns key)) (told refused) h.0.last → IsRefused short setting.limits word file refused
+    by : LegalAnswer setting old (item.Command (Create word.name columns key)) (of_refused refused) h.0.last → IsRefused short setting.limits word file refused
     by (AsListsAnswer e) = NotCreated old columns key (steps_refused old h.0.last (create setting.limits old word.name columns key) refused (create_done setting.limits old word.name columns key) e)
-    by (WantsMemory e m) = absurd (h.1 (ap (λ (x : Refused). x.why) (told_same refused (unnumbered Memory) m)))
+    by (WantsMemory e m) = absurd (h.1 (ap (λ (x : Refused). x.why) (of_refused_same refused (unnumbered Memory) m)))
     by (StoreFailed e g m) = absurd (true≢false (sym g.0))
     by (StoreLied e g l) = absurd (true≢false (sym g.0))
 

@@ -36,14 +36,14 @@ abbrev pub meaning : Short → Refusal → List ℕ
 meaning flag why = codes "\n  " ++ words_of why ++ hint (can_complete flag why) ++ codes "\n"
 
 -- the refusal as replies have it, and what it means
-abbrev pub refusal_told : Short → Refused → List ℕ
-refusal_told flag refused = code_and_name refused.why ++ record_number refused.number ++ meaning flag refused.why
+abbrev pub refusal_text : Short → Refused → List ℕ
+refusal_text flag refused = code_and_name refused.why ++ record_number refused.number ++ meaning flag refused.why
 
 abbrev pub reason : Short → Why → List ℕ
 reason flag why.CannotOpen = codes "cannot open\n"
 reason flag why.ReadFault = codes "read fault\n"
 reason flag why.Memory = codes "out of memory\n"
-reason flag (why.Refused refused) = refusal_told flag refused
+reason flag (why.Refused refused) = refusal_text flag refused
 
 abbrev pub fault_text : Short → List ℕ → Why → List ℕ
 fault_text flag file why = codes "groupsh: " ++ file ++ codes ": " ++ reason flag why

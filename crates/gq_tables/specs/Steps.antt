@@ -14,7 +14,7 @@ use Rattle.gq_command.specs.declared.reader.Item.TheVariants as Item
 use Rattle.gq_reply.specs.declared.refusal.Refusal.TheVariants.{Memory}
 use Rattle.gq_reply.specs.declared.reply.Reply.{Reply}
 use Rattle.gq_reply.specs.declared.reply.Reply.TheVariants as reply
-use Rattle.gq_reply.specs.Refusals.{told}
+use Rattle.gq_reply.specs.Refusals.{of_refused}
 use Rattle.gq_reply.specs.Replies.{is_refusal}
 use Rattle.gq_engine.specs.Databases.{Database, table_at}
 use Rattle.gq_engine.specs.Runs.{AnsweredAlike, SameTables, Setting}
@@ -54,7 +54,7 @@ pub record HasDone (setting : Setting) (old : Database) (command : Command) (new
 
 -- a command was refused, other than by an allocation
 abbrev pub HasRefused : Setting → Database → Command → Database → Why → Type 0
-HasRefused setting old command new why = IfRefused why (λ refused. AnsweredAlike setting old (Item.Command command) (told refused) new × (refused.why ≡ Memory → ⊥))
+HasRefused setting old command new why = IfRefused why (λ refused. AnsweredAlike setting old (Item.Command command) (of_refused refused) new × (refused.why ≡ Memory → ⊥))
 
 -- a load of a file was carried out
 pub record HasLoadedFile (short : Short) (limits : Bounds) (old : Database) (name bytes : Bytes) (new : Database) : Type 0 where

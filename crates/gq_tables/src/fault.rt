@@ -5,7 +5,7 @@ ghost use Rattle.gq_reply.specs.declared.refusal.Refused.{Refused};
 ghost use Rattle.gq_engine.specs.declared.csv_fault.CsvFault.TheVariants as CsvFault;
 ghost use Rattle.gq_tables.specs.declared.fault.Why.TheVariants as Why;
 ghost use Rattle.gq_tables.specs.Reasons.{IsWhyOf, why_of_header};
-ghost use Rattle.gq_tables.specs.Faults.{can_complete, code_and_name, hint, meaning, refusal_told};
+ghost use Rattle.gq_tables.specs.Faults.{can_complete, code_and_name, hint, meaning, refusal_text};
 
 use gq_engine::{CsvFault, Refusal, Refused, Short};
 use gq_infer::InferFault;
@@ -137,7 +137,7 @@ impl TableFault {
             Why::ReadFault => text.push_str("read fault\n")?,
             Why::Memory => text.push_str("out of memory\n")?,
             Why::Refused(refused) => {
-                text.push_str(refusal_told(alloc, refused, short)?.as_str())?;
+                text.push_str(refusal_text(alloc, refused, short)?.as_str())?;
             }
         }
         Ok(text)
@@ -145,8 +145,8 @@ impl TableFault {
 }
 
 // A refusal as replies have it, and what it means.
-fn refusal_told(alloc: Global, refused: Refused, short: Short) -> Result<String, AllocError>
-    ensures { IfOk result (λ text. string_bytes text ≡ refusal_told short refused) }
+fn refusal_text(alloc: Global, refused: Refused, short: Short) -> Result<String, AllocError>
+    ensures { IfOk result (λ text. string_bytes text ≡ refusal_text short refused) }
 {
     let mut text = code_and_name(alloc, refused.why)?;
     push_record(&mut text, refused.number)?;

@@ -41,7 +41,7 @@ pub returns-clause-asks : goal.returns-clause-asks
 returns-clause-asks g c = record {
   found = search rules;
   there = c.in_ok-others.ensures.found;
-  told = rw (c.schema.ensures, c.columns_of.ensures) at c.in_ok-plan.ensures.told;
+  planned = rw (c.schema.ensures, c.columns_of.ensures) at c.in_ok-plan.ensures.planned;
 }
 
 pub returns-clause-within : goal.returns-clause-within

@@ -32,7 +32,7 @@ returns-clause-comes g c =
     let plan = c.in_ok-asked.asked.plan in
     let asks = c.in_ok-asked.ensures.asks in
     comes_over db (g.S.RunStore.runs c.args.store.now).honest (group db c.args.request.now.name.now clauses) (group_header clauses.by clauses.shown) (rows_planned plan table other)
-    (group_planned db c.args.request.now.name.now clauses table asks.found other asks.there plan asks.told) (rows_in c.rows_grouped.result) c.rows_grouped.ensures.rows
+    (group_planned db c.args.request.now.name.now clauses table asks.found other asks.there plan asks.planned) (rows_in c.rows_grouped.result) c.rows_grouped.ensures.rows
 
 pub returns-clause-spent : goal.returns-clause-spent
 returns-clause-spent g c =
@@ -43,4 +43,4 @@ returns-clause-spent g c =
     let plan = c.in_ok-asked.asked.plan in
     let asks = c.in_ok-asked.ensures.asks in
     rises_over db c.args.request.now.name.now clauses (g.S.RunStore.runs c.args.store.now).honest c.args.budget.entries (grouping_sets plan.rollup plan.by) (rows_about plan table other) c.args.spent c.rows_grouped.result
-    (asked_planned db c.args.request.now.name.now clauses table asks.found other asks.there plan asks.told) c.rows_grouped.ensures.spent
+    (asked_planned db c.args.request.now.name.now clauses table asks.found other asks.there plan asks.planned) c.rows_grouped.ensures.spent

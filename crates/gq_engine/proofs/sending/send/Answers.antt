@@ -1,10 +1,10 @@
 use Rattle.std.proofs.Common.{arith}
 use Rattle.std.proofs.lemmas.Grind.{common_steps}
-use Rattle.gq_engine.proofs.Bytes.{wrote_more, front_more, front_kept}
+use Rattle.gq_engine.proofs.Bytes.{wrote_more, prefix_more, prefix_kept}
 use Rattle.gq_engine.proofs.sending.send.Goals as goal
 
 pub returns-in-Ok-eq0-clause-err : goal.returns-in-Ok-eq0-clause-err
-returns-in-Ok-eq0-clause-err g c = front_more _ _ _ c.args.bytes.now _ c.loop-at.at c.in-Ok-eq0.field-0 c.split_at.ensures.back c.loop-at.invariant.written c.in-Ok-eq0.ensures.bytes
+returns-in-Ok-eq0-clause-err g c = prefix_more _ _ _ c.args.bytes.now _ c.loop-at.at c.in-Ok-eq0.field-0 c.split_at.ensures.back c.loop-at.invariant.written c.in-Ok-eq0.ensures.bytes
 
 pub loop-at-preserved : goal.loop-at-preserved
 loop-at-preserved g c = record {
@@ -13,7 +13,7 @@ loop-at-preserved g c = record {
 }
 
 pub returns-in-Err-clause-err : goal.returns-in-Err-clause-err
-returns-in-Err-clause-err g c = front_kept _ _ _ c.args.bytes.now c.loop-at.at c.loop-at.invariant.written c.in-Err.ensures.bytes
+returns-in-Err-clause-err g c = prefix_kept _ _ _ c.args.bytes.now c.loop-at.at c.loop-at.invariant.written c.in-Err.ensures.bytes
 
 pub returns-in-Err-flush-clause-err : goal.returns-in-Err-flush-clause-err
 returns-in-Err-flush-clause-err g c = grind (arith, common_steps)

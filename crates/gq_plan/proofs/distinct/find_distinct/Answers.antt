@@ -21,8 +21,8 @@ returns-in_err-tests-clause-refused c =
     let p = err_from_is_err_and c.from_residual-in_err-tests.result c.from_residual-in_err-tests.ensures.1 in
     rw (p.1, p.2) (not-found c.place_tests.result _ _ (distinct_named columns c.args.on.now c.args.tests.now) c.place_tests.ensures c.in_err-tests.ensures (no_places columns c.args.on.now c.args.tests.now c.in_ok-on.on on))
 
-pub returns-clause-told : goal.returns-clause-told
-returns-clause-told c =
+pub returns-clause-planned : goal.returns-clause-planned
+returns-clause-planned c =
     let columns = c.args.schema.now.columns in
     let on : positions_of columns c.args.on.now ≡ Some c.in_ok-on.on = is-found c.find_positions.result _ _ (rw c.columns.ensures at c.find_positions.ensures) c.in_ok-on.ensures in
     let tests : all_placed (in_row columns) c.args.tests.now ≡ Some c.in_ok-tests.tests = is-found c.place_tests.result _ _ c.place_tests.ensures c.in_ok-tests.ensures in

@@ -10,11 +10,11 @@ returns-then-not-tests_fit-clause-refused c =
     let columns = c.args.schema.now.columns in
     let plan = c.in_ok-plan.plan in
     let unfit : tests_fit (kinds_of columns) plan.condition.tests ≡ false = search rules in
-    inr (distinct_unfit columns c.args.on.now c.args.tests.now plan c.in_ok-plan.ensures.told unfit ∙ ap (λ (w : Refused). Err w) (sym c.from.ensures))
+    inr (distinct_unfit columns c.args.on.now c.args.tests.now plan c.in_ok-plan.ensures.planned unfit ∙ ap (λ (w : Refused). Err w) (sym c.from.ensures))
 
-pub returns-clause-told : goal.returns-clause-told
-returns-clause-told c =
+pub returns-clause-planned : goal.returns-clause-planned
+returns-clause-planned c =
     let columns = c.args.schema.now.columns in
     let plan = c.in_ok-plan.plan in
     let fit : tests_fit (kinds_of columns) plan.condition.tests ≡ true = search rules in
-    distinct_fit columns c.args.on.now c.args.tests.now plan c.in_ok-plan.ensures.told fit
+    distinct_fit columns c.args.on.now c.args.tests.now plan c.in_ok-plan.ensures.planned fit

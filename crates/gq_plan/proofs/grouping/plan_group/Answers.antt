@@ -11,12 +11,12 @@ returns-then-not-branch-clause-refused c =
     let plan = c.in_ok-plan.plan in
     let is : c.in_ok-fits_group.field-0 ≡ group_fits columns c.args.others.now plan = rw c.columns.ensures at c.in_ok-fits_group.ensures in
     let no : c.in_ok-fits_group.field-0 ≡ false = search rules in
-    inr (unfit columns c.args.others.now c.args.clauses.now plan c.in_ok-plan.ensures.told (sym is ∙ no) ∙ ap (λ (w : Refused). Err w) (sym c.from.ensures))
+    inr (unfit columns c.args.others.now c.args.clauses.now plan c.in_ok-plan.ensures.planned (sym is ∙ no) ∙ ap (λ (w : Refused). Err w) (sym c.from.ensures))
 
-pub returns-clause-told : goal.returns-clause-told
-returns-clause-told c =
+pub returns-clause-planned : goal.returns-clause-planned
+returns-clause-planned c =
     let columns = c.args.schema.now.columns in
     let plan = c.in_ok-plan.plan in
     let is : c.in_ok-fits_group.field-0 ≡ group_fits columns c.args.others.now plan = rw c.columns.ensures at c.in_ok-fits_group.ensures in
     let yes : c.in_ok-fits_group.field-0 ≡ true = search rules in
-    fit columns c.args.others.now c.args.clauses.now plan c.in_ok-plan.ensures.told (sym is ∙ yes)
+    fit columns c.args.others.now c.args.clauses.now plan c.in_ok-plan.ensures.planned (sym is ∙ yes)

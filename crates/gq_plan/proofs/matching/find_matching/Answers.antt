@@ -24,8 +24,8 @@ returns-in_err-ours-clause-refused c =
     let p = err_from_is_err_and c.from_residual-in_err-ours.result c.from_residual-in_err-ours.ensures.1 in
     rw (p.1, p.2, c.in-Some.is) (not-found c.find_positions-2.result _ _ (matching_named columns others (Some exists)) (rw c.as_slice-2.ensures at c.find_positions-2.ensures) c.in_err-ours.ensures (no_ours columns others exists c.in_ok-theirs.theirs theirs))
 
-pub returns-clause-told : goal.returns-clause-told
-returns-clause-told c =
+pub returns-clause-planned : goal.returns-clause-planned
+returns-clause-planned c =
     let columns = c.args.columns.now in
     let others = c.args.others.now in
     let exists = c.in-Some.exists in

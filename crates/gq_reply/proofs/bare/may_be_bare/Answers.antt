@@ -12,4 +12,4 @@ returns-then-not-cell_may_be_bare-2 c =
     let within : last < length (slice_index_or rows i []) = omega (arith, (c.in-Some.ensures).0, (c.in-Some.ensures).1, c.len.ensures, ap length c.row-row.ensures) in
     let not_bare : is_bare (cell (slice_index_or rows i []) last) ≡ false =
     ap (λ r. is_bare (cell r last)) (sym c.row-row.ensures) ∙ ap is_bare (sym c.cell-in-loop-i.ensures) ∙ c.cell_may_be_bare-in-loop-i.ensures c.if-not-cell_may_be_bare-2.true in
-    λ told bare. not_bare_at rows c.args.start c.args.end i last (omega arith) (omega arith) within not_bare bare
+    λ quoted bare. not_bare_at rows c.args.start c.args.end i last (omega arith) (omega arith) within not_bare bare

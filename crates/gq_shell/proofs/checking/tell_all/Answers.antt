@@ -8,7 +8,7 @@ use Rattle.gq_command.specs.Script.{numbered_left}
 use Rattle.gq_check.specs.Reports.{Between, Reports}
 use Rattle.gq_check.proofs.Steps.{nothing-between}
 use Rattle.gq_engine.proofs.Bytes.{appends_nothing}
-use Rattle.gq_shell.proofs.CheckLemmas.{told-all, told-cut, told-front, tells-more}
+use Rattle.gq_shell.proofs.CheckLemmas.{told-all, told-cut, told-prefix, tells-more}
 use Rattle.gq_shell.specs.Checking.{ToldFront, ToldReports}
 use Rattle.gq_shell.specs.Streams.{Stream}
 use Rattle.gq_shell.specs.declared.checking.CheckStop.{CheckStop}
@@ -16,17 +16,17 @@ use Rattle.gq_shell.proofs.checking.tell_all.Goals as goal
 
 -- after an error a prefix was written
 stopped : (name : Bytes) (script : Option Bytes) (replies : Stream) (r : Result Bool CheckStop) → IsErr r → IfSome script (λ bytes. ToldFront name bytes replies) → ToldReports name script replies r
-stopped name script replies (Ok any) is front = absurd (true≢false (sym is))
-stopped name script replies (Err why) is front = front
+stopped name script replies (Ok any) is prefix = absurd (true≢false (sym is))
+stopped name script replies (Err why) is prefix = prefix
 
 pub loop-init : goal.loop-init
 loop-init g c = ([], record { between = nothing-between GREATEST c.args.checker.now; written = appends_nothing _; any_is = refl })
 
 pub returns-in-Err : goal.returns-in-Err
-returns-in-Err g c = λ script begins. told-front _ script _ c.loop.checker _ _ c.loop.any _ begins c.loop.invariant.1
+returns-in-Err g c = λ script begins. told-prefix _ script _ c.loop.checker _ _ c.loop.any _ begins c.loop.invariant.1
 
 pub returns : goal.returns
-returns g c = λ script begins. told-front _ script _ c.loop.checker _ _ c.loop.any _ begins c.loop.invariant.1
+returns g c = λ script begins. told-prefix _ script _ c.loop.checker _ _ c.loop.any _ begins c.loop.invariant.1
 
 pub returns-in-Ok-None : goal.returns-in-Ok-None
 returns-in-Ok-None g c = λ script begins.

@@ -5,9 +5,9 @@ use Rattle.gq_shell.specs.declared.telling.CutShort.{CutShort}
 use Rattle.gq_shell.proofs.session.session.Goals as goal
 
 -- all of a text is a prefix of it
-told-front : (s : Stream) (text : List ℕ) (r : Result (Unit {0}) CutShort) → Told s text r → GotFront s text
-told-front s text (Ok done) got = record { front = text; rest = []; is = sym (append-nil text); appends = got }
-told-front s text (Err fault) front = front
+told-prefix : (s : Stream) (text : List ℕ) (r : Result (Unit {0}) CutShort) → Told s text r → GotFront s text
+told-prefix s text (Ok done) got = record { prefix = text; rest = []; is = sym (append-nil text); appends = got }
+told-prefix s text (Err fault) prefix = prefix
 
 pub returns-clause-ended : goal.returns-clause-ended
 returns-clause-ended g c =
@@ -20,5 +20,5 @@ returns-clause-ended g c =
       ran = c.run_as-ended.ensures.ran;
       quiet = λ is. ap g.E.Write.contents (c.run_as-ended.ensures.quiet is);
       status_is = c.status_of.ensures;
-      told = subst (λ (t : List ℕ). GotFront errors t) text_is (told-front errors c.errors_text.result.now c.tell-told.result c.tell-told.ensures);
+      told = subst (λ (t : List ℕ). GotFront errors t) text_is (told-prefix errors c.errors_text.result.now c.tell-told.result c.tell-told.ensures);
     }

@@ -1,6 +1,6 @@
 use Rattle.std.proofs.Common.{arith, subst, ℕ, List}
-use Rattle.gq_engine.specs.Sending.{AppendsFront}
-use Rattle.gq_engine.proofs.Bytes.{wrote_more, front_kept}
+use Rattle.gq_engine.specs.Sending.{AppendsPrefix}
+use Rattle.gq_engine.proofs.Bytes.{wrote_more, prefix_kept}
 use Rattle.gq_shell.proofs.telling.tell.Goals as goal
 
 pub loop-at-preserved : goal.loop-at-preserved
@@ -11,6 +11,6 @@ loop-at-preserved g c = record {
 
 pub returns-in-Err-flush : goal.returns-in-Err-flush
 returns-in-Err-flush g c =
-    let P : List ℕ → Type 0 = λ l. AppendsFront (g.W.Write.contents c.args.writer.now) (g.W.Write.contents c.flush.new.self) l in
+    let P : List ℕ → Type 0 = λ l. AppendsPrefix (g.W.Write.contents c.args.writer.now) (g.W.Write.contents c.flush.new.self) l in
     subst P c.as_bytes-bytes.ensures.value
-    (front_kept _ _ _ _ c.loop-at.at c.loop-at.invariant.written c.in-Err-flush.ensures.bytes)
+    (prefix_kept _ _ _ _ c.loop-at.at c.loop-at.invariant.written c.in-Err-flush.ensures.bytes)

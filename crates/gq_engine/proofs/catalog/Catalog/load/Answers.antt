@@ -9,7 +9,7 @@ use Rattle.gq_engine.specs.Databases.{Database, table_at}
 use Rattle.gq_engine.specs.Refusing.{put_all_within}
 use Rattle.gq_engine.specs.Serving.{Changes}
 use Rattle.gq_engine.specs.Steps.{with_rows}
-use Rattle.gq_engine.proofs.StagingLemmas.{stands_schema}
+use Rattle.gq_engine.proofs.StagingLemmas.{schema_at}
 use Rattle.gq_engine.proofs.TakenLemmas.{took}
 use Rattle.gq_engine.proofs.MapLemmas.{differ_set}
 use Rattle.gq_engine.proofs.OrderLemmas.{keyed_set, same_tables}
@@ -36,7 +36,7 @@ returns-in-None g c =
 
 pub put_rows-requires : goal.put_rows-requires
 put_rows-requires g c =
-    stands_schema c.self.inside.tables.items c.args.name.now c.in-Some.i c.index_mut.result.now c.args.staged.schema (rw c.as_slice.ensures.value at c.in-Some.ensures) c.index_mut.ensures.value
+    schema_at c.self.inside.tables.items c.args.name.now c.in-Some.i c.index_mut.result.now c.args.staged.schema (rw c.as_slice.ensures.value at c.in-Some.ensures) c.index_mut.ensures.value
     (subst (λ (db : Database). IfSome (table_at db c.args.name.now) (λ (table : PlainTable). c.args.staged.schema ≡ table.schema)) (sym c.self.view_is) c.requires)
 
 pub index_mut-requires : goal.index_mut-requires

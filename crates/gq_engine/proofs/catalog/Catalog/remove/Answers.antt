@@ -8,13 +8,13 @@ use Rattle.gq_reply.proofs.StepLemmas.{misses}
 use Rattle.gq_engine.specs.Databases.{Database, table_at}
 use Rattle.gq_engine.specs.Serving.{Settles}
 use Rattle.gq_engine.specs.Steps.{drop_table}
-use Rattle.gq_engine.proofs.TakenLemmas.{removed, removed_stands}
+use Rattle.gq_engine.proofs.TakenLemmas.{removed, removed_at}
 use Rattle.gq_engine.proofs.OrderLemmas.{same_tables}
 use Rattle.gq_engine.proofs.catalog.Catalog.remove.Goals as goal
 
 pub invariant_of-self : goal.invariant_of-self
 invariant_of-self g c =
-    removed_stands c.self.inside.tables.items c.args.name.now c.in-Some.i c.remove.new.self.items (rw c.as_slice.ensures.value at c.in-Some.ensures) c.self.invariant c.remove.ensures.items
+    removed_at c.self.inside.tables.items c.args.name.now c.in-Some.i c.remove.new.self.items (rw c.as_slice.ensures.value at c.in-Some.ensures) c.self.invariant c.remove.ensures.items
 
 pub returns-in-Some : goal.returns-in-Some
 returns-in-Some g c =

@@ -49,8 +49,8 @@ returns-in_err-rows g c =
     let table = c.in_ok-table.table.now in
     let plan = c.in_ok-plan.plan in
     let found : table_at db c.args.name.now ≡ Some table = sym c.get.ensures ∙ ap option_copied c.in_ok-table.ensures.ok_part in
-    let told : distinct_plan table.schema.columns c.args.on c.args.tests.now ≡ Ok plan = rw (c.schema.ensures, c.as_slice.ensures) at c.in_ok-plan.ensures.told in
-    let steps = distinct_planned db c.args.name.now c.args.on c.args.tests.now table found plan told in
+    let planned : distinct_plan table.schema.columns c.args.on c.args.tests.now ≡ Ok plan = rw (c.schema.ensures, c.as_slice.ensures) at c.in_ok-plan.ensures.planned in
+    let steps = distinct_planned db c.args.name.now c.args.on c.args.tests.now table found plan planned in
     let command = Distinct c.args.name.now c.args.on c.args.tests.now in
     let why = c.in_err-rows.field-0.0 in
     passed_on g.S.RunStore.runs command why self _ c.from_residual-in_err-rows.result c.from_residual-in_err-rows.ensures.1
@@ -65,8 +65,8 @@ returns g c =
     let table = c.in_ok-table.table.now in
     let plan = c.in_ok-plan.plan in
     let found : table_at db c.args.name.now ≡ Some table = sym c.get.ensures ∙ ap option_copied c.in_ok-table.ensures.ok_part in
-    let told : distinct_plan table.schema.columns c.args.on c.args.tests.now ≡ Ok plan = rw (c.schema.ensures, c.as_slice.ensures) at c.in_ok-plan.ensures.told in
-    let steps = distinct_planned db c.args.name.now c.args.on c.args.tests.now table found plan told in
+    let planned : distinct_plan table.schema.columns c.args.on c.args.tests.now ≡ Ok plan = rw (c.schema.ensures, c.as_slice.ensures) at c.in_ok-plan.ensures.planned in
+    let steps = distinct_planned db c.args.name.now c.args.on c.args.tests.now table found plan planned in
     carried_over g.S.RunStore.runs (Distinct c.args.name.now c.args.on c.args.tests.now) (Ok (Rows c.args.on c.in_ok-rows.rows)) self c.rows_different.new.store self.spent c.in_ok-rows.ensures.honest refl
     (shown_over db (g.S.RunStore.runs self.store).honest (distinct db c.args.name.now c.args.on c.args.tests.now) c.args.on (Some (keys_planned plan table)) steps c.args.on c.in_ok-rows.rows refl c.in_ok-rows.ensures.rows)
     c.in_ok-rows.ensures.faults refl

@@ -40,10 +40,10 @@ loop-turn-preserved g c =
       budget = c.serve.ensures.budget ∙ c.loop-turn.invariant.budget;
       count = c.add.ensures.commands ∙ ap (λ k. k + 1) c.loop-turn.invariant.count;
       few = rw c.add.ensures.refused (few_refused _ _ _ c.loop-turn.invariant.few);
-      output = c.tell.ensures.output ∙ c.loop-turn.invariant.output;
-      quiet = λ is. c.tell.ensures.quiet (c.loop-turn.invariant.output ∙ is) ∙ c.loop-turn.invariant.quiet is;
-      going = go_on_at _ _ (setting_of g.S.RunStore.runs c.loop-turn.self) c.limits.result.now.bounds c.next.new.self (g.W.Write.contents c.serve.new.writer) (g.E.Write.contents c.tell.new.errors) c.had_result-earlier.result c.tell.new.self.is_open c.add.new.self.commands c.add.new.self.refused
+      output = c.report.ensures.output ∙ c.loop-turn.invariant.output;
+      quiet = λ is. c.report.ensures.quiet (c.loop-turn.invariant.output ∙ is) ∙ c.loop-turn.invariant.quiet is;
+      going = go_on_at _ _ (setting_of g.S.RunStore.runs c.loop-turn.self) c.limits.result.now.bounds c.next.new.self (g.W.Write.contents c.serve.new.writer) (g.E.Write.contents c.report.new.errors) c.had_result-earlier.result c.report.new.self.is_open c.add.new.self.commands c.add.new.self.refused
           c.in-Ok-Some.item c.loop-turn.complaints.output c.limits-in-Ok.result.now.bounds c.in-Ok.reply (state_of g.S.RunStore.runs c.serve.new.self)
           c.loop-turn.invariant.setting c.limits.ensures c.add.ensures.commands c.add.ensures.refused c.had_result-earlier.ensures c.loop-turn.invariant.output
-          (c.limits-in-Ok.ensures ∙ ap (λ (s : Setting). s.limits) (c.serve.ensures.setting ∙ c.loop-turn.invariant.setting)) c.loop-turn.invariant.going given.item given.counted c.in-Ok.ensures.served c.tell.ensures.told;
+          (c.limits-in-Ok.ensures ∙ ap (λ (s : Setting). s.limits) (c.serve.ensures.setting ∙ c.loop-turn.invariant.setting)) c.loop-turn.invariant.going given.item given.counted c.in-Ok.ensures.served c.report.ensures.reported;
     }

@@ -14,5 +14,5 @@ invariant-loop-turn g l = record {
   quiet : l.fn.output ≡ Replies → l.errors ≡ l.fn.errors;
   going : Going
       (record { output = l.fn.output; setting = setting_of g.S.RunStore.runs l.fn.self; old = state_of g.S.RunStore.runs l.fn.self; script = g.R.Read.remaining l.fn.reader; before = g.W.Write.contents l.fn.writer; errors = g.E.Write.contents l.fn.errors })
-      (record { now = state_of g.S.RunStore.runs l.self; reader = l.script; after = g.W.Write.contents l.writer; told = g.E.Write.contents l.errors; earlier = l.earlier; is_open = l.complaints.is_open; commands = l.summary.commands; refused = l.summary.refused });
+      (record { now = state_of g.S.RunStore.runs l.self; reader = l.script; after = g.W.Write.contents l.writer; reported = g.E.Write.contents l.errors; earlier = l.earlier; is_open = l.complaints.is_open; commands = l.summary.commands; refused = l.summary.refused });
 }
