@@ -6,7 +6,7 @@ use Rattle.gq_engine.specs.declared.run.Fault.TheVariants.{Read, Write}
 use Rattle.gq_engine.specs.Headline.{Ran, StoppedReading, StoppedWriting}
 use Rattle.gq_shell.specs.Session.{status_of}
 use Rattle.gq_engine.proofs.OutputLemmas.{ran_plainly}
-use Rattle.gq_shell.specs.Statuses.{AnsweredAll, Course, Ends, StatusesTell}
+use Rattle.gq_shell.specs.Statuses.{AnsweredAll, Course, Ends, StatusesMean}
 
 -- a run of these bytes and states ended so
 abbrev RanSo : Course → Result Summary Fault → Type 0
@@ -28,19 +28,19 @@ not-three : (b : Bool) → 3 ≡ code b → ⊥
 not-three true e = let bad : 3 ≡ 0 = e in omega arith
 not-three false e = let bad : 3 ≡ 1 = e in omega arith
 
-zero-tells : (c : Course) (ended : Result Summary Fault) → RanSo c ended → 0 ≡ status_of ended → (summary : Summary) × AnsweredAll c summary × (summary.refused ≡ 0)
-zero-tells c (Ok summary) ran e = (summary, ran, none-refused summary.refused (summary.refused == 0) refl e)
-zero-tells c (Err fault) ran e = let bad : 0 ≡ 3 = e in absurd (omega arith)
+zero-reports : (c : Course) (ended : Result Summary Fault) → RanSo c ended → 0 ≡ status_of ended → (summary : Summary) × AnsweredAll c summary × (summary.refused ≡ 0)
+zero-reports c (Ok summary) ran e = (summary, ran, none-refused summary.refused (summary.refused == 0) refl e)
+zero-reports c (Err fault) ran e = let bad : 0 ≡ 3 = e in absurd (omega arith)
 
-one-tells : (c : Course) (ended : Result Summary Fault) → RanSo c ended → 1 ≡ status_of ended → (summary : Summary) × AnsweredAll c summary × (summary.refused ≢ 0)
-one-tells c (Ok summary) ran e = (summary, ran, some-refused summary.refused (summary.refused == 0) refl e)
-one-tells c (Err fault) ran e = let bad : 1 ≡ 3 = e in absurd (omega arith)
+one-reports : (c : Course) (ended : Result Summary Fault) → RanSo c ended → 1 ≡ status_of ended → (summary : Summary) × AnsweredAll c summary × (summary.refused ≢ 0)
+one-reports c (Ok summary) ran e = (summary, ran, some-refused summary.refused (summary.refused == 0) refl e)
+one-reports c (Err fault) ran e = let bad : 1 ≡ 3 = e in absurd (omega arith)
 
-three-tells : (c : Course) (ended : Result Summary Fault) → RanSo c ended → 3 ≡ status_of ended
+three-reports : (c : Course) (ended : Result Summary Fault) → RanSo c ended → 3 ≡ status_of ended
     → StoppedReading c.setting c.old c.script c.new c.replies.before c.replies.after ⊎ StoppedWriting c.setting c.old c.script c.new c.replies.before c.replies.after
-three-tells c (Ok summary) ran e = absurd (not-three (summary.refused == 0) e)
-three-tells c (Err Read) ran e = inl ran
-three-tells c (Err Write) ran e = inr ran
+three-reports c (Ok summary) ran e = absurd (not-three (summary.refused == 0) e)
+three-reports c (Err Read) ran e = inl ran
+three-reports c (Err Write) ran e = inr ran
 
 by-count : (b : Bool) (status : ℕ) → status ≡ code b → (status ≡ 0) ⊎ ((status ≡ 1) ⊎ (status ≡ 3))
 by-count true status e = inl e
@@ -53,10 +53,10 @@ no-other (Err fault) status e = inr (inr e)
 plainly : {n : ℕ} (c : Course) (w : Ends c n) → RanSo c w.ended
 plainly c w = ran_plainly c.setting c.old (Some c.script) c.new c.replies.before c.replies.after c.errors.before w.refusals w.ended w.ran
 
-pub statuses-tell : StatusesTell
-statuses-tell = record {
-  zero = λ c w. zero-tells c w.ended (plainly c w) w.status_is;
-  one = λ c w. one-tells c w.ended (plainly c w) w.status_is;
-  three = λ c w. three-tells c w.ended (plainly c w) w.status_is;
+pub statuses-mean : StatusesMean
+statuses-mean = record {
+  zero = λ c w. zero-reports c w.ended (plainly c w) w.status_is;
+  one = λ c w. one-reports c w.ended (plainly c w) w.status_is;
+  three = λ c w. three-reports c w.ended (plainly c w) w.status_is;
   only = λ c status w. no-other w.ended status w.status_is;
 }

@@ -9,7 +9,7 @@ use Rattle.gq_check.specs.declared.report.Report.{Report}
 use Rattle.gq_check.specs.Reports.{Place, Reports, report_text}
 use Rattle.gq_options.specs.CommandLine.{Text}
 use Rattle.gq_shell.specs.Sources.{Sources, Stopped, StoppedBy, StoppedForMemory, script_of}
-use Rattle.gq_shell.specs.Streams.{Stream, Got, GotFront, IsUntouched}
+use Rattle.gq_shell.specs.Streams.{Stream, Got, GotPrefix, IsUntouched}
 use Rattle.gq_shell.specs.declared.checking.CheckStop.{CheckStop}
 use Rattle.gq_shell.specs.declared.checking.CheckStop.TheVariants as stop
 
@@ -18,29 +18,29 @@ abbrev pub texts : Bytes → List Report → Bytes
 texts name reports = flat_map (report_text name) reports
 
 -- The reports of a script went to the standard output, one for each item that reading refuses; `any` is whether there is one.
-pub record ToldAll (name script : Bytes) (replies : Stream) (any : Bool) : Type 0 where
+pub record ReportedAll (name script : Bytes) (replies : Stream) (any : Bool) : Type 0 where
   pub reports : List Report
   pub are : Reports GREATEST (numbered GREATEST script) reports
-  pub told : Got replies (texts name reports)
+  pub reported : Got replies (texts name reports)
   pub any_is : any ≡ some reports
 
 -- The reports of some first items went there, the last perhaps cut short.
-pub record ToldFront (name script : Bytes) (replies : Stream) : Type 0 where
+pub record ReportedPrefix (name script : Bytes) (replies : Stream) : Type 0 where
   pub done : List Numbered
   pub left : List Numbered
   pub first : numbered GREATEST script ≡ done ++ left
   pub reports : List Report
   pub are : Reports GREATEST done reports
-  pub told : GotFront replies (texts name reports)
+  pub reported : GotPrefix replies (texts name reports)
 
-abbrev pub ToldReports : Bytes → Option Bytes → Stream → Result Bool CheckStop → Type 0
-ToldReports name script replies (Ok any) = IfSome script (λ bytes. ToldAll name bytes replies any)
-ToldReports name script replies (Err why) = IfSome script (λ bytes. ToldFront name bytes replies)
+abbrev pub ReportedAs : Bytes → Option Bytes → Stream → Result Bool CheckStop → Type 0
+ReportedAs name script replies (Ok any) = IfSome script (λ bytes. ReportedAll name bytes replies any)
+ReportedAs name script replies (Err why) = IfSome script (λ bytes. ReportedPrefix name bytes replies)
 
 -- a report was written, or a prefix of it
-abbrev pub ToldReport : Bytes → Report → Stream → Result (Unit {0}) CheckStop → Type 0
-ToldReport name r replies (Ok done) = Got replies (report_text name r)
-ToldReport name r replies (Err why) = GotFront replies (report_text name r)
+abbrev pub WroteReport : Bytes → Report → Stream → Result (Unit {0}) CheckStop → Type 0
+WroteReport name r replies (Ok done) = Got replies (report_text name r)
+WroteReport name r replies (Err why) = GotPrefix replies (report_text name r)
 
 -- the place at which the check of a script begins
 pub record Begins (script : Option Bytes) (start : Place) : Type 0 where
@@ -58,7 +58,7 @@ EndedCheck (Err stop.Memory) errors status = StoppedForMemory errors status
 -- A script was checked: its reports were written, and the status says how that ended.
 pub record CheckedScript (name : Bytes) (script : Option Bytes) (replies errors : Stream) (status : ℕ) : Type 0 where
   pub ended : Result Bool CheckStop
-  pub told : ToldReports name script replies ended
+  pub reported : ReportedAs name script replies ended
   pub status_is : EndedCheck ended errors status
 
 -- what opening a path gave was checked; or it could not be opened

@@ -22,7 +22,7 @@ use Rattle.gq_tables.specs.Made.{AreTablesOf}
 use Rattle.gq_tables.specs.Reasons.{IsFaultOf}
 use Rattle.gq_shell.specs.Session.{EndedWith, report_of}
 use Rattle.gq_shell.specs.Checking.{CheckedGiven}
-use Rattle.gq_shell.specs.Streams.{Stream, IsUntouched, Got, GotFront}
+use Rattle.gq_shell.specs.Streams.{Stream, IsUntouched, Got, GotPrefix}
 pub use Rattle.gq_shell.specs.Sources.{Sources, sources_of, Stopped, StoppedBy, StoppedForMemory, script_of}
 use Rattle.gq_options.specs.Words.{Reads, asked_by}
 use Rattle.gq_options.specs.declared.options.BadLine.{BadLine}
@@ -39,7 +39,7 @@ use Rattle.gq_shell.specs.declared.seeding.RunSeed.TheVariants.{Given, Drawn}
 abbrev pub Printed : Bytes → Stream → Stream → ℕ → Type 0
 Printed text replies errors status =
     (Got replies text × IsUntouched errors × (status ≡ 0))
-    ⊎ (GotFront replies text × Stopped errors (codes "groupsh: write fault\n") 3 status)
+    ⊎ (GotPrefix replies text × Stopped errors (codes "groupsh: write fault\n") 3 status)
 
 -- what was done about a command line that asks for no run
 abbrev pub AnsweredBadLine : BadLine → Stream → Stream → ℕ → Type 0
@@ -135,7 +135,7 @@ pub record HadFault {S : Type 0} (sources : Sources S) (asked : Asked) (errors :
   pub fault : TableFault
   pub reason : (contents : Bytes → Bytes) → AreFiles sources.remaining sources.opens sources.input words contents → IsFaultOf contents (short_by asked.ragged) GREATEST words fault
   pub within : fault.word < length words
-  pub told : (word : TableWord) → Stopped errors (fault_text (short_by asked.ragged) (slice_index_or words fault.word word).file.now fault.why) (status_of fault.why) status
+  pub reported : (word : TableWord) → Stopped errors (fault_text (short_by asked.ragged) (slice_index_or words fault.word word).file.now fault.why) (status_of fault.why) status
 
 -- why the tables that were asked for could not be made: a word is wrong, an allocation failed, or a file has a fault
 pub data NotMade {S : Type 0} (sources : Sources S) (asked : Asked) (errors : Stream) (status : ℕ) : Type 0 where

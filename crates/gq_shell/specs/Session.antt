@@ -26,13 +26,13 @@ number_of (Given number) = number
 number_of (Drawn number) = number
 
 -- what a line shows of the seed: the number, if it was drawn
-abbrev pub seed_told : RunSeed → Bytes
-seed_told (Given number) = []
-seed_told (Drawn number) = codes ", seed " ++ decimal number
+abbrev pub seed_text : RunSeed → Bytes
+seed_text (Given number) = []
+seed_text (Drawn number) = codes ", seed " ++ decimal number
 
 -- the line on the work of a session's groupings, and on the seed
 abbrev pub work_line : RunSeed → Spent → Bytes
-work_line seed spent = codes "groupsh: read " ++ decimal spent.rows_read ++ codes ", written " ++ decimal spent.rows_written ++ codes ", groups " ++ decimal spent.groups ++ codes ", runs " ++ decimal spent.runs ++ seed_told seed ++ codes "\n"
+work_line seed spent = codes "groupsh: read " ++ decimal spent.rows_read ++ codes ", written " ++ decimal spent.rows_written ++ codes ", groups " ++ decimal spent.groups ++ codes ", runs " ++ decimal spent.runs ++ seed_text seed ++ codes "\n"
 
 -- the same where it is asked for, and else nothing
 abbrev pub report_of : Bool → RunSeed → Spent → Bytes
@@ -51,4 +51,4 @@ pub record EndedWith (output : Output) (setting : Setting) (old : State) (script
   pub ran : RanAs output setting old script new replies.before replies.after errors.before refusals ended
   pub quiet : output ≡ Replies → refusals ≡ errors.before
   pub status_is : status ≡ status_of ended
-  pub told : AppendsPrefix refusals errors.after (errors_text report ended)
+  pub reported : AppendsPrefix refusals errors.after (errors_text report ended)

@@ -5,11 +5,11 @@ use Rattle.std.specs.declared.io.Error.{Error}
 use Rattle.std.specs.declared.io.ErrorKind.TheVariants as kind
 use Rattle.gq_command.specs.Commands.{Bytes}
 use Rattle.gq_options.specs.CommandLine.{Text}
-use Rattle.gq_shell.specs.Streams.{Stream, GotFront}
+use Rattle.gq_shell.specs.Streams.{Stream, GotPrefix}
 
 -- The standard error got this text, as far as it took it, and this is the status.
 pub record Stopped (errors : Stream) (text : Bytes) (wanted status : ℕ) : Type 0 where
-  pub told : GotFront errors text
+  pub reported : GotPrefix errors text
   pub is : status ≡ wanted
 
 abbrev pub StoppedForMemory : Stream → ℕ → Type 0

@@ -26,7 +26,7 @@ abbrev pub AnsweredAll : Course → Summary → Type 0
 AnsweredAll c summary = RanToEnd c.setting c.old c.script c.new c.replies.before c.replies.after summary
 
 -- 0: each item was answered and none refused. 1: each was answered and some were refused. 3: a fault stopped the run. There is no other.
-pub record StatusesTell : Type 0 where
+pub record StatusesMean : Type 0 where
   pub zero : (c : Course) → Ends c 0 → (summary : Summary) × AnsweredAll c summary × (summary.refused ≡ 0)
   pub one : (c : Course) → Ends c 1 → (summary : Summary) × AnsweredAll c summary × (summary.refused ≢ 0)
   pub three : (c : Course) → Ends c 3 → StoppedReading c.setting c.old c.script c.new c.replies.before c.replies.after ⊎ StoppedWriting c.setting c.old c.script c.new c.replies.before c.replies.after

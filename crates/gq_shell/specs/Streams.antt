@@ -3,7 +3,7 @@ use Rattle.std.specs.Prelude.{◌≡◌, Option, Result, Ok, Err}
 use Rattle.std.specs.Io.KnownBytes.{Appends}
 use Rattle.gq_command.specs.Commands.{Bytes}
 use Rattle.gq_engine.specs.Sending.{AppendsPrefix}
-use Rattle.gq_shell.specs.declared.telling.CutShort.{CutShort}
+use Rattle.gq_shell.specs.declared.writing.CutShort.{CutShort}
 
 -- one stream's bytes before and after, where they are known
 pub record Stream : Type 0 where
@@ -23,10 +23,10 @@ abbrev pub Got : Stream → Bytes → Type 0
 Got s bytes = Appends s.before s.after bytes
 
 -- a prefix of this was written to it, and nothing else
-abbrev pub GotFront : Stream → Bytes → Type 0
-GotFront s bytes = AppendsPrefix s.before s.after bytes
+abbrev pub GotPrefix : Stream → Bytes → Type 0
+GotPrefix s bytes = AppendsPrefix s.before s.after bytes
 
 -- it took all of a text, or a prefix of it
-abbrev pub Told : Stream → Bytes → Result (Unit {0}) CutShort → Type 0
-Told s text (Ok done) = Got s text
-Told s text (Err fault) = GotFront s text
+abbrev pub Written : Stream → Bytes → Result (Unit {0}) CutShort → Type 0
+Written s text (Ok done) = Got s text
+Written s text (Err fault) = GotPrefix s text

@@ -3,14 +3,14 @@ ghost use Rattle.std.specs.Prelude.{◌≡◌, Option};
 ghost use Rattle.std.specs.Fn.{FnReturnsAt};
 ghost use Rattle.gq_options.specs.Words.{asked_by};
 ghost use Rattle.gq_command.specs.Commands.{Bytes};
-ghost use Rattle.gq_shell.specs.Checking.{Begins, CheckedGiven, CheckedNamed, CheckedScript, ToldReport, ToldReports};
+ghost use Rattle.gq_shell.specs.Checking.{Begins, CheckedGiven, CheckedNamed, CheckedScript, WroteReport, ReportedAs};
 ghost use Rattle.gq_shell.specs.Sources.{sources_of};
 ghost use Rattle.gq_shell.specs.Streams.{stream};
 
 use crate::script::script_of;
 use crate::stopping::{answer_error, stop, stop_for_memory};
 use crate::streams::Streams;
-use crate::telling::{CutShort, tell};
+use crate::writing::{CutShort, write_text};
 use gq_check::{CheckFault, Checker, Report};
 use gq_options::Options;
 use gq_row::Limits;
@@ -104,7 +104,7 @@ fn check_open<R: Read + Drop, W: Write, E: Write>(
     ensures { CheckedScript name.now (R.remaining script) (stream W.contents replies.old replies.new)
         (stream E.contents errors.old errors.new) result }
 {
-    match tell_reports(alloc, name, script, replies) {
+    match write_reports(alloc, name, script, replies) {
         Ok(true) => 1,
         Ok(false) => 0,
         Err(CheckStop::Read) => stop("groupsh: read fault\n", 3, errors),
@@ -115,26 +115,26 @@ fn check_open<R: Read + Drop, W: Write, E: Write>(
 
 // Writes the reports of a script one by one, each as soon as its item was read, and returns whether
 // there was one.
-fn tell_reports<R: Read + Drop, W: Write>(
+fn write_reports<R: Read + Drop, W: Write>(
     alloc: Global,
     name: &str,
     script: R,
     replies: &mut W,
 ) -> Result<bool, CheckStop>
-    ensures { ToldReports name.now (R.remaining script) (stream W.contents replies.old replies.new) result }
+    ensures { ReportedAs name.now (R.remaining script) (stream W.contents replies.old replies.new) result }
 {
     let mut checker = Checker::new(script);
-    tell_all(alloc, name, &mut checker, replies)
+    report_all(alloc, name, &mut checker, replies)
 }
 
 // Writes the reports that a checker still finds.
-fn tell_all<R: Read, W: Write>(
+fn report_all<R: Read, W: Write>(
     alloc: Global,
     name: &str,
     checker: &mut Checker<R>,
     replies: &mut W,
 ) -> Result<bool, CheckStop>
-    ensures { (script : Option Bytes) → Begins script checker.old → ToldReports name.now script (stream W.contents replies.old replies.new) result }
+    ensures { (script : Option Bytes) → Begins script checker.old → ReportedAs name.now script (stream W.contents replies.old replies.new) result }
 {
     let limits = Limits::greatest();
     let mut any = false;
@@ -144,25 +144,25 @@ fn tell_all<R: Read, W: Write>(
             Ok(None) => return Ok(any),
             Err(fault) => return Err(stop_of(fault)),
         };
-        tell_report(alloc, name, &report, replies)?;
+        write_report(alloc, name, &report, replies)?;
         any = true;
     }
     Err(CheckStop::Read)
 }
 
 // Writes a report.
-fn tell_report<W: Write>(
+fn write_report<W: Write>(
     alloc: Global,
     name: &str,
     report: &Report,
     replies: &mut W,
 ) -> Result<(), CheckStop>
-    ensures { ToldReport name.now report.now (stream W.contents replies.old replies.new) result }
+    ensures { WroteReport name.now report.now (stream W.contents replies.old replies.new) result }
 {
     let Ok(text) = report.text(alloc, name) else {
         return Err(CheckStop::Memory);
     };
-    match tell(text.as_str(), replies) {
+    match write_text(text.as_str(), replies) {
         Ok(()) => Ok(()),
         Err(CutShort) => Err(CheckStop::Write),
     }

@@ -1,7 +1,7 @@
 //! A law: what the definitions come to. It is the contract of a function that does nothing.
-ghost use Rattle.gq_shell.specs.Statuses.{StatusesTell};
+ghost use Rattle.gq_shell.specs.Statuses.{StatusesMean};
 
 /// What a session's status means: all accepted, some refused, or stopped by a fault.
-pub fn statuses_tell()
-    ensures { StatusesTell }
+pub fn statuses_mean()
+    ensures { StatusesMean }
 {}

@@ -27,9 +27,9 @@ mod session;
 mod stopping;
 mod streams;
 mod tables;
-mod telling;
 #[cfg(test)]
 mod tests;
+mod writing;
 
 use crate::program::run_program;
 use crate::streams::Streams;

@@ -1,7 +1,7 @@
 //! The report of a session's work.
 ghost use Rattle.std.specs.Prelude.{◌≡◌, ◌+◌, ◌≤◌, ◌++◌, decimal, length};
 ghost use Rattle.arrayvec.specs.ArrayString.{array_string_len};
-ghost use Rattle.gq_shell.specs.Session.{report_of, seed_told, work_line};
+ghost use Rattle.gq_shell.specs.Session.{report_of, seed_text, work_line};
 
 use crate::seeding::RunSeed;
 use arrayvec::ArrayString;
@@ -46,7 +46,7 @@ fn work_line(seed: RunSeed, spent: Spent) -> Line
 // Appends a seed that was drawn.
 fn push_seed(line: &mut Line, seed: RunSeed)
     requires { array_string_len line.old + 27 ≤ 160 }
-    ensures bytes { line.new.bytes ≡ line.old.bytes ++ seed_told seed }
+    ensures bytes { line.new.bytes ≡ line.old.bytes ++ seed_text seed }
     ensures short { array_string_len line.new ≤ array_string_len line.old + 27 }
 {
     match seed {

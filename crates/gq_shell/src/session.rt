@@ -5,7 +5,7 @@ ghost use Rattle.gq_shell.specs.Session.{EndedWith, errors_text, report_of, stat
 ghost use Rattle.gq_shell.specs.Streams.{stream};
 
 use crate::report::{Reporting, report_of};
-use crate::telling::tell;
+use crate::writing::write_text;
 use gq_engine::{Engine, Fault, Output, RunStore, Summary};
 use gq_row::Key;
 use std::io::{Read, Write};
@@ -29,7 +29,7 @@ pub fn session<H: KeyHash<Key> + Copy, S: RunStore, R: Read + Drop, W: Write, E:
 {
     let ended = engine.run_as(output, reader, writer, errors);
     let report = report_of(reporting, engine.spent());
-    let _told = tell(errors_text(&ended, report.as_str()), errors);
+    let _written = write_text(errors_text(&ended, report.as_str()), errors);
     status_of(&ended)
 }
 

@@ -2,7 +2,7 @@
 ghost use Rattle.gq_shell.specs.Program.{AnsweredBadLine, Stopped, StoppedBy, StoppedForMemory};
 ghost use Rattle.gq_shell.specs.Streams.{stream};
 
-use crate::telling::{CutShort, tell};
+use crate::writing::{CutShort, write_text};
 use gq_options::BadLine;
 use std::io::{Error, ErrorKind, Write};
 
@@ -13,7 +13,7 @@ pub fn answer_bad_line<W: Write, E: Write>(bad: &BadLine, replies: &mut W, error
         (stream E.contents errors.old errors.new) result }
 {
     match bad {
-        BadLine::Help(text) | BadLine::Version(text) => match tell(text.as_str(), replies) {
+        BadLine::Help(text) | BadLine::Version(text) => match write_text(text.as_str(), replies) {
             Ok(()) => 0,
             Err(CutShort) => stop("groupsh: write fault\n", 3, errors),
         },
@@ -44,6 +44,6 @@ pub fn stop_for_memory<E: Write>(errors: &mut E) -> u8
 pub fn stop<E: Write>(text: &str, status: u8, errors: &mut E) -> u8
     ensures { Stopped (stream E.contents errors.old errors.new) text.now status result }
 {
-    let _told = tell(text, errors);
+    let _written = write_text(text, errors);
     status
 }

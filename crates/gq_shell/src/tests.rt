@@ -5,7 +5,7 @@ use crate::report::{Reporting, report_of};
 use crate::seeding::RunSeed;
 use crate::session::session;
 use crate::streams::Streams;
-use crate::telling::CutShort;
+use crate::writing::CutShort;
 use gq_engine::{Budget, Engine, MemStore, Output, Spent};
 use gq_options::BadLine;
 use gq_row::{Bounds, Limits};
@@ -210,10 +210,10 @@ fn write_faults(rt: HostRuntime) -> Result<(), Fail> {
 }
 
 /// Asserts what a session with a fault returns and reports, and that it wrote a prefix of the replies.
-fn assert_fault(rt: &impl Abort, status: u8, replies: &[u8], errors: &[u8], told: &[u8]) {
+fn assert_fault(rt: &impl Abort, status: u8, replies: &[u8], errors: &[u8], reported: &[u8]) {
     assert_eq!(rt; status, 3);
     assert!(rt; b"ok 0\nok 1\n".as_slice().starts_with(replies));
-    assert_eq!(rt; errors, told);
+    assert_eq!(rt; errors, reported);
 }
 
 /// A read that fails after each byte of a script, and a writer that takes a byte less each time, or
@@ -233,8 +233,8 @@ fn faults_at_each_call(rt: HostRuntime) -> Result<(), Fail> {
             &mut errors,
             QUIET,
         );
-        let told = b"groupsh: read fault\n";
-        assert_fault(&rt, status, replies.as_slice(), errors.as_slice(), told);
+        let reported = b"groupsh: read fault\n";
+        assert_fault(&rt, status, replies.as_slice(), errors.as_slice(), reported);
     }
     // Each of the two replies has five bytes, which are written by two, two and one.
     for room in 0..6usize {
@@ -250,13 +250,13 @@ fn faults_at_each_call(rt: HostRuntime) -> Result<(), Fail> {
                 &mut errors,
                 QUIET,
             );
-            let told = b"groupsh: write fault\n";
+            let reported = b"groupsh: write fault\n";
             assert_fault(
                 &rt,
                 status,
                 replies.written.as_slice(),
                 errors.as_slice(),
-                told,
+                reported,
             );
         }
     }
@@ -281,8 +281,8 @@ fn a_standard_error_that_takes_little(rt: HostRuntime) -> Result<(), Fail> {
                 REPORTED,
             );
             assert_eq!(rt; status, 3);
-            let told: &[u8] = b"groupsh: read fault\n";
-            let (prefix, _rest) = told.split_at((2 * room).min(told.len()));
+            let reported: &[u8] = b"groupsh: read fault\n";
+            let (prefix, _rest) = reported.split_at((2 * room).min(reported.len()));
             assert_eq!(rt; errors.written.as_slice(), prefix);
         }
     }
@@ -453,12 +453,12 @@ fn programs(rt: HostRuntime) -> Result<(), Fail> {
         (&["groupsh", "--stats", "b.gq"], 3, b"", unopened),
         (&["groupsh", "--spill=a.gq", "-"], 1, both, b""),
     ];
-    for (words, status, due, told) in cases {
+    for (words, status, due, reported) in cases {
         let words = owned(rt.alloc(), words)?;
         let (answered, replies, errors) = run_in_memory(&rt, Ok(words), input);
         assert_eq!(rt; answered, status);
         assert_eq!(rt; replies.as_slice(), due);
-        assert_eq!(rt; errors.as_slice(), told);
+        assert_eq!(rt; errors.as_slice(), reported);
     }
     Ok(())
 }
@@ -468,7 +468,7 @@ fn programs(rt: HostRuntime) -> Result<(), Fail> {
 fn random_seeds(rt: HostRuntime) -> Result<(), Fail> {
     let script = b"creat\n".as_slice();
     let both = b"ok 0\nerr 1 Syntax\n".as_slice();
-    let told =
+    let reported =
         b"groupsh: read 0, written 0, groups 0, runs 0, seed 361700864190383365\n".as_slice();
     let zero = b"groupsh: read 0, written 0, groups 0, runs 0, seed 0\n".as_slice();
     let none = b"groupsh: no random seed\n".as_slice();
@@ -482,7 +482,7 @@ fn random_seeds(rt: HostRuntime) -> Result<(), Fail> {
             fives,
             1,
             both,
-            told,
+            reported,
         ),
         (
             &["groupsh", "--stats", "-", "--seed", "random"],
@@ -509,12 +509,12 @@ fn random_seeds(rt: HostRuntime) -> Result<(), Fail> {
         (&["groupsh", "--seed=random", "-"], starved, 3, b"", full),
         (&["groupsh", "--seed=7", "-"], failing, 1, both, b""),
     ];
-    for (words, byte, status, due, told) in cases {
+    for (words, byte, status, due, reported) in cases {
         let words = owned(rt.alloc(), words)?;
         let (answered, replies, errors) = run_with_source(&rt, Source { byte }, Ok(words), script);
         assert_eq!(rt; answered, status);
         assert_eq!(rt; replies.as_slice(), due);
-        assert_eq!(rt; errors.as_slice(), told);
+        assert_eq!(rt; errors.as_slice(), reported);
     }
     Ok(())
 }
@@ -528,14 +528,14 @@ fn command_lines_that_run_nothing(rt: HostRuntime) -> Result<(), Fail> {
         (&["groupsh", "--seed", "x", "a.gq"], 2, "", "error: "),
         (&["groupsh", "a.gq", "b.gq"], 2, "", "error: "),
     ];
-    for (words, status, replies_front, errors_front) in cases {
+    for (words, status, replies_prefix, errors_prefix) in cases {
         let words = owned(rt.alloc(), words)?;
         let (answered, replies, errors) = run_in_memory(&rt, Ok(words), b"creat\n");
         assert_eq!(rt; answered, status);
-        assert_eq!(rt; replies.is_empty(), replies_front.is_empty());
-        assert_eq!(rt; errors.is_empty(), errors_front.is_empty());
-        assert!(rt; replies.as_slice().starts_with(replies_front.as_bytes()));
-        assert!(rt; errors.as_slice().starts_with(errors_front.as_bytes()));
+        assert_eq!(rt; replies.is_empty(), replies_prefix.is_empty());
+        assert_eq!(rt; errors.is_empty(), errors_prefix.is_empty());
+        assert!(rt; replies.as_slice().starts_with(replies_prefix.as_bytes()));
+        assert!(rt; errors.as_slice().starts_with(errors_prefix.as_bytes()));
     }
     Ok(())
 }
@@ -550,11 +550,11 @@ fn words_that_cannot_be_had(rt: HostRuntime) -> Result<(), Fail> {
             b"error: the arguments are not UTF-8\n",
         ),
     ];
-    for (kind, status, told) in cases {
+    for (kind, status, reported) in cases {
         let (answered, replies, errors) = run_in_memory(&rt, Err(kind.into()), b"creat\n");
         assert_eq!(rt; answered, status);
         assert!(rt; replies.is_empty());
-        assert_eq!(rt; errors.as_slice(), told);
+        assert_eq!(rt; errors.as_slice(), reported);
     }
     Ok(())
 }
@@ -592,7 +592,7 @@ fn folders(rt: HostRuntime) -> Result<(), Fail> {
             b"groupsh: read 2, written 1, groups 2, runs 1\n",
         ),
     ];
-    for (due, shown, told) in cases {
+    for (due, shown, reported) in cases {
         let line = [
             "groupsh",
             "--stats",
@@ -604,7 +604,7 @@ fn folders(rt: HostRuntime) -> Result<(), Fail> {
         let (status, replies, errors) = run_in_memory(&rt, Ok(words), script);
         assert_eq!(rt; status, due);
         assert_eq!(rt; replies.as_slice(), shown);
-        assert_eq!(rt; errors.as_slice(), told);
+        assert_eq!(rt; errors.as_slice(), reported);
         if due == 1 {
             fs::create_dir(&rt, folder.as_str())?;
         }

@@ -30,7 +30,7 @@ returns-clause-stopped g c =
     let errors : Stream = record { before = before; after = g.E.Write.contents c.stop_for_fault.new.errors } in
     StoppedForMemory errors status ⊎ ((word : TableWord) → fault.word < length words → Stopped errors (fault_text short (slice_index_or words fault.word word).file.now fault.why) (status_of fault.why) status) in
     let before = g.E.Write.contents c.read_words.new.errors in
-    let told = subst (λ (b : Option (List ℕ)). T b ragged words) (ap g.E.Write.contents c.in_ok-words.ensures.quiet)
+    let reported = subst (λ (b : Option (List ℕ)). T b ragged words) (ap g.E.Write.contents c.in_ok-words.ensures.quiet)
     (subst (λ (s : Short). T before s words) c.short_by-short.ensures
     (subst (λ (ws : List TableWord). T before c.short_by-short.result ws) c.as_slice-in-Err.ensures.value c.stop_for_fault.ensures)) in (
       not_none _ c.args.options.now.tables.items _ (c.is_empty.ensures ∙ ap (λ n. n == 0) c.args.options.now.tables.ok.0) c.if-is_empty.false,
@@ -40,7 +40,7 @@ returns-clause-stopped g c =
           subst (λ (ws : List TableWord). IsFaultOf contents ragged GREATEST ws fault) c.as_slice.ensures.value
           (subst (λ (s : Short). IsFaultOf contents s GREATEST c.as_slice.result.now fault) c.short_by-short.ensures
           (subst (λ (b : Bounds). IsFaultOf contents c.short_by-short.result b c.as_slice.result.now fault) c.requires.limits (c.in-Err.ensures.refused contents asked))))
-          (subst (λ (ws : List TableWord). fault.word < length ws) c.as_slice.ensures.value c.in-Err.ensures.within) told,
+          (subst (λ (ws : List TableWord). fault.word < length ws) c.as_slice.ensures.value c.in-Err.ensures.within) reported,
     )
 
 pub returns-then-is_empty-clause-started : goal.returns-then-is_empty-clause-started

@@ -1,5 +1,5 @@
 //! Texts written to a stream.
-ghost use Rattle.gq_shell.specs.Streams.{Told, stream};
+ghost use Rattle.gq_shell.specs.Streams.{Written, stream};
 
 use std::io::Write;
 
@@ -10,13 +10,13 @@ pub struct CutShort;
 
 /// Writes a text, and flushes. Any error ends it, also an interrupted call; a prefix of the text was
 /// written then.
-pub fn tell<W: Write>(text: &str, writer: &mut W) -> Result<(), CutShort>
-    ensures { Told (stream W.contents writer.old writer.new) text.now result }
+pub fn write_text<W: Write>(text: &str, writer: &mut W) -> Result<(), CutShort>
+    ensures { Written (stream W.contents writer.old writer.new) text.now result }
 {
     let bytes = text.as_bytes();
     let mut at = 0;
     while at < bytes.len() {
-        let (_told, left) = bytes.split_at(at);
+        let (_written, left) = bytes.split_at(at);
         match writer.write(left) {
             Ok(0) => return Err(CutShort),
             Ok(n) => at += n,

@@ -1,6 +1,6 @@
 use Rattle.std.proofs.Common.{◌≤◌, ◌-◌, take, length}
 use Rattle.std.specs.Io.KnownBytes.{Appends}
-use Rattle.gq_shell.proofs.telling.tell.Given as goal
+use Rattle.gq_shell.proofs.writing.write_text.Given as goal
 
 abbrev pub invariant-loop-at : goal.invariant-loop-at
 invariant-loop-at g l = record {

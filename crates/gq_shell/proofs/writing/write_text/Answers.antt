@@ -1,7 +1,7 @@
 use Rattle.std.proofs.Common.{arith, subst, ℕ, List}
 use Rattle.gq_engine.specs.Sending.{AppendsPrefix}
 use Rattle.gq_engine.proofs.Bytes.{wrote_more, prefix_kept}
-use Rattle.gq_shell.proofs.telling.tell.Goals as goal
+use Rattle.gq_shell.proofs.writing.write_text.Goals as goal
 
 pub loop-at-preserved : goal.loop-at-preserved
 loop-at-preserved g c = record {

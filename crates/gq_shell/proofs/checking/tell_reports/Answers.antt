@@ -1,4 +1,0 @@
-use Rattle.gq_shell.proofs.checking.tell_reports.Goals as goal
-
-pub returns : goal.returns
-returns g c = c.tell_all.ensures _ (record { left = c.new-checker.ensures.left; lines = c.new-checker.ensures.lines })
