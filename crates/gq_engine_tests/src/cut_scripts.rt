@@ -108,9 +108,9 @@ fn assert_cut(rt: &impl Abort, alloc: Global, parts: &[Part]) -> Result<(), Fail
     let whole = script_of(alloc, parts)?;
     for count in 0..whole.len().saturating_add(1) {
         let due = replies_to_front(alloc, parts, count)?;
-        let (front, _rest) = whole.as_slice().split_at(count.min(whole.len()));
+        let (prefix, _rest) = whole.as_slice().split_at(count.min(whole.len()));
         for size in [1usize, 1_000] {
-            let (written, ended) = run_over(alloc, Pieces::of(front, size));
+            let (written, ended) = run_over(alloc, Pieces::of(prefix, size));
             assert!(rt; ended.is_ok(), "{count} by {size}");
             assert_eq!(rt; written.as_slice(), due.as_slice(), "{count} by {size}");
         }
@@ -188,8 +188,8 @@ fn assert_writes_fail(
         let mut writer = Fussy::new(alloc, 1, trouble, k);
         let ended = run_into(alloc, whole.as_slice(), &mut writer);
         assert!(rt; ended == Err(Fault::Write), "write {k}");
-        let (front, _rest) = due.as_slice().split_at((k - 1).min(due.len()));
-        assert_eq!(rt; writer.written.as_slice(), front, "write {k}");
+        let (prefix, _rest) = due.as_slice().split_at((k - 1).min(due.len()));
+        assert_eq!(rt; writer.written.as_slice(), prefix, "write {k}");
     }
     Ok(())
 }

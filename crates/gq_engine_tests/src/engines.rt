@@ -57,7 +57,7 @@ pub fn written_to<H: KeyHash<Key> + Copy, S: RunStore>(
 }
 
 /// What an engine writes for a script, which must run without a fault.
-pub fn answers<H: KeyHash<Key> + Copy, S: RunStore>(
+pub fn replies_to<H: KeyHash<Key> + Copy, S: RunStore>(
     alloc: Global,
     engine: &mut Engine<H, S>,
     script: &[u8],

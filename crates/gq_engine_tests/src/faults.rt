@@ -1,6 +1,6 @@
 //! Readers and writers that fail: what was written by then, and what the tables hold.
 use crate::devices::{Endless, Fussy, Pieces, Trouble};
-use crate::engines::{answers, engine, run, run_alone};
+use crate::engines::{engine, replies_to, run, run_alone};
 use crate::expected::expect_at;
 use crate::runs::{STATIONS, script};
 use gq_engine::Fault;
@@ -43,7 +43,7 @@ fn expect_fault<R: Read + Drop, W: Write>(
     let mut engine = engine(alloc, Limits::greatest());
     let ended = run(&mut engine, reader, writer);
     assert!(rt; ended == Err(fault), "after {commands}");
-    let counted = answers(alloc, &mut engine, b"group s by city show count(*)")?;
+    let counted = replies_to(alloc, &mut engine, b"group s by city show count(*)")?;
     expect_at(rt, commands, counted.as_slice(), cities_after(commands));
     Ok(())
 }
@@ -133,12 +133,12 @@ fn expect_write_fault(
     trouble: Trouble,
 ) -> Result<(), Fail> {
     let taken = k.saturating_sub(1).min(due.len());
-    let (front, _rest) = due.split_at(taken);
+    let (prefix, _rest) = due.split_at(taken);
     // Each of the first four replies has five bytes.
     let commands = (taken / 5 + 1).min(5);
     let mut writer = Fussy::new(alloc, 1, trouble, k);
     expect_fault(rt, alloc, script, &mut writer, Fault::Write, commands)?;
-    expect_at(rt, k, writer.written.as_slice(), front);
+    expect_at(rt, k, writer.written.as_slice(), prefix);
     Ok(())
 }
 

@@ -173,9 +173,9 @@ const FRAMES: [(&[u8], &[u8], &str); 6] = [
     (b"load s\n", b"\\", "o.."),
 ];
 
-/// A hundred bytes in lines, between `front` and `end`.
-fn framed(alloc: Global, front: &[u8], end: &[u8]) -> Result<Vec<u8>, AllocError> {
-    let mut script = Vec::from_slice(alloc, front)?;
+/// A hundred bytes in lines, between `prefix` and `end`.
+fn framed(alloc: Global, prefix: &[u8], end: &[u8]) -> Result<Vec<u8>, AllocError> {
+    let mut script = Vec::from_slice(alloc, prefix)?;
     for _ in 0..20 {
         script.extend_from_slice(b"1234\n")?;
     }
@@ -191,10 +191,10 @@ fn assert_frames(
     frames: &[(&[u8], &[u8], &str)],
     size: usize,
 ) -> Result<(), Fail> {
-    for (front, end, wants) in frames {
-        let script = framed(alloc, front, end)?;
+    for (prefix, end, wants) in frames {
+        let script = framed(alloc, prefix, end)?;
         let reader = Pieces::of(script.as_slice(), size);
-        expect_items(rt, alloc, (*front, size), reader, limits, wants)?;
+        expect_items(rt, alloc, (*prefix, size), reader, limits, wants)?;
     }
     Ok(())
 }

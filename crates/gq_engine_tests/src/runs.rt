@@ -219,8 +219,8 @@ fn expect_cut(
     size: usize,
     due: &[u8],
 ) {
-    let (front, _rest) = script.split_at(count.min(script.len()));
-    let (written, ended) = run_alone(alloc, Limits::greatest(), Pieces::of(front, size));
+    let (prefix, _rest) = script.split_at(count.min(script.len()));
+    let (written, ended) = run_alone(alloc, Limits::greatest(), Pieces::of(prefix, size));
     expect_at(rt, (count, size), ended.is_ok(), true);
     expect_at(rt, (count, size), written.as_slice(), due);
 }

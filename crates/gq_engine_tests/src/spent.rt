@@ -1,5 +1,5 @@
 //! The work that an engine reports for its groupings.
-use crate::engines::{answers, engine, engine_over};
+use crate::engines::{engine, engine_over, replies_to};
 use crate::expected::expect_at;
 use gq_engine::{Engine, MemStore, Spent};
 use gq_row::{Key, Limits};
@@ -43,9 +43,9 @@ fn expect_grouped<H: KeyHash<Key> + Copy>(
     budget: u32,
     due: Spent,
 ) -> Result<(), Fail> {
-    let replies = answers(alloc, engine, b"group b by n show count(*)")?;
-    let front: &[u8] = b"ok 50\nn,count(*)\n0,10\n1,10\n";
-    assert!(rt; replies.as_slice().starts_with(front));
+    let replies = replies_to(alloc, engine, b"group b by n show count(*)")?;
+    let prefix: &[u8] = b"ok 50\nn,count(*)\n0,10\n1,10\n";
+    assert!(rt; replies.as_slice().starts_with(prefix));
     expect_at(rt, budget, engine.spent(), due);
     Ok(())
 }
@@ -70,7 +70,7 @@ fn assert_takes<H: KeyHash<Key> + Copy>(
 ) -> Result<(), Fail> {
     let script = rows_in_groups(alloc)?;
     let mut engine = engine_over(alloc, hasher, MemStore::new(alloc), budget)?;
-    answers(alloc, &mut engine, script.as_slice())?;
+    replies_to(alloc, &mut engine, script.as_slice())?;
     expect_at(rt, budget, engine.spent(), NOTHING);
     expect_grouped(rt, alloc, &mut engine, budget, due)?;
     expect_grouped(rt, alloc, &mut engine, budget, twice(due))
@@ -124,8 +124,8 @@ fn expect_forty(
     let script = forty_keys(alloc)?;
     for (line, (rows_read, groups)) in groupings {
         let mut engine = engine_over(alloc, Constant(0), MemStore::new(alloc), 1)?;
-        answers(alloc, &mut engine, script.as_slice())?;
-        answers(alloc, &mut engine, line)?;
+        replies_to(alloc, &mut engine, script.as_slice())?;
+        replies_to(alloc, &mut engine, line)?;
         let due = spent(*rows_read, 780, *groups, 39);
         expect_at(rt, *line, engine.spent(), due);
     }
@@ -212,7 +212,7 @@ fn expect_lines(
     lines: &[(&[u8], &[u8], (u64, u64))],
 ) -> Result<(), Fail> {
     for (line, reply, (rows_read, groups)) in lines {
-        let replies = answers(alloc, engine, line)?;
+        let replies = replies_to(alloc, engine, line)?;
         expect_at(rt, *line, replies.as_slice(), *reply);
         let due = spent(*rows_read, 0, *groups, 0);
         expect_at(rt, *line, engine.spent(), due);

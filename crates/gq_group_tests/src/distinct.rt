@@ -3,7 +3,7 @@ ghost use Rattle.std.specs.Prelude.{◌≡◌};
 ghost use Rattle.gq_group.specs.Distinct.{all_have};
 ghost use Rattle.gq_group.specs.Groups.{has_columns as columns_there};
 
-use crate::groups::{Answer, Rows, are_even, rows_of, told};
+use crate::groups::{Answer, Rows, are_even, rows_of, text_of};
 use crate::list_sink::ListSink;
 use crate::list_source::ListSource;
 use gq_group::{Budget, Refusal, group_distinct};
@@ -102,12 +102,12 @@ fn by_each_hasher(
     let spread = counted(alloc, Fnv1a { seed: 0 }, columns, list, 2);
     let between = counted(alloc, LowBits(7), columns, rows_of(alloc, rows)?, 2);
     let mut answers = Vec::new(alloc);
-    answers.push(told(alloc, spread)?)?;
-    answers.push(told(alloc, between)?)?;
+    answers.push(text_of(alloc, spread)?)?;
+    answers.push(text_of(alloc, between)?)?;
     for entries in [1, 2, 7] {
         let list = rows_of(alloc, rows)?;
         let alike = counted(alloc, Constant(0), columns, list, entries);
-        answers.push(told(alloc, alike)?)?;
+        answers.push(text_of(alloc, alike)?)?;
     }
     Ok(answers)
 }

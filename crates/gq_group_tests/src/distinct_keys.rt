@@ -3,7 +3,7 @@ ghost use Rattle.std.specs.Prelude.{◌≡◌};
 ghost use Rattle.std.specs.List.{list_all};
 ghost use Rattle.gq_group.specs.Groups.{has_columns as columns_there};
 
-use crate::groups::{Answer, Rows, are_even, rows_of, told};
+use crate::groups::{Answer, Rows, are_even, rows_of, text_of};
 use crate::list_sink::ListSink;
 use crate::list_source::ListSource;
 use gq_group::{Budget, Refusal};
@@ -78,11 +78,11 @@ fn by_each_hasher(alloc: Global, columns: &[usize], rows: Rows) -> Result<Vec<St
     let spread = keys(alloc, Fnv1a { seed: 0 }, columns, rows_of(alloc, rows)?, 2);
     let between = keys(alloc, LowBits(7), columns, rows_of(alloc, rows)?, 2);
     let mut answers = Vec::new(alloc);
-    answers.push(told(alloc, spread)?)?;
-    answers.push(told(alloc, between)?)?;
+    answers.push(text_of(alloc, spread)?)?;
+    answers.push(text_of(alloc, between)?)?;
     for entries in [1, 2, 7] {
         let alike = keys(alloc, Constant(0), columns, rows_of(alloc, rows)?, entries);
-        answers.push(told(alloc, alike)?)?;
+        answers.push(text_of(alloc, alike)?)?;
     }
     Ok(answers)
 }

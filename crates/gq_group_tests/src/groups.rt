@@ -87,7 +87,7 @@ pub(crate) fn grouped_over<H: KeyHash<Key> + Copy, S: RunStore>(
 }
 
 /// The result of a grouping as text: the numbers of rows and of groups, and then each group.
-pub(crate) fn told(alloc: Global, found: Result<Answer, Refusal>) -> Result<String, AllocError> {
+pub(crate) fn text_of(alloc: Global, found: Result<Answer, Refusal>) -> Result<String, AllocError> {
     let mut out = String::new(alloc);
     match found {
         Ok(answer) => {
@@ -249,9 +249,9 @@ fn by_each_hasher(alloc: Global, spec: &GroupSpec, rows: Rows) -> Result<Vec<Str
     let alike = grouped(alloc, Constant(0), spec, rows_of(alloc, rows)?);
     let between = grouped(alloc, LowBits(7), spec, rows_of(alloc, rows)?);
     let mut answers = Vec::new(alloc);
-    answers.push(told(alloc, spread)?)?;
-    answers.push(told(alloc, alike)?)?;
-    answers.push(told(alloc, between)?)?;
+    answers.push(text_of(alloc, spread)?)?;
+    answers.push(text_of(alloc, alike)?)?;
+    answers.push(text_of(alloc, between)?)?;
     Ok(answers)
 }
 
@@ -366,7 +366,7 @@ fn fifty(alloc: Global) -> Result<Vec<String>, AllocError> {
 }
 
 /// The result of counting and summing by these remainders.
-pub(crate) fn fifty_told(alloc: Global) -> Result<String, AllocError> {
+pub(crate) fn fifty_text(alloc: Global) -> Result<String, AllocError> {
     let mut text = String::from_str(alloc, "500 rows, 50 groups")?;
     for group in fifty(alloc)?.as_slice() {
         text.push_str("; ")?;
@@ -384,7 +384,7 @@ pub(crate) fn counts_and_sums(alloc: Global) -> Result<GroupSpec, AllocError> {
 fn five_hundred_rows_in_fifty_groups(rt: HostRuntime) -> Result<(), Fail> {
     let alloc = rt.alloc();
     let spec = counts_and_sums(alloc)?;
-    let due = fifty_told(alloc)?;
+    let due = fifty_text(alloc)?;
     for found in by_each_hasher(alloc, &spec, Rows::Remainders)?.as_slice() {
         assert_eq!(rt; found.as_str(), due.as_str());
     }

@@ -1,6 +1,6 @@
 //! Groups of several aggregates, which are stored in one list for all groups: past each growth of the list, and
 //! with each allocation failing in turn.
-use crate::groups::{Answer, grouped_over, spec, told};
+use crate::groups::{Answer, grouped_over, spec, text_of};
 use gq_agg::AggKind;
 use gq_group::Refusal;
 use gq_row::{Key, Row, Text, Value};
@@ -105,9 +105,9 @@ fn groups_past_each_growth(rt: HostRuntime) -> Result<(), Fail> {
     for keys in [0, 1, 2, 3, 4, 6, 7, 12, 13, 25, 26, 51, 52, 102, 103, 205] {
         let due = due(alloc, keys)?;
         for order in [Order::InPairs, Order::InRounds] {
-            let spread = told(alloc, groups_in(alloc, Fnv1a { seed: 0 }, order, keys))?;
+            let spread = text_of(alloc, groups_in(alloc, Fnv1a { seed: 0 }, order, keys))?;
             assert_eq!(rt; spread.as_str(), due.as_str(), "{keys} keys");
-            let alike = told(alloc, groups_in(alloc, Constant(0), order, keys))?;
+            let alike = text_of(alloc, groups_in(alloc, Constant(0), order, keys))?;
             assert_eq!(rt; alike.as_str(), due.as_str(), "{keys} keys");
         }
     }
@@ -132,7 +132,7 @@ fn refused_in(
         }
         drop(kept);
         if is_whole {
-            assert_eq!(rt; told(alloc, answer)?.as_str(), due);
+            assert_eq!(rt; text_of(alloc, answer)?.as_str(), due);
         }
         starved.end(alloc, Vec::new(alloc));
         if is_whole {

@@ -1,7 +1,7 @@
 //! How many rows are written to runs for groups past the budget, and to how many runs.
 use crate::counting::Counting;
 use crate::groups::{
-    Answer, Rows, counts_and_sums, fifty_told, grouped_over, row, rows_of, spec, told,
+    Answer, Rows, counts_and_sums, fifty_text, grouped_over, row, rows_of, spec, text_of,
 };
 use gq_agg::AggKind;
 use gq_group::{GroupSpec, Refusal};
@@ -48,7 +48,7 @@ struct Work {
 }
 
 /// What a grouping reports that it took, with the records that the store got and the runs that it has.
-fn spent_told(
+fn spent_text(
     alloc: Global,
     found: &Result<Answer, Refusal>,
     store: &Counting<MemStore>,
@@ -74,9 +74,9 @@ fn work_of<H: KeyHash<Key> + Copy>(
 ) -> Result<Work, AllocError> {
     let mut store = Counting::new(alloc, MemStore::new(alloc));
     let found = grouped_over(alloc, hasher, spec, rows, &mut store, entries);
-    let spent = spent_told(alloc, &found, &store)?;
+    let spent = spent_text(alloc, &found, &store)?;
     Ok(Work {
-        groups: told(alloc, found)?,
+        groups: text_of(alloc, found)?,
         spent,
     })
 }
@@ -136,7 +136,7 @@ fn assert_fifty<H: KeyHash<Key> + Copy>(
     let spec = counts_and_sums(alloc)?;
     let rows = rows_of(alloc, Rows::Remainders)?;
     let work = work_of(alloc, hasher, &spec, rows, entries)?;
-    assert_eq!(rt; work.groups.as_str(), fifty_told(alloc)?.as_str());
+    assert_eq!(rt; work.groups.as_str(), fifty_text(alloc)?.as_str());
     assert_eq!(rt; work.spent.as_str(), spent);
     Ok(())
 }

@@ -2,7 +2,7 @@
 use crate::counting::Counting;
 use crate::distinct::{CountedColumns, counted_over};
 use crate::distinct_keys::keys_over;
-use crate::groups::{Rows, counts_and_sums, fifty_told, grouped_over, rows_of, spec, told};
+use crate::groups::{Rows, counts_and_sums, fifty_text, grouped_over, rows_of, spec, text_of};
 use gq_agg::AggKind;
 use gq_row::Key;
 use gq_spill::{FuseStore, MemStore, Trouble};
@@ -20,7 +20,7 @@ fn over(alloc: Global, by: &[usize], rows: Rows, trouble: Trouble) -> Result<Str
     let spec = spec(alloc, by, &[(AggKind::CountAll, 0)])?;
     let mut store = FuseStore::new(MemStore::new(alloc), trouble);
     let rows = rows_of(alloc, rows)?;
-    told(
+    text_of(
         alloc,
         grouped_over(alloc, Fnv1a { seed: 0 }, &spec, rows, &mut store, 2),
     )
@@ -54,7 +54,7 @@ fn remainders_over<H: KeyHash<Key> + Copy>(
     let rows = rows_of(alloc, Rows::Remainders)?;
     let mut store = Counting::new(alloc, FuseStore::new(MemStore::new(alloc), trouble));
     let found = grouped_over(alloc, hasher, &spec, rows, &mut store, 10);
-    Ok((told(alloc, found)?, store.live))
+    Ok((text_of(alloc, found)?, store.live))
 }
 
 /// Asserts that there are no groups if a call from the first to the last fails, each in turn, and that no run
@@ -82,7 +82,7 @@ fn assert_ends_before<H: KeyHash<Key> + Copy>(
     trouble: Trouble,
 ) -> Result<(), Fail> {
     let (found, live) = remainders_over(alloc, hasher, trouble)?;
-    assert_eq!(rt; found.as_str(), fifty_told(alloc)?.as_str());
+    assert_eq!(rt; found.as_str(), fifty_text(alloc)?.as_str());
     assert_eq!(rt; live, 0);
     Ok(())
 }
@@ -156,7 +156,7 @@ fn worked_over(alloc: Global, asked: Asked, call: u64) -> Result<(String, u64), 
         }
         Asked::Keys => keys_over(alloc, Constant(0), &[0], rows, &mut store, 1),
     };
-    Ok((told(alloc, found)?, store.live))
+    Ok((text_of(alloc, found)?, store.live))
 }
 
 /// Lets each call of the store fail in turn until none does and the result is as expected, and returns how many

@@ -54,11 +54,11 @@ fn each_request_refused_in_turn(rt: HostRuntime) -> Result<(), Fail> {
         )
     );
     let mut refused = 0usize;
-    let mut told = 0usize;
+    let mut reported = 0usize;
     for step in 0..POOLS {
         let kept = starved.leave(alloc, STEP.saturating_mul(step))?;
         match load_rows(alloc, FAULTY, &schema, &limits) {
-            Err(LoadRefusal::BadInt(3)) => told = told.saturating_add(1),
+            Err(LoadRefusal::BadInt(3)) => reported = reported.saturating_add(1),
             Err(LoadRefusal::Memory) => {}
             _ => assert!(rt; false, "step {step}"),
         }
@@ -82,6 +82,6 @@ fn each_request_refused_in_turn(rt: HostRuntime) -> Result<(), Fail> {
     }
     // The allocations grow from a few bytes to some hundred, so more than ten steps fail.
     assert!(rt; 10 < refused && refused < POOLS, "{refused} refused");
-    assert!(rt; 0 < told, "{refused} refused");
+    assert!(rt; 0 < reported, "{refused} refused");
     Ok(())
 }

@@ -246,7 +246,7 @@ fn each_call_of_a_file_fails_in_turn(rt: HostRuntime) -> Result<(), Fail> {
 }
 
 #[test]
-fn a_write_that_fails_is_told_at_once(rt: HostRuntime) -> Result<(), Fail> {
+fn a_write_that_fails_is_reported_at_once(rt: HostRuntime) -> Result<(), Fail> {
     let manners = [
         Manner {
             takes: 0,

@@ -12,7 +12,7 @@ use std::process::Abort;
 use std::test::Fail;
 
 /// The result of a reader as text: the row that it read, that there is none, or the error.
-pub(crate) fn told(
+pub(crate) fn push_result(
     alloc: Global,
     out: &mut String,
     answer: Result<bool, SpillRefusal>,
@@ -26,7 +26,7 @@ pub(crate) fn told(
 }
 
 /// The first four results of a reader.
-pub(crate) fn answers<S: RunStore>(
+pub(crate) fn four_results<S: RunStore>(
     alloc: Global,
     store: &mut S,
     mark: RunMark,
@@ -39,13 +39,13 @@ pub(crate) fn answers<S: RunStore>(
     let mut out = String::new(alloc);
     let mut row = no_values(alloc);
     let first = reader.next(alloc, store, &mut row);
-    told(alloc, &mut out, first, &row)?;
+    push_result(alloc, &mut out, first, &row)?;
     let second = reader.next(alloc, store, &mut row);
-    told(alloc, &mut out, second, &row)?;
+    push_result(alloc, &mut out, second, &row)?;
     let third = reader.next(alloc, store, &mut row);
-    told(alloc, &mut out, third, &row)?;
+    push_result(alloc, &mut out, third, &row)?;
     let fourth = reader.next(alloc, store, &mut row);
-    told(alloc, &mut out, fourth, &row)?;
+    push_result(alloc, &mut out, fourth, &row)?;
     Ok(out)
 }
 
@@ -61,7 +61,7 @@ pub(crate) fn expect_answers<S: RunStore>(
     requires { IsTrue ((S.runs store.old).live mark.id.number) }
     ensures { IsTrue ((S.runs store.new).live mark.id.number) }
 {
-    let found = answers(alloc, store, mark, columns)?;
+    let found = four_results(alloc, store, mark, columns)?;
     assert_eq!(rt; found.as_str(), due);
     Ok(())
 }

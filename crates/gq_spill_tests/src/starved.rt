@@ -3,7 +3,7 @@
 ghost use Rattle.std.specs.Prelude.{IsTrue};
 
 use crate::expected::expect;
-use crate::reading::told;
+use crate::reading::push_result;
 use crate::records::with_record;
 use crate::rows::{no_case, no_values, spelled, text, worked};
 use crate::whole::{read_rows, write_rows};
@@ -178,7 +178,7 @@ fn long_rows(alloc: Global) -> Result<Vec<Row>, AllocError> {
 }
 
 // The results of a reader without memory, first over a row that it has read, and then over an empty one.
-fn told_over<S: RunStore>(alloc: Global, store: &mut S, mark: RunMark) -> Result<String, Fail>
+fn results_over<S: RunStore>(alloc: Global, store: &mut S, mark: RunMark) -> Result<String, Fail>
     requires { IsTrue ((S.runs store.old).live mark.id.number) }
 {
     let mut reader = RunReader::open(alloc, mark, 2);
@@ -191,8 +191,8 @@ fn told_over<S: RunStore>(alloc: Global, store: &mut S, mark: RunMark) -> Result
     let third = reader.next(alloc, store, &mut other);
     drop(starved);
     let mut out = String::new(alloc);
-    told(alloc, &mut out, second, &row)?;
-    told(alloc, &mut out, third, &other)?;
+    push_result(alloc, &mut out, second, &row)?;
+    push_result(alloc, &mut out, third, &other)?;
     Ok(out)
 }
 
@@ -203,7 +203,7 @@ fn a_row_over_another_takes_no_memory(rt: HostRuntime) -> Result<(), Fail> {
     let Ok(mark) = write_rows(rt.alloc(), &mut store, rows.as_slice()) else {
         return Err(Fail::from("not written"));
     };
-    let found = told_over(rt.alloc(), &mut store, mark)?;
+    let found = results_over(rt.alloc(), &mut store, mark)?;
     assert_eq!(rt;
         found.as_str(),
         "'a town of a name that takes one too',7;out of memory;"

@@ -2,7 +2,7 @@
 ghost use Rattle.std.specs.Prelude.{IsTrue};
 
 use crate::expected::{expect, expect_at};
-use crate::reading::{DAMAGED, answers};
+use crate::reading::{DAMAGED, four_results};
 use crate::rows::{numbers, spelled};
 use crate::whole::{read_rows, write_rows};
 use gq_row::Row;
@@ -56,18 +56,18 @@ fn each_call_fails_in_turn(rt: HostRuntime) -> Result<(), Fail> {
 }
 
 /// The results of a reader of two rows if a call goes wrong after they were written.
-fn answers_after(alloc: Global, trouble: Trouble) -> Result<String, AllocError> {
+fn results_after(alloc: Global, trouble: Trouble) -> Result<String, AllocError> {
     let rows = numbers(alloc, 2)?;
     let mut store = MemStore::new(alloc);
     let Ok(mark) = write_rows(alloc, &mut store, rows.as_slice()) else {
         return String::from_str(alloc, "not written");
     };
     let mut failing = with_trouble(store, mark.id, trouble);
-    answers(alloc, &mut failing, mark, 1)
+    four_results(alloc, &mut failing, mark, 1)
 }
 
 fn expect_after(rt: &impl Abort, alloc: Global, trouble: Trouble, due: &str) -> Result<(), Fail> {
-    let found = answers_after(alloc, trouble)?;
+    let found = results_after(alloc, trouble)?;
     assert_eq!(rt; found.as_str(), due);
     Ok(())
 }

@@ -30,12 +30,12 @@ pub(crate) enum Call {
 /// Makes each call of a list, and expects its result.
 pub(crate) fn play<H: KeyHash<u64>>(rt: &impl Abort, map: &mut Numbers<H>, calls: &[Call]) {
     for (i, call) in calls.iter().enumerate() {
-        assert!(rt; answers(map, *call), "call {i}");
+        assert!(rt; is_expected(map, *call), "call {i}");
     }
 }
 
 // Makes a call, and returns whether its result is the expected one.
-fn answers<H: KeyHash<u64>>(map: &mut Numbers<H>, call: Call) -> bool {
+fn is_expected<H: KeyHash<u64>>(map: &mut Numbers<H>, call: Call) -> bool {
     match call {
         Call::Insert(key, value) => inserts(map, key, value),
         Call::Present(key, value) => gives_back(map, key, value),
