@@ -8,4 +8,5 @@ pub mod OutcomeLemmas
 pub mod Placing
 pub mod RollupLemmas
 pub mod SpellingLemmas
+pub mod TieLemmas
 pub mod Unseen

@@ -34,6 +34,14 @@ pub record IsGroupAt (cells : List Value) (span : GroupSpan) : Type 0 where
   pub within : end_of span ≤ length cells
   pub prefixed : IsSortPrefix (part cells span.start (middle_of span)) span.prefix
 
+-- a span has this prefix
+abbrev pub HasPrefix : SortPrefix → GroupSpan → Type 0
+HasPrefix prefix span = span.prefix ≡ prefix
+
+-- a span with this prefix in place of its own
+abbrev pub with_prefix : SortPrefix → GroupSpan → GroupSpan
+with_prefix prefix span = record { prefix = prefix; start = span.start; key = span.key; values = span.values }
+
 -- the order of two spans: by the two words of their prefixes, and by their keys if these tie
 abbrev pub compare_at : List Value → GroupSpan → GroupSpan → Ordering
 compare_at cells a b = ordering_then (ordering_then (nat_cmp a.prefix.high b.prefix.high) (nat_cmp a.prefix.low b.prefix.low)) (compare_keys (part cells a.start (middle_of a)) (part cells b.start (middle_of b)))

@@ -1,5 +1,5 @@
 -- Normalized sort keys: two words that say where a value is in the order.
-use Rattle.std.specs.Prelude.{◌≡◌, ℕ, zero, suc, ◌+◌, ◌-◌, ◌*◌, ◌^◌, ◌<◌, negsuc, ◌-ℤ◌, List, [], ◌∷◌, drop, get_or, unsigned_abs, FitsSigned}
+use Rattle.std.specs.Prelude.{◌≡◌, Bool, not, ◌&&◌, ℕ, zero, suc, ◌+◌, ◌-◌, ◌*◌, ◌%◌, ◌^◌, ◌<◌, nat_eq, nat_le, negsuc, ◌-ℤ◌, List, [], ◌∷◌, drop, get_or, unsigned_abs, FitsSigned}
 use Rattle.std.specs.Int.{w64}
 use Rattle.gq_row.specs.declared.value.Value.{Value}
 use Rattle.gq_row.specs.declared.value.Value.TheVariants.{Null, Int, Text, NoCase}
@@ -19,6 +19,17 @@ prefix_of Null = record { high = 0; low = 0 }
 prefix_of (Int n) = record { high = 2 ^ 56; low = unsigned_abs (n -ℤ negsuc (2 ^ 63 - 1)) }
 prefix_of (Text text) = record { high = 2 * 2 ^ 56 + leading 7 text; low = leading 8 (drop 7 text) }
 prefix_of (NoCase text) = record { high = 3 * 2 ^ 56 + leading 7 (fold_case text); low = leading 8 (drop 7 (fold_case text)) }
+
+-- a prefix with fifteen bytes of a text, the last of them not zero
+abbrev pub is_full : SortPrefix → Bool
+is_full prefix = nat_le (2 * 2 ^ 56) prefix.high && not (nat_eq (prefix.low % 256) 0)
+
+-- a value without the first `n` bytes of its text
+abbrev pub without_bytes : ℕ → Value → Value
+without_bytes n Null = Null
+without_bytes n (Int m) = Int m
+without_bytes n (Text text) = Text (drop n text)
+without_bytes n (NoCase text) = NoCase (drop n text)
 
 -- the values that a machine holds: numbers of 64 bits, and texts of bytes
 abbrev pub IsOfBytes : Value → Type 0

@@ -11,6 +11,7 @@ ghost use Rattle.gq_query.specs.GroupSpans.{IsSpan, compare_at, end_of, middle_o
 ghost use Rattle.gq_query.specs.Joining.{row_of};
 
 use crate::sort_prefix::{SortPrefix, prefix_in};
+use crate::tie_sort::sort_ties;
 use gq_cells::{Cells, Rows, Span};
 use gq_group::{GroupSink, Refusal};
 use gq_row::{Key, Value};
@@ -23,9 +24,9 @@ use std::marker::Model;
 /// `values` cells of its values. It has 24 bytes, since each group has one and sorts move it.
 #[derive(Clone, Copy)]
 pub struct GroupSpan {
-    prefix: SortPrefix,
+    pub(crate) prefix: SortPrefix,
     start: u32,
-    key: u16,
+    pub(crate) key: u16,
     values: u16,
 }
 
@@ -59,7 +60,7 @@ impl GroupSpan {
 
     // Where the cells of the key begin.
     #[inline]
-    fn start(&self) -> usize
+    pub(crate) fn start(&self) -> usize
         ensures { result ≡ self.now.start }
     {
         self.start as usize
@@ -67,7 +68,7 @@ impl GroupSpan {
 
     // Where the cells of the key end.
     #[inline]
-    fn middle(&self) -> usize
+    pub(crate) fn middle(&self) -> usize
         ensures { result ≡ middle_of self.now }
     {
         self.start as usize + self.key as usize
@@ -208,12 +209,15 @@ impl GroupList {
         self.cells.copy_part(self.alloc, span, values)
     }
 
-    /// Sorts the groups by their keys: by prefixes first, and by whole keys if prefixes tie.
+    /// Sorts the groups by their keys. Once they are sorted by prefixes, cell after cell, the sort
+    /// by whole keys is one pass.
     pub fn sort(&mut self)
         ensures moved { IsPermutation self.old self.new }
         ensures ascending { IsSortedByKey (λ (g : Group). g.0) compare_keys self.new }
     {
         let cells = &self.cells;
+        self.groups.sort_unstable_by(|a, b| a.prefix.cmp(&b.prefix));
+        sort_ties(self.alloc, cells, self.groups.as_mut_slice());
         self.groups
             .sort_unstable_by(|a, b| compare_spans(cells, a, b));
     }
@@ -300,7 +304,7 @@ fn compare_spans(cells: &Cells, a: &GroupSpan, b: &GroupSpan) -> Ordering
 
 // The same if the prefixes tie. Not inlined, so that the sort's loops stay short.
 #[inline(never)]
-fn compare_keys_at(cells: &Cells, a: &GroupSpan, b: &GroupSpan) -> Ordering
+pub(crate) fn compare_keys_at(cells: &Cells, a: &GroupSpan, b: &GroupSpan) -> Ordering
     ensures { result ≡ compare_keys (part cells.now a.now.start (middle_of a.now))
         (part cells.now b.now.start (middle_of b.now)) }
 {

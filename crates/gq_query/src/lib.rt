@@ -50,6 +50,7 @@ mod sort_prefix;
 mod spelling;
 mod spending;
 mod table_rows;
+mod tie_sort;
 
 pub use distinct::distinct_rows;
 pub use gq_select::OutputColumn;

@@ -1,10 +1,12 @@
 //! Normalized sort keys: the first sixteen bytes of what a row is sorted by.
-ghost use Rattle.std.specs.Prelude.{◌≡◌, slice_index_or};
-ghost use Rattle.gq_row.specs.declared.value.Value.TheVariants.{NoCase, Text};
+ghost use Rattle.std.specs.Prelude.{◌≡◌, drop, slice_index_or};
+ghost use Rattle.gq_row.specs.declared.value.Value.TheVariants.{Int, NoCase, Text};
 ghost use Rattle.gq_row.specs.Folding.{fold_case};
+ghost use Rattle.gq_cells.specs.Cells.{value_of};
 ghost use Rattle.gq_query.specs.Answers.{ordered_by};
-ghost use Rattle.gq_query.specs.SortPrefixes.{IsSortPrefix, IsValuePrefix, prefix_of, leading};
+ghost use Rattle.gq_query.specs.SortPrefixes.{IsSortPrefix, IsValuePrefix, is_full, prefix_of, leading, without_bytes};
 
+use gq_cells::CellRef;
 use gq_row::{Value, fold_eight};
 
 /// The normalized key of a value, cut to 16 bytes: 0 for null, 1 and a number, 2 and the first 15
@@ -16,7 +18,8 @@ pub struct SortPrefix {
     low: u64,
 }
 
-const NULL: SortPrefix = SortPrefix { high: 0, low: 0 };
+/// The prefix of null.
+pub const NULL: SortPrefix = SortPrefix { high: 0, low: 0 };
 
 // The highest byte for a number.
 const NUMBER: u64 = 1 << 56;
@@ -26,6 +29,18 @@ const TEXT: u64 = 2 << 56;
 
 // The highest byte for a text without case.
 const NO_CASE: u64 = 3 << 56;
+
+/// How many bytes of a text a prefix has.
+pub const TEXT_BYTES: usize = 15;
+
+impl SortPrefix {
+    /// Whether it has as many bytes of a text as it can, so that the text may have more.
+    pub fn is_full(&self) -> bool
+        ensures { result ≡ is_full self.now }
+    {
+        self.high >= TEXT && self.low % 256 != 0
+    }
+}
 
 /// The prefix of the first value that a row is ordered by.
 #[inline]
@@ -47,12 +62,39 @@ fn value_prefix(value: &Value) -> SortPrefix
 {
     match value {
         Value::Null => NULL,
-        Value::Int(n) => SortPrefix {
-            high: NUMBER,
-            low: n.abs_diff(i64::MIN),
-        },
+        Value::Int(n) => number_prefix(*n),
         Value::Text(text) => text_prefix(text.as_str().as_bytes()),
         Value::NoCase(text) => folded_prefix(text.as_str().as_bytes()),
+    }
+}
+
+/// The prefix of a value without the first `skip` bytes, if it is a text.
+#[inline]
+pub fn cell_prefix(cell: CellRef<'_>, skip: usize) -> SortPrefix
+    ensures { IsValuePrefix (without_bytes skip (value_of cell.entry)) result }
+{
+    match cell {
+        CellRef::Null => NULL,
+        CellRef::Int(n) => number_prefix(n),
+        CellRef::Text(text) => text_prefix(bytes_from(text, skip)),
+        CellRef::NoCase(text) => folded_prefix(bytes_from(text, skip)),
+    }
+}
+
+#[inline]
+fn bytes_from(text: &gq_row::Text, skip: usize) -> &[u8]
+    ensures { result.now ≡ drop skip text.now }
+{
+    text.as_str().as_bytes().get(skip..).unwrap_or(&[])
+}
+
+#[inline]
+fn number_prefix(n: i64) -> SortPrefix
+    ensures { IsValuePrefix (Int n) result }
+{
+    SortPrefix {
+        high: NUMBER,
+        low: n.abs_diff(i64::MIN),
     }
 }
 
