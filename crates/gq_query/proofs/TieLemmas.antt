@@ -4,7 +4,7 @@ use lib.ListN.{set}
 use borrow.Rule.Slice.PartMut.{mid_of, post_of, put_mid}
 use Rattle.std.proofs.lemmas.List.{drop-map, map-append, take-map, take_at}
 use Rattle.std.proofs.lemmas.List.Elements.{All-head, All-tail}
-use Rattle.std.proofs.lemmas.List.Sorted.{IsPermutation-map, IsPermutation-put_mid, IsPermutation-trans, length_permutation}
+use Rattle.std.proofs.lemmas.List.Sorted.{IsPermutation-put_mid, IsPermutation-trans, length_permutation}
 use Rattle.gq_query.specs.declared.sort_prefix.SortPrefix.{SortPrefix}
 use Rattle.gq_query.specs.declared.group_list.GroupSpan.{GroupSpan}
 use Rattle.gq_query.specs.GroupSpans.{HasPrefix, with_prefix}

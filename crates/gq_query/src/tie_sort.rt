@@ -1,8 +1,8 @@
-//! Sorts groups whose prefixes tie.
+//! Sorts groups whose prefixes tie, depth first.
 //!
 //! They are sorted by the prefixes of the next cell of their keys, or of the next bytes of a text
-//! that a prefix cuts. Those that tie again are sorted by what comes next, and so on. So a sort
-//! compares prefixes in its own list, and reads each cell once.
+//! that is longer than a prefix; then those that tie again by what follows, and so on. Comparisons
+//! read only the list of groups, and no key in memory.
 ghost use Rattle.std.specs.Prelude.{◌≡◌, ◌<◌, ◌≤◌, ◌+◌, ℕ, All, IsTrue, IsPermutation, length, map, slice_index_or};
 ghost use Rattle.gq_row.specs.Rows.{cell};
 ghost use Rattle.gq_cells.specs.Lists.{part};
@@ -48,8 +48,8 @@ impl Run {
     }
 }
 
-/// Sorts the groups of each run whose prefixes tie, as far as prefixes tell. `groups` are in the
-/// order of their prefixes.
+/// Sorts the groups of each run whose prefixes tie. `groups` are in the order of their prefixes.
+/// Keys that differ only after a zero byte of a text may stay in another order.
 pub(crate) fn sort_ties(alloc: Global, cells: &Cells, groups: &mut [GroupSpan])
     ensures { IsPermutation groups.old groups.new }
 {
@@ -64,7 +64,7 @@ pub(crate) fn sort_ties(alloc: Global, cells: &Cells, groups: &mut [GroupSpan])
     }
 }
 
-// Where the prefixes stop to tie with the one at `at`, or `limit`.
+// The end of the groups from `at` on that have its prefix, or `limit` if that comes first.
 #[inline]
 fn tie_end(groups: &[GroupSpan], at: usize, limit: usize) -> usize
     requires { at < length groups.now }

@@ -1,6 +1,5 @@
-use Rattle.std.proofs.Common.{◌≡◌, ◌<◌, ◌≤◌, length, map, refl, sym, subst, arith, rules, IsPermutation}
+use Rattle.std.proofs.Common.{◌<◌, ◌≤◌, length, map, refl, sym, subst, arith, rules, IsPermutation}
 use lib.Seq.{map-set_same}
-use Rattle.std.proofs.lemmas.Grind.{common_steps}
 use Rattle.gq_query.specs.declared.group_list.GroupSpan.{GroupSpan}
 use Rattle.gq_query.specs.GroupSpans.{with_prefix}
 use Rattle.gq_query.proofs.TieLemmas.{given_more, moved_back}

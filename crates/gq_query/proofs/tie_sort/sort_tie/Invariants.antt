@@ -1,4 +1,4 @@
-use Rattle.std.proofs.Common.{◌≡◌, ◌<◌, ℕ, get_or, map, IsPermutation}
+use Rattle.std.proofs.Common.{◌<◌, ℕ, get_or, map, IsPermutation}
 use Rattle.gq_query.specs.declared.group_list.GroupSpan.{GroupSpan}
 use Rattle.gq_query.specs.GroupSpans.{HasPrefix, with_prefix}
 use Rattle.gq_query.proofs.tie_sort.sort_tie.Given as goal

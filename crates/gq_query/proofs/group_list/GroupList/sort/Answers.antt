@@ -1,4 +1,4 @@
-use Rattle.std.proofs.Common.{◌≡◌, map, subst, rules, IsPermutation}
+use Rattle.std.proofs.Common.{map, subst, rules, IsPermutation}
 use Rattle.std.proofs.lemmas.List.Sorted.{All-permutation, IsPermutation-map}
 use Rattle.gq_query.specs.GroupSpans.{IsGroupAt, group_at}
 use Rattle.gq_query.proofs.GroupSpanLemmas.{groups_sorted, sorted_at}
