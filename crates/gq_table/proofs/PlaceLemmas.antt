@@ -411,8 +411,19 @@ module _ (hash : List ℕ → ℕ) (key : List ℕ) (first new : List Row) (plac
   pub row_is : slice_index_or staged i [] ≡ slice_index_or new i []
   row_is = left_there staged new i [] so_far.left
 
-  pub row_columns : All (λ row. All (λ position. position < length row) key) new → All (λ position. position < length (slice_index_or staged i [])) key
-  row_columns all = subst (λ (row : Row). All (λ position. position < length row) key) (sym row_is) (all i [] in_new)
+  keys_next : map (key_of key) (drop i new) ≡ key_of key (slice_index_or new i []) ∷ map (key_of key) (drop (i + 1) new)
+  keys_next = ap (map (key_of key)) (drop-cons new i [] in_new) ∙ ap (λ m. key_of key (slice_index_or new i []) ∷ map (key_of key) (drop m new)) (sym (add-one i))
+
+  -- of the keys of the remaining rows there is one
+  pub keys_left : (ks : List (List Value)) → ks ≡ map (key_of key) (drop i new) → 0 < length ks
+  keys_left ks are = subst (λ (l : List (List Value)). 0 < length l) (sym (are ∙ keys_next)) (omega arith)
+
+  -- the first is the key of the row, and those after it are of the rows after it
+  pub key_next : (ks others : List (List Value)) (k : List Value) → ks ≡ map (key_of key) (drop i new) → ks ≡ k ∷ others
+      → (k ≡ key_of key (slice_index_or staged i [])) × (others ≡ map (key_of key) (drop (i + 1) new))
+  key_next ks others k are is =
+      let same : k ∷ others ≡ key_of key (slice_index_or new i []) ∷ map (key_of key) (drop (i + 1) new) = sym is ∙ are ∙ keys_next in
+      (ap (λ (l : List (List Value)). slice_index_or l 0 []) same ∙ ap (key_of key) (sym row_is), ap (drop 1) same)
 
   pub row_even : AreEven first new → All (λ other. length other ≡ length (slice_index_or staged i [])) rows
   row_even even =

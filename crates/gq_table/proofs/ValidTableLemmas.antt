@@ -203,6 +203,3 @@ pub key_in_range : (h : PlainSchema) (row : List Value) → IsTrue (is_schema h)
 key_in_range h row schema fits =
     all_tested (λ position. position < length row) (λ position. nat_lt position (length h.columns))
     (λ position below. omega (arith, ltb-true position (length h.columns) below, as_long h.columns row fits)) h.key (two _ _ (two _ _ schema).1).1
-
-pub keys_in_range : (h : PlainSchema) (rows : List (List Value)) → IsTrue (is_schema h) → list_all (fits_columns h.columns) rows ≡ true → All (λ row. All (λ position. position < length row) h.key) rows
-keys_in_range h rows schema fits = all_tested (λ row. All (λ position. position < length row) h.key) (fits_columns h.columns) (λ row. key_in_range h row schema) rows fits

@@ -1,5 +1,6 @@
 //! Loads: all rows of one keyed store are put into another, or none.
-ghost use Rattle.std.specs.Prelude.{◌≡◌, ◌+◌, ◌<◌, ◌≤◌, ◌⊎◌, ◌++◌, All, IsTrue, IfOk, IfErr, OnOk, OnErr, length, take, count_by, fold};
+ghost use Rattle.std.specs.Prelude.{◌≡◌, ◌+◌, ◌<◌, ◌≤◌, ◌⊎◌, ◌++◌, IsTrue, IfOk, IfErr, OnOk, OnErr, length, map, take, count_by, fold};
+ghost use Rattle.gq_row.specs.Rows.{key_of};
 ghost use Rattle.gq_row.specs.Tables.{put_by_key};
 ghost use Rattle.gq_table.specs.Keyed.{OwnKeys, AreApart};
 ghost use Rattle.gq_table.specs.Places.{AreEven, ArePlaces, AreStillThere, AreThere, is_absent, with_place, without_place};
@@ -23,8 +24,6 @@ impl<H: KeyHash<Key> + Copy> KeyedRows<H> {
         staged: KeyedRows<H>,
         most: usize,
     ) -> Result<(), TableRefusal>
-        requires columns { All (λ row. All (λ position. position < length row) positions.now)
-            staged.rows }
         requires even { AreEven self.old.rows staged.rows }
         requires own { OwnKeys positions.now self.old }
         requires mine { OwnKeys positions.now staged }
@@ -55,9 +54,10 @@ impl<H: KeyHash<Key> + Copy> KeyedRows<H> {
         if most < self.len().saturating_add(new) {
             return Err(TableRefusal::Limit);
         }
-        let KeyedRows { rows, .. } = staged;
+        let KeyedRows { index, rows } = staged;
+        let keys = index.into_keys();
         let mut rows = rows;
-        let Ok(()) = self.add_absent(alloc, positions, places.as_slice(), &mut rows) else {
+        let Ok(()) = self.add_absent(positions, places.as_slice(), keys, &mut rows) else {
             return Err(TableRefusal::Memory);
         };
         self.place_found(positions, places.as_slice(), &mut rows);
@@ -86,18 +86,17 @@ impl<H: KeyHash<Key> + Copy> KeyedRows<H> {
         Ok(places)
     }
 
-    // Adds the absent rows, whose values move. On error none is added.
+    // Adds the absent rows, whose keys and values move. On error none is added.
     fn add_absent(
         &mut self,
-        alloc: Global,
         positions: &[usize],
         places: &[Found],
+        keys: Vec<Key>,
         staged: &mut RowStore,
     ) -> Result<(), AllocError>
-        requires columns { All (λ row. All (λ position. position < length row) positions.now)
-            staged.old }
         requires even { AreEven self.old.rows staged.old }
         requires own { OwnKeys positions.now self.old }
+        requires keys { keys.items ≡ map (key_of positions.now) staged.old }
         requires apart { IsTrue (AreApart positions.now staged.old) }
         requires places { ArePlaces positions.now
             (H.hash_of self.old.index.hasher) self.old.rows staged.old places.now }
@@ -108,7 +107,7 @@ impl<H: KeyHash<Key> + Copy> KeyedRows<H> {
         ensures err { OnErr result (self.new ≡ self.old) }
     {
         let rows = self.len();
-        match self.add_each(alloc, positions, places, staged) {
+        match self.add_each(positions, places, keys, staged) {
             Ok(()) => Ok(()),
             Err(e) => {
                 self.leave(rows);
@@ -120,15 +119,14 @@ impl<H: KeyHash<Key> + Copy> KeyedRows<H> {
     // Adds the absent rows one by one. On error some may have been added, after all others.
     fn add_each(
         &mut self,
-        alloc: Global,
         positions: &[usize],
         places: &[Found],
+        keys: Vec<Key>,
         staged: &mut RowStore,
     ) -> Result<(), AllocError>
-        requires columns { All (λ row. All (λ position. position < length row) positions.now)
-            staged.old }
         requires even { AreEven self.old.rows staged.old }
         requires own { OwnKeys positions.now self.old }
+        requires keys { keys.items ≡ map (key_of positions.now) staged.old }
         requires apart { IsTrue (AreApart positions.now staged.old) }
         requires places { ArePlaces positions.now
             (H.hash_of self.old.index.hasher) self.old.rows staged.old places.now }
@@ -139,10 +137,16 @@ impl<H: KeyHash<Key> + Copy> KeyedRows<H> {
         ensures kept { take (length self.old.rows) self.new.rows ≡ self.old.rows }
         ensures hasher { self.new.index.hasher ≡ self.old.index.hasher }
     {
+        let _ = positions;
+        let mut keys = keys.into_iter();
         'rows: for i in 0..places.len() {
-            if let Found::Absent(absence) = places[i] {
-                let key = Key::of(alloc, staged.row(i), positions)?;
-                self.push(absence, key, staged.row_mut(i))?;
+            let Some(key) = keys.next() else {
+                unreachable!()
+            };
+            match places[i] {
+                Found::Absent(absence) => self.push(absence, key, staged.row_mut(i))?,
+                // A call: an inline drop would be proved variant by variant here.
+                Found::At(_) => drop(key),
             }
         }
         Ok(())

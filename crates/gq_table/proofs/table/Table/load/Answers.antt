@@ -1,4 +1,4 @@
-use Rattle.std.proofs.Common.{◌≡◌, ◌<◌, All, IsTrue, length, refl, sym, ap, subst, ◌∙◌, None}
+use Rattle.std.proofs.Common.{◌≡◌, IsTrue, length, refl, sym, ap, subst, ◌∙◌, None}
 use Rattle.std.specs.Prelude.{OnOk, OnErr, IfErr}
 use Rattle.gq_row.specs.Tables.{PlainTable}
 use Rattle.gq_row.proofs.FittingLemmas.{all_as_long, each_as_long}
@@ -7,7 +7,7 @@ use Rattle.gq_table.specs.Keyed.{OwnKeys, AreApart}
 use Rattle.gq_table.specs.Refusing.{load_refusal, WhyNotLoaded}
 use Rattle.gq_table.specs.Stored.{IsStored, rows_of}
 use Rattle.gq_table.specs.declared.rows.Storage.TheVariants.{Keyed, Columnar}
-use Rattle.gq_table.proofs.ValidTableLemmas.{table, keys_in_range, rows_limit}
+use Rattle.gq_table.proofs.ValidTableLemmas.{table, rows_limit}
 use Rattle.gq_table.proofs.StoredLemmas.{apart_of, loaded_keyed, loaded_columnar, keyed_own, keyed_some, staged_fit, IsColumnar, LoadKeyed, LoadColumnar}
 use Rattle.gq_table.proofs.table.Table.load.Goals as goal
 
@@ -20,7 +20,6 @@ load-requires g c =
     let key = c.self.inside.schema.key in
     let some = keyed_some key c.in-Keyed.keyed stored.placed in
     record {
-      columns = subst (λ k. All (λ row. All (λ position. position < length row) k) c.in-Keyed-rows.staged.rows) (sym c.key.ensures.positions) (keys_in_range c.self.inside.schema c.in-Keyed-rows.staged.rows c.key.ensures.schema mine.valid.fitting);
       even = (length c.self.inside.schema.columns, all_as_long c.self.inside.schema.columns c.in-Keyed.keyed.rows (length c.self.inside.schema.columns) stored.valid.fitting refl, all_as_long c.self.inside.schema.columns c.in-Keyed-rows.staged.rows (length c.self.inside.schema.columns) mine.valid.fitting refl);
       own = subst (λ k. OwnKeys k c.in-Keyed.keyed) (sym c.key.ensures.positions) (keyed_own key c.in-Keyed.keyed stored.placed);
       mine = subst (λ k. OwnKeys k c.in-Keyed-rows.staged) (sym c.key.ensures.positions) (keyed_own key c.in-Keyed-rows.staged mine.placed);
