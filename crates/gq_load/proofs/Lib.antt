@@ -1,3 +1,4 @@
+pub mod AsciiLemmas
 pub mod Completing
 mod Covering
 pub mod EachRow

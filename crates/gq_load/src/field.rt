@@ -1,10 +1,11 @@
 //! Fields of data records as values.
-ghost use Rattle.std.specs.Prelude.{◌≡◌};
+ghost use Rattle.std.specs.Prelude.{◌≡◌, IsUtf8, MatchOption};
 ghost use Rattle.gq_row.specs.declared.value.Value.TheVariants as variant;
 ghost use Rattle.gq_load.specs.Answers.{Gives};
 ghost use Rattle.gq_load.specs.Fields.{is_null_field, int_value, text_value, value_of};
 ghost use Rattle.gq_load.specs.Numbers.{int_of};
 
+use crate::ascii::is_ascii;
 use crate::load_refusal::LoadRefusal;
 use crate::number::int_of;
 use gq_row::{Kind, Value};
@@ -65,13 +66,21 @@ fn int_value(number: u64, field: &[u8]) -> Result<Value, LoadRefusal>
 fn text_of<'a>(longest: usize, number: u64, field: &'a [u8]) -> Result<&'a str, LoadRefusal>
     ensures { Gives (λ text. variant.Text text.now) result (text_value longest number field.now) }
 {
-    match str::from_utf8(field) {
-        Err(_e) => Err(LoadRefusal::BadText(number)),
-        Ok(text) => {
-            if field.len() > longest {
-                return Err(LoadRefusal::Limit);
-            }
-            Ok(text)
-        }
+    let Some(text) = utf8_of(field) else {
+        return Err(LoadRefusal::BadText(number));
+    };
+    if field.len() > longest {
+        return Err(LoadRefusal::Limit);
     }
+    Ok(text)
+}
+
+/// The bytes as a text, if they are UTF-8. For ASCII that takes fewer steps to find.
+fn utf8_of(bytes: &[u8]) -> Option<&str>
+    ensures { MatchOption result (¬ IsUtf8 bytes.now) (λ text. (text.now ≡ bytes.now) × IsUtf8 bytes.now) }
+{
+    if is_ascii(bytes) {
+        return Some(unsafe { str::from_utf8_unchecked(bytes) });
+    }
+    str::from_utf8(bytes).ok()
 }

@@ -14,6 +14,7 @@
 //! [`laws`] say in the subject's own words what `load` means.
 #![tactic(auto)]
 
+mod ascii;
 mod field;
 mod header;
 pub mod laws;
