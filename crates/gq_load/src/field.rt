@@ -34,7 +34,7 @@ pub(crate) fn write_value(
     }
     match kind {
         Kind::Int => {
-            *value = int_value(number, field)?;
+            value.write_number(number_of(number, field)?);
             Ok(())
         }
         Kind::Text => Ok(value.write_text(alloc, text_of(longest, number, field)?)?),
@@ -52,11 +52,13 @@ pub fn is_null(kind: Kind, field: &[u8]) -> bool
     }
 }
 
-fn int_value(number: u64, field: &[u8]) -> Result<Value, LoadRefusal>
-    ensures { Gives (λ v. v) result (int_value number (int_of field.now)) }
+/// The number of a field.
+#[inline]
+fn number_of(number: u64, field: &[u8]) -> Result<i64, LoadRefusal>
+    ensures { Gives (λ n. variant.Int n) result (int_value number (int_of field.now)) }
 {
     match int_of(field) {
-        Some(n) => Ok(Value::Int(n)),
+        Some(n) => Ok(n),
         None => Err(LoadRefusal::BadInt(number)),
     }
 }

@@ -6,6 +6,7 @@ ghost use Rattle.gq_load.specs.Numbers.{is_space, int_of, magnitude, number_of, 
 
 /// The number that a field spells. Most fields have no spaces, so the whole field is tried first.
 #[tactic(auto, using(crate::proofs::Spelling::unspaced))]
+#[inline]
 pub fn int_of(field: &[u8]) -> Option<i64>
     ensures { result ≡ int_of field.now }
 {
@@ -19,6 +20,7 @@ pub fn int_of(field: &[u8]) -> Option<i64>
 
 /// The number that a field spells between spaces.
 #[tactic(auto, unfolding(crate::specs::Numbers::int_of))]
+#[cold]
 fn between_spaces(field: &[u8]) -> Option<i64>
     ensures { result ≡ int_of field.now }
 {
