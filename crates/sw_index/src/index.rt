@@ -1,5 +1,5 @@
 //! The index.
-ghost use Rattle.std.specs.Prelude.{◌≡◌, ◌<◌, ◌++◌, ◌∷◌, [], Some, length, OnOk, OnErr};
+ghost use Rattle.std.specs.Prelude.{◌≡◌, ◌↔◌, ◌<◌, ◌++◌, ◌∷◌, [], Some, IsTrue, length, OnOk, OnErr};
 ghost use Rattle.std.specs.List.{slice_get};
 ghost use Rattle.sw_index.specs.Index.{IsFound, IsAbsent, IsAbsence, AreDifferent};
 
@@ -67,6 +67,14 @@ impl<K: Keyed, H: KeyHash<K>> Index<K, H> {
         self.keys.as_slice()
     }
 
+    /// The hash of the key that `q` names, for the calls that take a hash.
+    #[inline]
+    pub fn hash<Q: Names<K>>(&self, q: &Q) -> u64
+        ensures { result ≡ H.hash_of self.now.hasher (Q.named q.now) }
+    {
+        self.hasher.hash(q)
+    }
+
     /// The number of the key that `q` names; or its absence, with which [`Index::add`] adds a key of its class.
     #[inline]
     pub fn find<Q: Names<K>>(&self, q: &Q) -> Found
@@ -74,7 +82,17 @@ impl<K: Keyed, H: KeyHash<K>> Index<K, H> {
         ensures absent { IsAbsent K.class (H.hash_of self.now.hasher) self.now.keys
             (Q.named q.now) result }
     {
-        let hash = self.hasher.hash(q);
+        self.find_hashed(q, self.hash(q))
+    }
+
+    /// As [`Index::find`], with the hash of the key.
+    #[inline]
+    pub fn find_hashed<Q: Names<K>>(&self, q: &Q, hash: u64) -> Found
+        requires { hash ≡ H.hash_of self.now.hasher (Q.named q.now) }
+        ensures found { IsFound K.class self.now.keys (Q.named q.now) result }
+        ensures absent { IsAbsent K.class (H.hash_of self.now.hasher) self.now.keys
+            (Q.named q.now) result }
+    {
         let sought = Sought {
             keys: self.keys.as_slice(),
             key: q,
@@ -83,6 +101,29 @@ impl<K: Keyed, H: KeyHash<K>> Index<K, H> {
         match self.numbers.find(&sought) {
             Some(slot) => Found::At(self.numbers.at(slot).0.number),
             None => Found::Absent(Absence { hash }),
+        }
+    }
+
+    /// The number that a look-up with this hash reads first, if that is the hash of its key: probably the number
+    /// of the key. No contract covers it.
+    #[inline]
+    pub fn candidate(&self, hash: u64) -> Option<usize> {
+        let numbered = self.numbers.candidate(hash)?;
+        if numbered.hash == hash {
+            Some(numbered.number)
+        } else {
+            None
+        }
+    }
+
+    /// Whether the key that `q` names has this number.
+    #[inline]
+    pub fn is_at<Q: Names<K>>(&self, number: usize, q: &Q) -> bool
+        ensures { IsTrue result ↔ IsFound K.class self.now.keys (Q.named q.now) (Found.At number) }
+    {
+        match self.keys.get(number) {
+            Some(key) => q.same(key),
+            None => false,
         }
     }
 

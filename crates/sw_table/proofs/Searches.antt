@@ -3,7 +3,9 @@ use Rattle.std.proofs.Common.{◌≡◌, ◌≢◌, ℕ, ◌+◌, ◌*◌, ◌/�
 use mathlib.Core.Bool.{true≢false}
 use native.Mathlib.Nat.{mod-lt}
 use native.Mathlib.Decide.{dec_lt}
+use Rattle.std.specs.List.{position}
 use Rattle.std.specs.Prelude.{Contains}
+use Rattle.std.proofs.lemmas.List.Quantifiers.{position-Some}
 use Rattle.std.proofs.lemmas.Bool.{eqb-true, eq-eqb}
 use Rattle.std.proofs.lemmas.List.{get_or-map, get_or_past, get_or_default, length-map}
 use Rattle.std.proofs.lemmas.Simd.{get_or-chunk, length-chunk}
@@ -35,6 +37,13 @@ module _ (bs : List ℕ) (g y : ℕ) (room : 16 * g + 16 ≤ length bs) (ms : Li
 
   pub lane_set : (l : ℕ) → l < 16 → slice_index bs (16 * g + l) ≡ y → get_or ms l false ≡ true
   lane_set l lt e = lane_is l lt ∙ eq-eqb _ y e
+
+-- the slot of the first lane that has a byte of an entry is full
+pub marked_lane : {K V : Type 0} (class : K → List ℕ) (hash : List ℕ → ℕ) (ps : List (Option (K × V))) (bs : List ℕ) → IsLaidOut class hash ps bs → (g y : ℕ) (ms : List Bool) → 16 * g + 16 ≤ length bs
+    → ms ≡ map (λ b. nat_eq b y) (take 16 (drop (16 * g) bs)) → y < 128 → (l : ℕ) → position (λ b. b) ms ≡ Some l → IsSome (get_or ps (16 * g + l) None)
+marked_lane class hash ps bs t g y ms room is low l first =
+    let h = lane_has bs g y room ms is l (position-Some (λ b. b) ms l false first).1 in
+    t.full (16 * g + l) (omega (arith, h.0, room)) (omega (arith, h.1, low))
 
 module _ {K V : Type 0} (class : K → List ℕ) (hash : List ℕ → ℕ) (ps : List (Option (K × V))) (bs : List ℕ) (t : IsLaidOut class hash ps bs) (q : List ℕ) where
   abbrev Tested : ℕ → Type 0

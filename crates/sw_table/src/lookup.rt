@@ -61,6 +61,19 @@ impl<K: Keyed, V, H: KeyHash<K>> Table<K, V, H> {
         }
     }
 
+    /// The key that a look-up with this hash compares first: of the slots of its first group, that of the first
+    /// whose byte has the seven low bits. No contract covers it.
+    #[inline]
+    pub fn candidate(&self, hash: u64) -> Option<&K> {
+        let groups = self.ctrl.len() / WIDTH;
+        if groups == 0 {
+            return None;
+        }
+        let at = Probe::new(hash, groups).group();
+        let lane = self.ctrl.group(at).match_h2(h2(hash)).lowest()?;
+        Some(&self.slots.get(WIDTH * at + lane as usize).0)
+    }
+
     /// The entry in a full slot.
     #[inline]
     pub fn at(&self, slot: SlotNo) -> (&K, &V)
