@@ -1,5 +1,6 @@
 pub mod AccessLemmas
 pub mod AggLemmas
+pub mod BlockLemmas
 pub mod Bounds
 pub mod ChunkLemmas
 pub mod Costs

@@ -9,7 +9,7 @@ use Rattle.gq_row.specs.declared.value.Value.{Value}
 use Rattle.gq_spill.specs.Runs.{Runs}
 use Rattle.gq_group.specs.Access.{RunSet, either, Apart, LeavesOthers, KeepsOwn, HasCause, GroupCause}
 use Rattle.gq_group.specs.Entries.{Pair}
-use Rattle.gq_group.specs.Groups.{Spec, all_fit, fits_spec}
+use Rattle.gq_group.specs.Groups.{Spec, all_fit}
 use Rattle.gq_group.specs.Partitioning.{one_if_some, lots, fan_out}
 use Rattle.gq_group.specs.Passes.{AreRows, Places, Reads, IsWide, left_lots}
 use Rattle.gq_group.specs.Residents.{Resident}
@@ -84,12 +84,12 @@ wide-step [] row count columns counted wide = subst (λ n. length row ≡ cond (
 wide-step (d ∷ done) row count columns counted wide = wide ∙ ap (λ b. cond b (length row) columns) (sym (not_none count (omega (arith, counted))))
 
 -- nothing was read so far
-pub reads-none : (spec : Spec) (budget : ℕ) (part_of : List Value → ℕ) (n : ℕ) (honest : Bool) (before : List (List Value) → Type 0) (r : Runs) (m : List Pair) (partitions : List Partition)
-    → Resident spec budget [] m → length partitions ≡ n → AreEmpty partitions → Reads spec budget part_of n honest before before r 0 0 0 0 m partitions
-reads-none spec budget part_of n honest before r m partitions start same empty = record {
+pub reads-none : (spec : Spec) (budget : ℕ) (part_of : List Value → ℕ) (n : ℕ) (honest : Bool) (before now : List (List Value) → Type 0) (r : Runs) (m : List Pair) (partitions : List Partition)
+    → ((rows : List (List Value)) → before rows → now rows) → Resident spec budget [] m → length partitions ≡ n → AreEmpty partitions → Reads spec budget part_of n honest before now r 0 0 0 0 m partitions
+reads-none spec budget part_of n honest before now r m partitions told start same empty = record {
   done = [];
   counted = refl;
-  rest = λ h rows b. (rows, refl, b);
+  rest = λ h rows b. (rows, refl, told rows b);
   resident = start;
   held = held-empty r part_of spec.by 0 n partitions same empty;
   wrote = refl;
@@ -125,20 +125,15 @@ reads-step spec budget as_many part_of by_part n honest before now after r s t c
     place : Places spec budget part_of n row s t m m' partitions partitions' w b
     place = subst (λ x. Places spec x part_of n row s t m m' partitions partitions' w b) same (subst (λ f. Places spec as_many f n row s t m m' partitions partitions' w b) alike placed)
 
--- a row that was read, and can't be grouped, was none of those that were there
-pub not-damaged : (spec : Spec) (budget : ℕ) (part_of : List Value → ℕ) (n : ℕ) (honest : Bool) (before now after : List (List Value) → Type 0) (r : Runs) (count written began columns : ℕ) (m : List Pair) (partitions : List Partition) (row : List Value)
-    → Reads spec budget part_of n honest before now r count written began columns m partitions
-    → (IsTrue honest → (rows : List (List Value)) × before rows × AreRows spec rows)
-    → (IsTrue honest → (rows : List (List Value)) → now rows → (rest : List (List Value)) × (rows ≡ row ∷ rest) × after rest)
-    → fits_spec spec row ≡ false → IsTrue honest → ⊥
-not-damaged spec budget part_of n honest before now after r count written began columns m partitions row read known next unfit h =
-    let rows = known h in
-    let left = read.rest h rows.0 rows.1 in
-    let more = next h left.0 left.2 in
-    unlike read.done more.0 (subst (λ l. IsTrue (all_fit spec l)) (left.1 ∙ ap (λ l. read.done ++ l) more.1) rows.2.0)
+-- the rows that are still to come can be grouped
+pub known-left : (spec : Spec) (budget : ℕ) (part_of : List Value → ℕ) (n : ℕ) (honest : Bool) (before now : List (List Value) → Type 0) (r : Runs) (count written began columns : ℕ) (m : List Pair) (partitions : List Partition)
+    → Reads spec budget part_of n honest before now r count written began columns m partitions → IsTrue honest → (rows : List (List Value)) × before rows × AreRows spec rows → (left : List (List Value)) × now left × IsTrue (all_fit spec left)
+known-left spec budget part_of n honest before now r count written began columns m partitions read h known =
+    let left = read.rest h known.0 known.1 in
+    (left.0, left.2, later read.done left.0 (subst (λ l. IsTrue (all_fit spec l)) left.1 known.2.0))
   where
-    unlike : (done rest : List (List Value)) → IsTrue (all_fit spec (done ++ row ∷ rest)) → ⊥
-    unlike done rest fit = grind (arith, common_steps)
+    later : (done rest : List (List Value)) → IsTrue (all_fit spec (done ++ rest)) → IsTrue (all_fit spec rest)
+    later done rest fit = grind (arith, common_steps)
 
 -- what the source has, what is in partitions, and what is held there, after a row was read and placed
 pub record Placing (a b : RunSet) (partitions partitions' : List Partition) (r0 r s t : Runs) : Type 0 where

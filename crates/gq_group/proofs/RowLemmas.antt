@@ -1,21 +1,22 @@
 -- Rows of a source are read, and what became of each.
-use Rattle.std.proofs.Common.{◌≡◌, ◌≤◌, ◌+◌, ◌∙◌, ◌==◌, ℕ, Bool, false, List, [], ◌∷◌, length, Result, Ok, Err, cond, sym, subst, arith}
+use Rattle.std.proofs.Common.{◌≡◌, ◌≤◌, ◌+◌, ◌∙◌, ◌==◌, ℕ, Bool, false, List, [], ◌∷◌, length, Result, Ok, Err, cond, refl, sym, subst, arith}
 use Rattle.std.specs.Prelude.{IsTrue, IsErrAnd}
 use Rattle.gq_row.specs.declared.value.Value.{Value}
 use Rattle.gq_spill.specs.Runs.{Runs}
 use Rattle.gq_group.specs.Access.{RunSet, Apart, either, LeavesOthers, KeepsOwn, HasCause}
 use Rattle.gq_group.specs.Entries.{Pair}
-use Rattle.gq_group.specs.Groups.{Spec, fits_spec}
+use Rattle.gq_group.specs.Blocks.{Then}
+use Rattle.gq_group.specs.Groups.{Spec}
 use Rattle.gq_group.specs.PassResults.{RowsRead}
-use Rattle.gq_group.specs.Passes.{AreRows, Places, Reads}
+use Rattle.gq_group.specs.Passes.{Places, Reads}
 use Rattle.gq_group.specs.Residents.{Resident}
 use Rattle.gq_group.specs.Partitions.{among, Ours, AllHeld, AreEmpty}
 use Rattle.gq_group.specs.declared.pass.Taken.{Taken}
 use Rattle.gq_group.specs.declared.refusal.Refusal.{Refusal}
-use Rattle.gq_group.specs.declared.refusal.Refusal.TheVariants.{Damaged}
 use Rattle.gq_group.specs.declared.partition.Partition.{Partition}
+use Rattle.gq_group.specs.declared.row_block.Ahead.{Ahead}
 use Rattle.gq_group.proofs.AccessLemmas.{keeps-apart, leaves-trans}
-use Rattle.gq_group.proofs.ReadLemmas.{apart-empty, apart-flip, apart-step, cause-later, leaves-left, not-damaged, others-empty, ours-empty, ours-stays, placing, placing-cause, reads-end, reads-none, reads-step}
+use Rattle.gq_group.proofs.ReadLemmas.{apart-empty, apart-flip, apart-step, cause-later, leaves-left, others-empty, ours-empty, ours-stays, placing, placing-cause, reads-end, reads-none, reads-step}
 use Rattle.gq_group.proofs.PartitionLemmas.{held-stays}
 
 -- what was done so far; at most `left` rows are still to come
@@ -39,11 +40,11 @@ at_err P (Ok x) e is h = absurd is
 at_err P (Err y) e is h = subst (λ x. P (Err x)) (sym is) h
 
 module _ (spec : Spec) (budget : ℕ) (part_of : List Value → ℕ) (fan_out most : ℕ) (gives : List (List Value) → Type 0) (a : RunSet) (source_makes : Bool) (r0 : Runs) where
-  pub rows-none : (source_ready : Type 0) (pairs : List Pair) (partitions : List Partition) → source_ready → Resident spec budget [] pairs → length partitions ≡ fan_out → AreEmpty partitions
-      → RowsSoFar spec budget part_of fan_out most most gives gives a a source_ready source_makes r0 r0 0 0 0 0 pairs partitions
-  rows-none source_ready pairs partitions ready start places empty = record {
+  pub rows-none : (first : List Ahead) (source_ready : Type 0) (pairs : List Pair) (partitions : List Partition) → first ≡ [] → source_ready → Resident spec budget [] pairs → length partitions ≡ fan_out → AreEmpty partitions
+      → RowsSoFar spec budget part_of fan_out most (length first + most) gives (Then first gives) a a source_ready source_makes r0 r0 0 0 0 0 pairs partitions
+  rows-none first source_ready pairs partitions none ready start places empty = subst (λ l. RowsSoFar spec budget part_of fan_out most (length l + most) gives (Then l gives) a a source_ready source_makes r0 r0 0 0 0 0 pairs partitions) (sym none) (record {
     ready = ready;
-    read = reads-none spec budget part_of fan_out r0.honest gives r0 pairs partitions start places empty;
+    read = reads-none spec budget part_of fan_out r0.honest gives (Then [] gives) r0 pairs partitions (λ rows is. (rows, refl, is)) start places empty;
     bound = omega arith;
     less = omega arith;
     less_runs = omega arith;
@@ -52,9 +53,9 @@ module _ (spec : Spec) (budget : ℕ) (part_of : List Value → ℕ) (fan_out mo
     apart = apart-empty partitions a empty;
     others = others-empty partitions a r0 empty;
     grows = λ run h. h;
-    owned = λ none run h. h;
-    made = λ none. omega arith;
-  }
+    owned = λ no_runs run h. h;
+    made = λ no_runs. omega arith;
+  })
 
   -- the source took a step
   module _ (b b' : RunSet) (left : ℕ) (now : List (List Value) → Type 0) (source_ready : Type 0) (r s : Runs) (count written began columns : ℕ) (pairs : List Pair) (partitions : List Partition)
@@ -112,24 +113,6 @@ module _ (spec : Spec) (budget : ℕ) (part_of : List Value → ℕ) (fan_out mo
 
     -- and gave a row
     module _ (row : List Value) (mid : List (List Value) → Type 0) (next : IsTrue r.honest → (rows : List (List Value)) → now rows → (rest : List (List Value)) × (rows ≡ row ∷ rest) × mid rest) where
-      -- that can't be grouped
-      pub rows-damaged : (ready : Type 0) → (IsTrue r0.honest → (rows : List (List Value)) × gives rows × AreRows spec rows) → fits_spec spec row ≡ false
-          → RowsRead spec budget part_of fan_out most gives a b' ready source_makes r0 s pairs partitions (Err Damaged)
-      rows-damaged ready known unfit = record {
-        read = tt;
-        bound = tt;
-        less_runs = tt;
-        places = inv.same_length;
-        source = tt;
-        ours = ours-stays r s b b' partitions step inv.ours;
-        apart = away;
-        others = stepped;
-        grows = grows;
-        owned = all_owned;
-        made = λ none. tt;
-        cause = not-damaged spec budget part_of fan_out r0.honest gives now mid r count written began columns pairs partitions row inv.read known (λ h. next (inv.others.same_honest ∙ h)) unfit;
-      }
-
       module _ (m' : List Pair) (partitions' : List Partition) (t : Runs) (places : length partitions' ≡ fan_out) (ours : Ours partitions' t) (put : LeavesOthers (among partitions) (among partitions') s t) (live : (run : ℕ) → IsTrue (b' run) → IsTrue (s.live run)) where
         -- for which there was no place
         pub rows-unplaced : (ready : Type 0) (q : Result Taken Refusal) (e : Refusal) → IsErrAnd q (λ y. y ≡ e) → ((parts : List (List (List Value))) → AllHeld s partitions parts → HasCause e s t)

@@ -1,4 +1,5 @@
 pub mod Access
+pub mod Blocks
 pub mod Counting
 pub mod Distinct
 pub mod Entries

@@ -110,14 +110,36 @@ impl<H: KeyHash<Key> + Copy> GroupMap<H> {
         self.index.room()
     }
 
-    // The number of a key's group, or the key's hash if it has none.
+    // The hash of a key, for the calls that take a hash.
     #[inline(always)]
-    pub(crate) fn find(&self, key: &KeyRef<'_>) -> Found
+    pub(crate) fn hash(&self, key: &KeyRef<'_>) -> u64
+        ensures { result ≡ H.hash_of self.now.hasher (class_of key.now) }
+    {
+        self.index.hash(key)
+    }
+
+    // The number of the group of a key with this hash, or the hash if the key has none. The candidate
+    // is tried first.
+    #[inline(always)]
+    pub(crate) fn find(&self, key: &KeyRef<'_>, hash: u64, candidate: Option<usize>) -> Found
+        requires { hash ≡ H.hash_of self.now.hasher (class_of key.now) }
         ensures found { IsGroup self.now.pairs (class_of key.now) result }
         ensures absent { IsNoGroup (H.hash_of self.now.hasher) self.now.pairs
             (class_of key.now) result }
     {
-        self.index.find(key)
+        if let Some(number) = candidate {
+            if self.index.is_at(number, key) {
+                return Found::At(number);
+            }
+        }
+        self.index.find_hashed(key, hash)
+    }
+
+    // The number of the group that a key with this hash probably has, by its slot alone. No contract
+    // covers it.
+    #[inline(always)]
+    pub(crate) fn candidate(&self, hash: u64) -> Option<usize> {
+        self.index.candidate(hash)
     }
 
     // Adds a row to the group of its key, by the group's number. On error the group's state is

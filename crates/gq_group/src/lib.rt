@@ -13,8 +13,10 @@
 //! spent.rows_read;                                     // how many rows there were
 //! ```
 //!
-//! A row's key is hashed once and looked up in the row; only the key of a new group is copied. All
-//! keys are in one list, in the order in which they came, and the running aggregates of all groups in
+//! Rows are read ahead, 32 at once, and hashed. If there are many groups, those of all 32 rows are
+//! looked for before the first row is placed, so that what this reads from memory comes at once. A
+//! row's key is hashed once and looked up in the row; only the key of a new group is copied. All keys
+//! are in one list, in the order in which they came, and the running aggregates of all groups in
 //! another, the same number for each, so that a key's number says where its own begin: a group
 //! allocates nothing but its key. No `count(*)` is kept with other aggregates, since each of these
 //! knows how many rows it was given.
@@ -67,6 +69,7 @@ mod partition;
 mod pass;
 mod refusal;
 mod resident_table;
+mod row_block;
 mod row_source;
 mod run_source;
 mod stack;

@@ -2,7 +2,7 @@
 ghost use Rattle.std.specs.Prelude.{◌≡◌, ◌+◌, ◌<◌, ◌≤◌, ◌^◌, [], List, length, IsTrue, IfOk, OnOk, IfErr, cond, ◌==◌};
 ghost use Rattle.gq_row.specs.declared.value.Value.{Value as Cell};
 ghost use Rattle.gq_group.specs.Access.{Apart, LeavesOthers, HasCause};
-ghost use Rattle.gq_group.specs.Groups.{fits_spec};
+ghost use Rattle.gq_group.specs.Blocks.{IsHashed};
 ghost use Rattle.gq_group.specs.PassResults.{RowsRead, PassRan};
 ghost use Rattle.gq_group.specs.Partitioning.{partition_of, partition_by, fan_out};
 ghost use Rattle.gq_group.specs.Passes.{AreRows, Places};
@@ -16,6 +16,7 @@ use crate::grouping::push_all;
 use crate::partition::{Partition, add_partitions, spill};
 use crate::refusal::Refusal;
 use crate::resident_table::{Offered, ResidentTable};
+use crate::row_block::{Ahead, RowBlock};
 use crate::row_source::RowSource;
 use gq_row::{Key, Row};
 use gq_spill::{RunStore, is_storable};
@@ -79,12 +80,13 @@ fn partition_of(depth: u32, hash: u64) -> usize
 #[inline(always)]
 fn place_row<H: KeyHash<Key> + Copy, S: RunStore>(
     pass: &Pass<'_, H>,
-    row: &Row,
+    ahead: &Ahead,
+    candidate: Option<usize>,
     store: &mut S,
     table: &mut ResidentTable<H>,
     partitions: &mut Vec<Partition>,
 ) -> Result<Placed, Refusal>
-    requires fits { IsTrue (fits_spec pass.now.spec.now row.now) }
+    requires ahead { IsHashed pass.now.spec.now (H.hash_of table.old.groups.hasher) ahead.now }
     requires each { table.old.groups.each ≡ length pass.now.spec.now.aggs }
     requires resident { (rows : List (List Cell)) × (length rows < 2 ^ 32) ×
         Resident pass.now.spec.now table.old.budget.entries rows table.old.groups.pairs }
@@ -92,7 +94,7 @@ fn place_row<H: KeyHash<Key> + Copy, S: RunStore>(
     requires ours { Ours partitions.old.items (S.runs store.old) }
     ensures places { IfOk result (λ placed. Places pass.now.spec.now table.old.budget.entries
         (partition_by (H.hash_of table.old.groups.hasher) pass.now.depth)
-        (fan_out pass.now.depth) row.now (S.runs store.old) (S.runs store.new) table.old.groups.pairs table.new.groups.pairs partitions.old.items partitions.new.items
+        (fan_out pass.now.depth) ahead.now.row (S.runs store.old) (S.runs store.new) table.old.groups.pairs table.new.groups.pairs partitions.old.items partitions.new.items
         placed.written placed.began) }
     ensures budget { table.new.budget ≡ table.old.budget }
     ensures each { table.new.groups.each ≡ table.old.groups.each }
@@ -108,7 +110,7 @@ fn place_row<H: KeyHash<Key> + Copy, S: RunStore>(
         IfErr result (λ e. HasCause e (S.runs store.old) (S.runs store.new)) }
 {
     let alloc = pass.context.alloc;
-    let Ok(offered) = table.offer(alloc, pass.spec, row) else {
+    let Ok(offered) = table.offer(alloc, pass.spec, ahead, candidate) else {
         return Err(Refusal::Memory);
     };
     let Offered::Left(hash) = offered else {
@@ -117,11 +119,11 @@ fn place_row<H: KeyHash<Key> + Copy, S: RunStore>(
             began: 0,
         });
     };
-    if !is_storable(row) {
+    if !is_storable(&ahead.row) {
         return Err(Refusal::Memory);
     }
     let place = partition_of(pass.depth, hash);
-    let began = spill(alloc, partitions, place, row, store)?;
+    let began = spill(alloc, partitions, place, &ahead.row, store)?;
     Ok(Placed { written: 1, began })
 }
 
@@ -161,17 +163,24 @@ fn read_rows<H: KeyHash<Key> + Copy, S: RunStore, R: RowSource<S>>(
     let mut rows_written: u64 = 0;
     let mut runs: u64 = 0;
     let mut columns: usize = 0;
-    let mut row = Row::new(Vec::new(pass.context.alloc));
+    let Ok(mut block) = RowBlock::new(pass.context.alloc) else {
+        return Err(Refusal::Memory);
+    };
     'rows: loop {
-        let more = source.next(store, &mut row)?;
-        if !more {
+        let found = block.next(pass, source, store, table)?;
+        let Some(place) = found else {
             break;
-        }
-        if !pass.spec.fits(&row) {
-            return Err(Refusal::Damaged);
-        }
-        let placed = place_row(pass, &row, store, table, partitions)?;
-        columns = width(rows_read, columns, &row);
+        };
+        let ahead = block.row(place);
+        let placed = place_row(
+            pass,
+            ahead,
+            block.candidate(place),
+            store,
+            table,
+            partitions,
+        )?;
+        columns = width(rows_read, columns, &ahead.row);
         rows_read += 1;
         rows_written += placed.written;
         runs += placed.began;

@@ -4,6 +4,7 @@ ghost use Rattle.std.specs.FinMap.{len};
 ghost use Rattle.gq_row.specs.declared.value.Value.{Value as Cell};
 ghost use Rattle.gq_row.specs.Classes.{class_of};
 ghost use Rattle.gq_row.specs.Rows.{key_of};
+ghost use Rattle.gq_group.specs.Blocks.{IsHashed};
 ghost use Rattle.gq_group.specs.Entries.{listed};
 ghost use Rattle.gq_group.specs.Groups.{fits_spec};
 ghost use Rattle.gq_group.specs.Residents.{Resident, Offers, HasHash};
@@ -12,10 +13,15 @@ use crate::budget::Budget;
 use crate::context::GroupContext;
 use crate::group_map::GroupMap;
 use crate::group_spec::GroupSpec;
+use crate::row_block::Ahead;
 use gq_row::{Key, KeyRef, Row};
 use std::alloc::{AllocError, Global};
 use sw_index::{Found, expects_new_keys};
 use sw_probe::KeyHash;
+
+// With fewer groups, about a megabyte, most of what a row needs is cached, and to look for candidates
+// costs as much as it saves.
+const MANY_GROUPS: usize = 8192;
 
 // At most the budget's number of groups.
 #[derive(Drop)]
@@ -73,31 +79,57 @@ impl<H: KeyHash<Key> + Copy> ResidentTable<H> {
         }
     }
 
-    // Adds a row to the group of its key, or to a new one if the budget allows it, by one look-up and
-    // one hash.
+    // Whether looking for candidates pays.
+    #[inline]
+    pub(crate) fn is_large(&self) -> bool {
+        self.groups.len() >= MANY_GROUPS
+    }
+
+    // The hash of a row's key.
+    #[inline(always)]
+    pub(crate) fn hash(&self, spec: &GroupSpec, row: &Row) -> u64
+        requires { IsTrue (fits_spec spec.now row.now) }
+        ensures { result ≡ H.hash_of self.now.groups.hasher
+            (class_of (key_of spec.now.by row.now)) }
+    {
+        self.groups.hash(&KeyRef::new(row.cells(), spec.by()))
+    }
+
+    // The number of the group that a key with this hash probably has, by its slot alone. No contract
+    // covers it.
+    #[inline(always)]
+    pub(crate) fn candidate(&self, hash: u64) -> Option<usize> {
+        self.groups.candidate(hash)
+    }
+
+    // Adds a row to the group of its key, or to a new one if the budget allows it, by one look-up that
+    // tries the candidate first.
     #[inline(always)]
     pub(crate) fn offer(
         &mut self,
         alloc: Global,
         spec: &GroupSpec,
-        row: &Row,
+        ahead: &Ahead,
+        candidate: Option<usize>,
     ) -> Result<Offered, AllocError>
-        requires fits { IsTrue (fits_spec spec.now row.now) }
+        requires ahead { IsHashed spec.now (H.hash_of self.old.groups.hasher) ahead.now }
         requires each { self.old.groups.each ≡ length spec.now.aggs }
         requires resident { (rows : List (List Cell)) × (length rows < 2 ^ 32) ×
             Resident spec.now self.old.budget.entries rows self.old.groups.pairs }
         ensures offers { IfOk result (λ answer. (rows : List (List Cell)) →
             Resident spec.now self.old.budget.entries rows self.old.groups.pairs →
-            Offers spec.now self.old.budget.entries rows row.now self.old.groups.pairs self.new.groups.pairs
-            answer) }
+            Offers spec.now self.old.budget.entries rows ahead.now.row self.old.groups.pairs
+            self.new.groups.pairs answer) }
         ensures hash { IfOk result (HasHash (H.hash_of self.old.groups.hasher
-            (class_of (key_of spec.now.by row.now)))) }
+            (class_of (key_of spec.now.by ahead.now.row)))) }
         ensures each { self.new.groups.each ≡ self.old.groups.each }
         ensures budget { self.new.budget ≡ self.old.budget }
         ensures hasher { OnOk result (self.new.groups.hasher ≡ self.old.groups.hasher) }
     {
         self.offered = self.offered.wrapping_add(1);
-        match self.groups.find(&KeyRef::new(row.cells(), spec.by())) {
+        let row = &ahead.row;
+        let key = &KeyRef::new(row.cells(), spec.by());
+        match self.groups.find(key, ahead.hash, candidate) {
             Found::At(number) => {
                 self.groups.add(number, spec, row)?;
                 Ok(Offered::Taken)

@@ -19,7 +19,7 @@ use Rattle.gq_group.proofs.pass.place_row.Goals as goal
 pub returns-clause-places : goal.returns-clause-places
 returns-clause-places g c =
     let spec = c.args.pass.now.spec.now in
-    let row = c.args.row.now in
+    let row = c.args.ahead.now.row in
     let budget = c.args.table.now.budget.entries in
     let old = c.args.table.now.groups.pairs in
     let new = c.offer.new.self.groups.pairs in
@@ -43,8 +43,8 @@ returns-clause-places g c =
       one_began = c.in_ok-began.ensures.one;
     }
 
-pub offer-requires-clause-fits : goal.offer-requires-clause-fits
-offer-requires-clause-fits g c = c.requires.fits
+pub offer-requires-clause-ahead : goal.offer-requires-clause-ahead
+offer-requires-clause-ahead g c = c.requires.ahead
 
 pub offer-requires-clause-each : goal.offer-requires-clause-each
 offer-requires-clause-each g c = c.requires.each
@@ -163,7 +163,7 @@ returns-in_default-offered-clause-made g c = no_more _
 pub returns-in_default-offered-clause-places : goal.returns-in_default-offered-clause-places
 returns-in_default-offered-clause-places g c =
     let spec = c.args.pass.now.spec.now in
-    let row = c.args.row.now in
+    let row = c.args.ahead.now.row in
     let old = c.args.table.now.groups.pairs in
     let part_of : List Value → ℕ = partition_by (g.H.KeyHash.hash_of c.args.table.now.groups.hasher) c.args.pass.now.depth in
     let n : ℕ = fan_out c.args.pass.now.depth in
@@ -180,7 +180,7 @@ returns-in_default-offered-clause-places g c =
 
 pub spill-requires-clause-within : goal.spill-requires-clause-within
 spill-requires-clause-within g c =
-    let key = key_of c.args.pass.now.spec.now.by c.args.row.now in
+    let key = key_of c.args.pass.now.spec.now.by c.args.ahead.now.row in
     let hash : List ℕ → ℕ = g.H.KeyHash.hash_of c.args.table.now.groups.hasher in
     let told : c.in-Left.hash ≡ hash (class_of key) = subst (λ o. HasHash (hash (class_of key)) o) c.in-Left.is c.in-Ok.ensures.hash in
     let here : partition_by hash c.args.pass.now.depth key ≡ c.partition_of-place.result = ap (partition_of c.args.pass.now.depth) (sym told) ∙ sym c.partition_of-place.ensures in

@@ -1,76 +1,110 @@
-use Rattle.std.proofs.Common.{ap, arith, ◌∙◌, refl, subst, sym}
+use Rattle.std.proofs.Common.{◌+◌, ◌≤◌, [], ap, arith, ◌∙◌, Err, length, refl, subst, sym}
+use Rattle.std.specs.Prelude.{IsTrue, List}
+use Rattle.gq_row.specs.declared.value.Value.{Value}
+use Rattle.gq_spill.specs.Handing.{Gave, taken}
+use Rattle.gq_group.specs.Blocks.{AreHashed, Then, left_of, row_at}
 use Rattle.gq_group.specs.Partitioning.{partition_by}
 use Rattle.gq_group.specs.Residents.{Resident}
 use Rattle.gq_group.specs.declared.budget.Budget.{Budget}
-use Rattle.gq_group.proofs.ReadLemmas.{ours-stays}
-use Rattle.gq_group.proofs.RowLemmas.{rows-none, rows-stopped, rows-done, rows-damaged, rows-unplaced, rows-more}
+use Rattle.gq_group.specs.declared.refusal.Refusal.TheVariants.{Memory}
+use Rattle.gq_group.proofs.AccessLemmas.{leaves-refl}
+use Rattle.gq_group.proofs.BlockLemmas.{taken_hashed, taken_row, taken_there}
+use Rattle.gq_group.proofs.ReadLemmas.{known-left, ours-stays}
+use Rattle.gq_group.proofs.RowLemmas.{rows-none, rows-stopped, rows-done, rows-unplaced, rows-more}
 use Rattle.gq_group.proofs.pass.read_rows.Goals as goal
 
 pub rows-init : goal.rows-init
-rows-init g c = record {
-  done = rows-none c.args.pass.now.spec.now c.args.table.now.budget.entries _ _ _ _ _ _ (g.S.RunStore.runs c.args.store.now) _ c.args.table.now.groups.pairs c.args.partitions.now.items c.requires.source c.requires.start c.requires.places c.requires.empty;
-  budget = refl;
-  each = c.requires.each;
-  hasher = refl;
-}
+rows-init g c =
+    let none = c.in-Ok.ensures in
+    record {
+      done = rows-none c.args.pass.now.spec.now c.args.table.now.budget.entries _ _ _ _ _ _ (g.S.RunStore.runs c.args.store.now) _ _ c.args.table.now.groups.pairs c.args.partitions.now.items none c.requires.source c.requires.start c.requires.places c.requires.empty;
+      hashed = subst (AreHashed c.args.pass.now.spec.now (g.H.KeyHash.hash_of c.args.table.now.groups.hasher)) (sym none) tt;
+      budget = refl;
+      each = c.requires.each;
+      hasher = refl;
+    }
 
-pub returns-in_err-more-clause-read : goal.returns-in_err-more-clause-read
-returns-in_err-more-clause-read g c =
+pub returns-in_err-found-clause-read : goal.returns-in_err-found-clause-read
+returns-in_err-found-clause-read g c =
     let s = g.S.RunStore.runs c.next.new.store in
-    rows-stopped c.args.pass.now.spec.now c.args.table.now.budget.entries _ _ _ _ (g.R.RowSource.owns c.args.source.now) _ (g.S.RunStore.runs c.args.store.now) (g.R.RowSource.owns c.rows.source) (g.R.RowSource.owns c.next.new.self) (g.R.RowSource.bound c.rows.source) _ _
-    (g.S.RunStore.runs c.rows.store) s c.rows.rows_read c.rows.rows_written c.rows.runs c.rows.columns c.rows.table.groups.pairs c.rows.partitions.items c.rows.invariant.done c.in_err-more.ensures.others c.in_err-more.ensures.owned
-    _ c.from_residual.result c.in_err-more.field-0.0 c.from_residual.ensures.1 c.in_err-more.ensures.cause
+    rows-stopped c.args.pass.now.spec.now c.args.table.now.budget.entries _ _ _ _ (g.R.RowSource.owns c.args.source.now) _ (g.S.RunStore.runs c.args.store.now) (g.R.RowSource.owns c.rows.source) (g.R.RowSource.owns c.next.new.source) _ _ _
+    (g.S.RunStore.runs c.rows.store) s c.rows.rows_read c.rows.rows_written c.rows.runs c.rows.columns c.rows.table.groups.pairs c.rows.partitions.items c.rows.invariant.done c.in_err-found.ensures.comes.others c.in_err-found.ensures.comes.owned
+    _ c.from_residual.result c.in_err-found.field-0.0 c.from_residual.ensures.1 c.in_err-found.ensures.comes.cause
 
 pub returns-clause-read : goal.returns-clause-read
 returns-clause-read g c =
     let s = g.S.RunStore.runs c.next.new.store in
-    let told = c.in_ok-more.ensures in
-    rows-done c.args.pass.now.spec.now c.args.table.now.budget.entries _ _ _ _ (g.R.RowSource.owns c.args.source.now) _ (g.S.RunStore.runs c.args.store.now) (g.R.RowSource.owns c.rows.source) (g.R.RowSource.owns c.next.new.self) (g.R.RowSource.bound c.rows.source) _ _
+    let block = c.next.new.self in
+    let later = Then (left_of block.taken block.count block.rows.items) (g.R.RowSource.gives c.next.new.source s) in
+    let none_left = λ (h : IsTrue (g.S.RunStore.runs c.rows.store).honest) (rows : List (List Value)) (left : Then (left_of c.rows.block.taken c.rows.block.count c.rows.block.rows.items) (g.R.RowSource.gives c.rows.source (g.S.RunStore.runs c.rows.store)) rows). subst (λ o. Gave (row_at block.rows.items o) rows later) c.in_default-found.is (c.in_ok-found.ensures.comes.rows h rows left) in
+    let told = c.in_ok-found.ensures.comes in
+    rows-done c.args.pass.now.spec.now c.args.table.now.budget.entries _ _ _ _ (g.R.RowSource.owns c.args.source.now) _ (g.S.RunStore.runs c.args.store.now) (g.R.RowSource.owns c.rows.source) (g.R.RowSource.owns c.next.new.source) _ _ _
     (g.S.RunStore.runs c.rows.store) s c.rows.rows_read c.rows.rows_written c.rows.runs c.rows.columns c.rows.table.groups.pairs c.rows.partitions.items c.rows.invariant.done told.others told.owned
-    _ told.ready (λ h rows now. let over = rw c.if-not-more.true at (told.rows h) in (over rows now).0) told.made
+    _ told.ready (λ h rows now. (none_left h rows now).0) told.made
 
-pub returns-then-not-fits-clause-read : goal.returns-then-not-fits-clause-read
-returns-then-not-fits-clause-read g c =
-    let s = g.S.RunStore.runs c.next.new.store in
-    let told = c.in_ok-more.ensures in
-    rows-damaged c.args.pass.now.spec.now c.args.table.now.budget.entries _ _ _ _ (g.R.RowSource.owns c.args.source.now) _ (g.S.RunStore.runs c.args.store.now) (g.R.RowSource.owns c.rows.source) (g.R.RowSource.owns c.next.new.self) (g.R.RowSource.bound c.rows.source) _ _
-    (g.S.RunStore.runs c.rows.store) s c.rows.rows_read c.rows.rows_written c.rows.runs c.rows.columns c.rows.table.groups.pairs c.rows.partitions.items c.rows.invariant.done told.others told.owned
-    c.next.new.row (g.R.RowSource.gives c.next.new.self s) (rw c.if-not-more.false at told.rows) _ c.requires.rows (sym c.fits.ensures ∙ c.if-not-fits.true)
+pub returns-in_default-clause-read : goal.returns-in_default-clause-read
+returns-in_default-clause-read g c =
+    let r = g.S.RunStore.runs c.args.store.now in
+    let owns = g.R.RowSource.owns c.args.source.now in
+    let start = rows-none c.args.pass.now.spec.now c.args.table.now.budget.entries (partition_by (g.H.KeyHash.hash_of c.args.table.now.groups.hasher) c.args.pass.now.depth) _ _ _ owns g.R.RowSource.makes_runs r [] _ c.args.table.now.groups.pairs c.args.partitions.now.items refl c.requires.source c.requires.start c.requires.places c.requires.empty in
+    rows-stopped c.args.pass.now.spec.now c.args.table.now.budget.entries _ _ _ _ owns _ r owns owns _ _ _ r r 0 0 0 0 c.args.table.now.groups.pairs c.args.partitions.now.items start (leaves-refl owns r) (λ none run own. own) _ (Err Memory) Memory refl tt
+
+pub next-requires-clause-rows : goal.next-requires-clause-rows
+next-requires-clause-rows g c = λ h.
+    let before = sym c.rows.invariant.done.others.same_honest ∙ h in
+    known-left c.args.pass.now.spec.now _ _ _ _ _ _ _ _ _ _ _ _ _ c.rows.invariant.done.read before (c.requires.rows before)
+
+pub next-requires-clause-hashed : goal.next-requires-clause-hashed
+next-requires-clause-hashed g c = subst (λ h. AreHashed c.args.pass.now.spec.now (g.H.KeyHash.hash_of h) (left_of c.rows.block.taken c.rows.block.count c.rows.block.rows.items)) (sym c.rows.invariant.hasher) c.rows.invariant.hashed
 
 pub returns-in_err-placed-clause-read : goal.returns-in_err-placed-clause-read
 returns-in_err-placed-clause-read g c =
     let s = g.S.RunStore.runs c.next.new.store in
     let t = g.S.RunStore.runs c.place_row.new.store in
-    let source = c.next.new.self in
-    let told = c.in_ok-more.ensures in
+    let block = c.next.new.self in
+    let ahead = c.row-ahead.result.now in
+    let later = Then (left_of block.taken block.count block.rows.items) (g.R.RowSource.gives c.next.new.source s) in
+    let row_is = taken_row c.args.pass.now.spec.now _ block.rows.items c.in_ok-found.found c.in-Some.place c.in-Some.is c.in_ok-found.ensures.row ahead c.row-ahead.ensures in
+    let next = λ (h : IsTrue (g.S.RunStore.runs c.rows.store).honest) (rows : List (List Value)) (left : Then (left_of c.rows.block.taken c.rows.block.count c.rows.block.rows.items) (g.R.RowSource.gives c.rows.source (g.S.RunStore.runs c.rows.store)) rows). subst (λ o. Gave o rows later) row_is (c.in_ok-found.ensures.comes.rows h rows left) in
+    let source = c.next.new.source in
+    let told = c.in_ok-found.ensures.comes in
     let placed = c.in_err-placed.ensures in
-    rows-unplaced c.args.pass.now.spec.now c.args.table.now.budget.entries _ _ _ _ (g.R.RowSource.owns c.args.source.now) _ (g.S.RunStore.runs c.args.store.now) (g.R.RowSource.owns c.rows.source) (g.R.RowSource.owns c.next.new.self) (g.R.RowSource.bound c.rows.source) _ _
+    rows-unplaced c.args.pass.now.spec.now c.args.table.now.budget.entries _ _ _ _ (g.R.RowSource.owns c.args.source.now) _ (g.S.RunStore.runs c.args.store.now) (g.R.RowSource.owns c.rows.source) (g.R.RowSource.owns c.next.new.source) _ _ _
     (g.S.RunStore.runs c.rows.store) s c.rows.rows_read c.rows.rows_written c.rows.runs c.rows.columns c.rows.table.groups.pairs c.rows.partitions.items c.rows.invariant.done told.others told.owned
-    c.next.new.row (g.R.RowSource.gives c.next.new.self s) (rw c.if-not-more.false at told.rows) c.place_row.new.table.groups.pairs c.place_row.new.partitions.items t placed.same_length placed.ours placed.others (g.met.R.RowSource.own_live source s told.ready)
+    ahead.row later next c.place_row.new.table.groups.pairs c.place_row.new.partitions.items t placed.same_length placed.ours placed.others (g.met.R.RowSource.own_live source s told.ready)
     _ c.from_residual-in_err-placed.result c.in_err-placed.field-0.0 c.from_residual-in_err-placed.ensures.1 placed.cause
 
 pub rows-preserved : goal.rows-preserved
 rows-preserved g c =
     let s = g.S.RunStore.runs c.next.new.store in
     let t = g.S.RunStore.runs c.place_row.new.store in
-    let source = c.next.new.self in
-    let told = c.in_ok-more.ensures in
+    let block = c.next.new.self in
+    let ahead = c.row-ahead.result.now in
+    let later = Then (left_of block.taken block.count block.rows.items) (g.R.RowSource.gives c.next.new.source s) in
+    let row_is = taken_row c.args.pass.now.spec.now _ block.rows.items c.in_ok-found.found c.in-Some.place c.in-Some.is c.in_ok-found.ensures.row ahead c.row-ahead.ensures in
+    let next = λ (h : IsTrue (g.S.RunStore.runs c.rows.store).honest) (rows : List (List Value)) (left : Then (left_of c.rows.block.taken c.rows.block.count c.rows.block.rows.items) (g.R.RowSource.gives c.rows.source (g.S.RunStore.runs c.rows.store)) rows). subst (λ o. Gave o rows later) row_is (c.in_ok-found.ensures.comes.rows h rows left) in
+    let source = c.next.new.source in
+    let told = c.in_ok-found.ensures.comes in
     let placed = c.in_ok-placed.ensures in
     let inv = c.rows.invariant in
     record {
-      done = rows-more c.args.pass.now.spec.now c.args.table.now.budget.entries _ _ _ _ (g.R.RowSource.owns c.args.source.now) _ (g.S.RunStore.runs c.args.store.now) (g.R.RowSource.owns c.rows.source) (g.R.RowSource.owns c.next.new.self) (g.R.RowSource.bound c.rows.source) _ _
+      done = rows-more c.args.pass.now.spec.now c.args.table.now.budget.entries _ _ _ _ (g.R.RowSource.owns c.args.source.now) _ (g.S.RunStore.runs c.args.store.now) (g.R.RowSource.owns c.rows.source) (g.R.RowSource.owns c.next.new.source) _ _ _
           (g.S.RunStore.runs c.rows.store) s c.rows.rows_read c.rows.rows_written c.rows.runs c.rows.columns c.rows.table.groups.pairs c.rows.partitions.items c.rows.invariant.done told.others told.owned
-          c.next.new.row (g.R.RowSource.gives c.next.new.self s) (rw c.if-not-more.false at told.rows) c.place_row.new.table.groups.pairs c.place_row.new.partitions.items t placed.same_length placed.ours placed.others (g.met.R.RowSource.own_live source s told.ready)
-          _ (g.R.RowSource.gives source t) c.rows.table.budget.entries (partition_by (g.H.KeyHash.hash_of c.rows.table.groups.hasher) c.args.pass.now.depth) c.in_ok-placed.placed.written c.in_ok-placed.placed.began (g.R.RowSource.bound source) c.width-columns.result
-          (ap (λ (x : Budget). x.entries) inv.budget) (ap (λ h. partition_by (g.H.KeyHash.hash_of h) c.args.pass.now.depth) inv.hasher) placed.places c.width-columns.ensures (rw c.if-not-more.false at told.bound)
-          (λ kept. g.met.R.RowSource.stays_ready source s t kept told.ready) (λ kept. g.met.R.RowSource.keeps_rows source s t kept told.ready) told.made placed.made;
+          ahead.row later next c.place_row.new.table.groups.pairs c.place_row.new.partitions.items t placed.same_length placed.ours placed.others (g.met.R.RowSource.own_live source s told.ready)
+          _ (Then (left_of block.taken block.count block.rows.items) (g.R.RowSource.gives source t)) c.rows.table.budget.entries (partition_by (g.H.KeyHash.hash_of c.rows.table.groups.hasher) c.args.pass.now.depth) c.in_ok-placed.placed.written c.in_ok-placed.placed.began (length (left_of block.taken block.count block.rows.items) + g.R.RowSource.bound source) c.width-columns.result
+          (ap (λ (x : Budget). x.entries) inv.budget) (ap (λ h. partition_by (g.H.KeyHash.hash_of h) c.args.pass.now.depth) inv.hasher) placed.places c.width-columns.ensures (subst (λ o. taken o + (length (left_of block.taken block.count block.rows.items) + g.R.RowSource.bound source) ≤ length (left_of c.rows.block.taken c.rows.block.count c.rows.block.rows.items) + g.R.RowSource.bound c.rows.source) row_is told.bound)
+          (λ kept. g.met.R.RowSource.stays_ready source s t kept told.ready) (λ kept h rest left. (left.0, left.1, g.met.R.RowSource.keeps_rows source s t kept told.ready h left.0 left.2)) told.made placed.made;
+      hashed = subst (λ h. AreHashed c.args.pass.now.spec.now (g.H.KeyHash.hash_of h) (left_of block.taken block.count block.rows.items)) inv.hasher c.in_ok-found.ensures.hashed;
       budget = placed.budget ∙ inv.budget;
       each = placed.each ∙ inv.each;
       hasher = placed.hasher ∙ inv.hasher;
     }
 
-pub place_row-requires-clause-fits : goal.place_row-requires-clause-fits
-place_row-requires-clause-fits g c = sym c.fits.ensures ∙ c.if-not-fits.false
+pub row-ahead-requires : goal.row-ahead-requires
+row-ahead-requires g c = taken_there c.args.pass.now.spec.now _ c.next.new.self.rows.items c.in_ok-found.found c.in-Some.place c.in-Some.is c.in_ok-found.ensures.row
+
+pub place_row-requires-clause-ahead : goal.place_row-requires-clause-ahead
+place_row-requires-clause-ahead g c = taken_hashed c.args.pass.now.spec.now _ c.next.new.self.rows.items c.in_ok-found.found c.in-Some.place c.in-Some.is c.in_ok-found.ensures.row c.row-ahead.result.now c.row-ahead.ensures
 
 pub place_row-requires-clause-each : goal.place_row-requires-clause-each
 place_row-requires-clause-each g c = c.rows.invariant.each
@@ -80,7 +114,7 @@ place_row-requires-clause-places g c = c.rows.invariant.done.same_length
 
 pub place_row-requires-clause-ours : goal.place_row-requires-clause-ours
 place_row-requires-clause-ours g c =
-    ours-stays (g.S.RunStore.runs c.rows.store) (g.S.RunStore.runs c.next.new.store) (g.R.RowSource.owns c.rows.source) (g.R.RowSource.owns c.next.new.self) c.rows.partitions.items c.in_ok-more.ensures.others c.rows.invariant.done.ours
+    ours-stays (g.S.RunStore.runs c.rows.store) (g.S.RunStore.runs c.next.new.store) (g.R.RowSource.owns c.rows.source) (g.R.RowSource.owns c.next.new.source) c.rows.partitions.items c.in_ok-found.ensures.comes.others c.rows.invariant.done.ours
 
 pub place_row-requires-clause-resident : goal.place_row-requires-clause-resident
 place_row-requires-clause-resident g c =
@@ -97,4 +131,6 @@ pub overflow_add-runs : goal.overflow_add-runs
 overflow_add-runs g c = omega (arith, c.rows.invariant.done.bound, c.requires.few, c.rows.invariant.done.less, c.rows.invariant.done.less_runs, c.in_ok-placed.ensures.places.one, c.in_ok-placed.ensures.places.one_began)
 
 pub rows-smaller : goal.rows-smaller
-rows-smaller g c = omega (arith, rw c.if-not-more.false at c.in_ok-more.ensures.bound)
+rows-smaller g c =
+    let row_is = taken_row c.args.pass.now.spec.now _ c.next.new.self.rows.items c.in_ok-found.found c.in-Some.place c.in-Some.is c.in_ok-found.ensures.row c.row-ahead.result.now c.row-ahead.ensures in
+    omega (arith, ap taken row_is, c.in_ok-found.ensures.comes.bound)

@@ -19,7 +19,7 @@ add-requires-clause-tallied g c =
     let spec = c.args.spec.now in
     let map = c.args.self.now.groups.pairs in
     let i = c.in-At.number in
-    let key = key_of spec.by c.args.row.now in
+    let key = key_of spec.by c.args.ahead.now.row in
     let key_is = c.new.ensures ∙ (λ z. key_of (c.by.ensures z) (c.cells.ensures z)) in
     let at = subst (λ k. get (listed map) (class_of k) ≡ slice_get map i) key_is c.in-At.ensures.found.1 in
     let it = found spec c.args.self.now.budget.entries rows map i key c.requires.resident.2 at c.in-At.ensures.found.0 in
@@ -32,7 +32,7 @@ invariant_of-self g c = record { within = omega (arith, c.add.ensures.count, c.a
 pub invariant_of-self-in-Absent : goal.invariant_of-self-in-Absent
 invariant_of-self-in-Absent g c =
     let spec = c.args.spec.now in
-    let row = c.args.row.now in
+    let row = c.args.ahead.now.row in
     let map = c.args.self.now.groups.pairs in
     let key = key_of spec.by row in
     let key_is = c.new.ensures ∙ (λ z. key_of (c.by.ensures z) (c.cells.ensures z)) in
@@ -46,7 +46,7 @@ invariant_of-self-in-Absent g c =
 pub returns-in_ok-add-in-At-clause-offers : goal.returns-in_ok-add-in-At-clause-offers
 returns-in_ok-add-in-At-clause-offers g c = λ rows resident.
     let spec = c.args.spec.now in
-    let row = c.args.row.now in
+    let row = c.args.ahead.now.row in
     let map = c.args.self.now.groups.pairs in
     let i = c.in-At.number in
     let key = key_of spec.by row in
@@ -63,7 +63,7 @@ pub returns-in_ok-add_group-in-Absent-clause-offers :
     goal.returns-in_ok-add_group-in-Absent-clause-offers
 returns-in_ok-add_group-in-Absent-clause-offers g c = λ rows resident.
     let spec = c.args.spec.now in
-    let row = c.args.row.now in
+    let row = c.args.ahead.now.row in
     let map = c.args.self.now.groups.pairs in
     let key = key_of spec.by row in
     let key_is = c.new.ensures ∙ (λ z. key_of (c.by.ensures z) (c.cells.ensures z)) in
