@@ -4,7 +4,7 @@ use Rattle.std.specs.Prelude.{IfSome, option_map}
 use Rattle.std.proofs.lemmas.Bool.{false≢true}
 use Rattle.std.proofs.lemmas.List.{append_assoc}
 use Rattle.std.proofs.lemmas.Option.{same_Some}
-use Rattle.gq_load.specs.Unread.{Took}
+use Rattle.gq_csv.specs.Records.{Took}
 use Rattle.gq_infer.specs.declared.seen.Seen.{Seen}
 use Rattle.gq_infer.specs.Files.{records_of}
 use Rattle.gq_infer.specs.Guesses.{WithFirst}
@@ -23,7 +23,7 @@ both_some (Some x) P Q S f h k = f x h k
 
 -- ---- the first record
 
-pub no_record : (text : Option (List ℕ)) (left rest : Option Records) (found : Bool) (fields : List (List ℕ)) → left ≡ option_map records_of text → found ≡ false → Took left found fields rest
+pub no_record : (text : Option (List ℕ)) (left rest : Option Records) (found : Bool) (fields : List (List ℕ)) → IfSome text (λ file. left ≡ Some (records_of file)) → found ≡ false → Took left found fields rest
     → IfSome text (λ file. records_of file ≡ [])
 no_record None left rest found fields e f h = tt
 no_record (Some file) left rest found fields e f h = by (records_of file) (subst (λ o. Took o found fields rest) e h)
@@ -36,7 +36,7 @@ no_record (Some file) left rest found fields e f h = by (records_of file) (subst
 abbrev pub Begins : Option Records → List (List ℕ) → Records → Type 0
 Begins rest fields records = (others : Records) × (records ≡ fields ∷ others) × (rest ≡ Some others)
 
-pub a_record : (text : Option (List ℕ)) (left rest : Option Records) (found : Bool) (fields : List (List ℕ)) → left ≡ option_map records_of text → found ≡ true → Took left found fields rest
+pub a_record : (text : Option (List ℕ)) (left rest : Option Records) (found : Bool) (fields : List (List ℕ)) → IfSome text (λ file. left ≡ Some (records_of file)) → found ≡ true → Took left found fields rest
     → IfSome text (λ file. Begins rest fields (records_of file))
 a_record None left rest found fields e f h = tt
 a_record (Some file) left rest found fields e f h = by (records_of file) (subst (λ o. Took o found fields rest) e h)

@@ -11,10 +11,8 @@ ghost use Rattle.gq_infer.specs.Guesses.{AreRightIfLoaded};
 use crate::fault::InferFault;
 use crate::header::names_of;
 use crate::inference::columns_of;
-use crate::scan::{read_first_fields, read_record};
+use crate::scan::{file_reader, read_first_fields, read_record};
 use crate::seen::{Seen, are_settled};
-use csv::ByteRecord;
-use gq_load::payload_reader;
 use gq_row::{Column, Limits, Sequence};
 use std::alloc::Global;
 use std::io::Read;
@@ -32,18 +30,17 @@ pub fn guess_columns<R: Read + Drop>(
     ensures table { IfOk result (λ guess. IfSome guess (λ columns. (table : List ℕ) →
         is_command (Create table columns []) ≡ true)) }
 {
-    let mut reader = payload_reader(alloc, text);
-    let mut header = ByteRecord::new(alloc);
-    if !read_record(&mut reader, &mut header)? {
+    let mut reader = file_reader(alloc, text)?;
+    if !read_record(&mut reader)? {
         return Err(InferFault::Header);
     }
+    let header = reader.record();
     let names = names_of(alloc, &header, &limits.bounds)?;
     let mut seen = vec![in alloc; Seen::Nulls; header.len()]?;
     read_first_fields(
         alloc,
         names.as_slice(),
         &mut reader,
-        &mut header,
         seen.as_mut_slice(),
         most,
     )?;

@@ -2,13 +2,12 @@
 ghost use Rattle.std.specs.Prelude.{◌≡◌, ◌⊎◌, [], ◌==◌, true, false, None, Some, IfOk, OnOk, IfErr, not, nat_lt, bytes_eq, length, map, slice_index_or};
 ghost use Rattle.std.specs.List.{list_all, list_any};
 ghost use Rattle.std.specs.Str.{is_utf8};
-ghost use Rattle.csv.specs.Records.{fields_of};
 ghost use Rattle.gq_row.specs.Repeats.{no_repeats};
 ghost use Rattle.gq_infer.specs.Files.{are_same, can_name, names_fault, place_of};
 ghost use Rattle.gq_infer.specs.declared.fault.InferFault.TheVariants.{Header, Memory};
 
 use crate::fault::InferFault;
-use csv::ByteRecord;
+use gq_csv::Record;
 use gq_row::{Bounds, Text};
 use std::alloc::{AllocError, Global};
 use std::str;
@@ -16,13 +15,13 @@ use std::str;
 /// The names in the header of a first file, or why they can't be those of columns.
 pub(crate) fn names_of(
     alloc: Global,
-    header: &ByteRecord,
+    header: &Record<'_>,
     bounds: &Bounds,
 ) -> Result<Vec<Text>, InferFault>
-    ensures names { IfOk result (λ names. names.items ≡ fields_of header.now) }
-    ensures fine { OnOk result (names_fault bounds.now (fields_of header.now) ≡ None) }
+    ensures names { IfOk result (λ names. names.items ≡ header.now) }
+    ensures fine { OnOk result (names_fault bounds.now header.now ≡ None) }
     ensures refused { IfErr result (λ why. (why ≡ Memory)
-        ⊎ (names_fault bounds.now (fields_of header.now) ≡ Some why)) }
+        ⊎ (names_fault bounds.now header.now ≡ Some why)) }
 {
     if header.len() > bounds.columns {
         return Err(InferFault::Limit);
@@ -38,11 +37,11 @@ pub(crate) fn names_of(
 }
 
 /// The fields of a record as texts. `Header` if one isn't UTF-8.
-fn texts_of(alloc: Global, record: &ByteRecord) -> Result<Vec<Text>, InferFault>
-    ensures texts { IfOk result (λ texts. texts.items ≡ fields_of record.now) }
-    ensures utf8 { OnOk result (list_all is_utf8 (fields_of record.now) ≡ true) }
+fn texts_of(alloc: Global, record: &Record<'_>) -> Result<Vec<Text>, InferFault>
+    ensures texts { IfOk result (λ texts. texts.items ≡ record.now) }
+    ensures utf8 { OnOk result (list_all is_utf8 record.now ≡ true) }
     ensures refused { IfErr result (λ why. (why ≡ Memory)
-        ⊎ ((why ≡ Header) × (list_all is_utf8 (fields_of record.now) ≡ false))) }
+        ⊎ ((why ≡ Header) × (list_all is_utf8 record.now ≡ false))) }
 {
     let mut texts = Vec::with_capacity(alloc, record.len())?;
     for i in 0..record.len() {
@@ -55,8 +54,8 @@ fn texts_of(alloc: Global, record: &ByteRecord) -> Result<Vec<Text>, InferFault>
 }
 
 /// A field of a record; no bytes if the record has no such field.
-fn field_of(record: &ByteRecord, i: usize) -> &[u8]
-    ensures { result.now ≡ slice_index_or (fields_of record.now) i [] }
+fn field_of<'a>(record: &'a Record<'_>, i: usize) -> &'a [u8]
+    ensures { result.now ≡ slice_index_or record.now i [] }
 {
     match record.get(i) {
         Some(field) => field,
@@ -101,20 +100,20 @@ fn names_differ(names: &[Text]) -> bool
 }
 
 /// Whether a header names these columns, in any order.
-pub(crate) fn are_same(names: &[Text], header: &ByteRecord) -> bool
-    ensures { result ≡ are_same names.now (fields_of header.now) }
+pub(crate) fn are_same(names: &[Text], header: &Record<'_>) -> bool
+    ensures { result ≡ are_same names.now header.now }
 {
     header.len() == names.len() && are_in(header, names)
 }
 
-fn are_in(header: &ByteRecord, names: &[Text]) -> bool
-    ensures { result ≡ list_all (λ name. list_any (λ field. bytes_eq field name) (fields_of header.now)) names.now }
+fn are_in(header: &Record<'_>, names: &[Text]) -> bool
+    ensures { result ≡ list_all (λ name. list_any (λ field. bytes_eq field name) header.now) names.now }
 {
     names.iter().all(|name| is_in(header, name))
 }
 
-fn is_in(header: &ByteRecord, name: &Text) -> bool
-    ensures { result ≡ list_any (λ field. bytes_eq field name.now) (fields_of header.now) }
+fn is_in(header: &Record<'_>, name: &Text) -> bool
+    ensures { result ≡ list_any (λ field. bytes_eq field name.now) header.now }
 {
     place_of(header, name) < header.len()
 }
@@ -123,10 +122,10 @@ fn is_in(header: &ByteRecord, name: &Text) -> bool
 pub(crate) fn places_of(
     alloc: Global,
     names: &[Text],
-    header: &ByteRecord,
+    header: &Record<'_>,
 ) -> Result<Vec<usize>, AllocError>
     ensures { IfOk result (λ places.
-        places.items ≡ map (λ name. place_of (fields_of header.now) name) names.now) }
+        places.items ≡ map (λ name. place_of header.now name) names.now) }
 {
     let mut places = Vec::with_capacity(alloc, names.len())?;
     for name in names {
@@ -136,8 +135,8 @@ pub(crate) fn places_of(
 }
 
 /// The place of a name in a header, or the header's length.
-fn place_of(header: &ByteRecord, name: &Text) -> usize
-    ensures { result ≡ place_of (fields_of header.now) name.now }
+fn place_of(header: &Record<'_>, name: &Text) -> usize
+    ensures { result ≡ place_of header.now name.now }
 {
     for i in 0..header.len() {
         if field_of(header, i) == name.as_str().as_bytes() {

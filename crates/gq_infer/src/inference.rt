@@ -9,10 +9,8 @@ ghost use Rattle.gq_infer.specs.Scanning.{columns_of};
 
 use crate::fault::InferFault;
 use crate::header::{are_same, names_of};
-use crate::scan::{read_fields, read_record};
+use crate::scan::{file_reader, read_fields, read_record};
 use crate::seen::{Seen, kind_seen};
-use csv::ByteRecord;
-use gq_load::payload_reader;
 use gq_row::{Column, Limits, Sequence, Text};
 use std::alloc::{AllocError, Global};
 use std::io::Read;
@@ -59,20 +57,14 @@ impl Inference {
         ensures refused { IfErr result (λ why. IsFailure why
             ⊎ IfSome (R.remaining text) (λ bytes. header_fault limits.now.bounds bytes ≡ Some why)) }
     {
-        let mut reader = payload_reader(alloc, text);
-        let mut header = ByteRecord::new(alloc);
-        if !read_record(&mut reader, &mut header)? {
+        let mut reader = file_reader(alloc, text)?;
+        if !read_record(&mut reader)? {
             return Err(InferFault::Header);
         }
+        let header = reader.record();
         let names = names_of(alloc, &header, &limits.bounds)?;
         let mut seen = vec![in alloc; Seen::Nulls; header.len()]?;
-        read_fields(
-            alloc,
-            names.as_slice(),
-            &mut reader,
-            &mut header,
-            seen.as_mut_slice(),
-        )?;
+        read_fields(alloc, names.as_slice(), &mut reader, seen.as_mut_slice())?;
         Ok(Inference { names, seen })
     }
 
@@ -89,9 +81,8 @@ impl Inference {
             × IfSome (R.remaining text) (λ bytes. same_columns self.old.names bytes ≡ false))) }
         ensures unchanged { OnErr result (self.new ≡ self.old) }
     {
-        let mut reader = payload_reader(alloc, text);
-        let mut header = ByteRecord::new(alloc);
-        if !read_record(&mut reader, &mut header)? || !are_same(self.names.as_slice(), &header) {
+        let mut reader = file_reader(alloc, text)?;
+        if !read_record(&mut reader)? || !are_same(self.names.as_slice(), &reader.record()) {
             return Err(InferFault::Header);
         }
         let mut seen = self.seen.as_slice().to_vec(alloc)?;
@@ -99,7 +90,6 @@ impl Inference {
             alloc,
             self.names.as_slice(),
             &mut reader,
-            &mut header,
             seen.as_mut_slice(),
         )?;
         self.seen = seen;

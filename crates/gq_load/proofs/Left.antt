@@ -15,7 +15,7 @@ use Rattle.gq_load.specs.declared.row_fault.RowFault.{RowFault}
 use Rattle.gq_load.specs.declared.short_records.Short.{Short}
 use Rattle.gq_load.specs.Answers.{◌>>=◌}
 use Rattle.gq_load.specs.Coming.{BeginWith, IsFaultOf, rows_left, row_before, fault_of}
-use Rattle.gq_load.specs.Unread.{Took}
+use Rattle.gq_csv.specs.Records.{Took}
 use Rattle.gq_load.specs.Payloads.{at_most, completed, load, row_of, rows_from, rows_of}
 use Rattle.gq_load.proofs.Onward.{no_front, told_too, with_front}
 
@@ -167,12 +167,12 @@ took_as_read short count (Some (first ∷ others)) rest found fields h = (h.0, a
 -- ---- the rows of a text, whose records are those that are left
 
 module _ (short : Short) (schema : PlainSchema) (bounds : Bounds) where
-  pub loaded_faulty : (text : Option (List ℕ)) (left : Option Records) (fault : RowFault) → left ≡ option_map (λ bytes. records default_config (strip_bom bytes)) text
+  pub loaded_faulty : (text : Option (List ℕ)) (left : Option Records) (fault : RowFault) → IfSome text (λ bytes. left ≡ Some (records default_config (strip_bom bytes)))
       → IsFaultOf (option_map (rows_of short schema bounds) left) fault → IsFaultOf (option_map (load short schema bounds) text) fault
   loaded_faulty None left fault e h = told_too fault (λ why k. tt) h
   loaded_faulty (Some bytes) left fault e h = subst (λ o. IsFaultOf (option_map (rows_of short schema bounds) o) fault) e h
 
-  pub loaded_rows : (text : Option (List ℕ)) (left rest : Option Records) (places : List ℕ) → left ≡ option_map (λ bytes. records default_config (strip_bom bytes)) text
+  pub loaded_rows : (text : Option (List ℕ)) (left rest : Option Records) (places : List ℕ) → IfSome text (λ bytes. left ≡ Some (records default_config (strip_bom bytes)))
       → IfSome left (λ given. option_map (rows_left schema bounds.text bounds.rows places 1) rest ≡ Some (rows_of short schema bounds given))
       → IfSome text (λ bytes. option_map (rows_left schema bounds.text (bounds.rows - 0) places 1) rest ≡ Some (load short schema bounds bytes))
   loaded_rows None left rest places e h = tt

@@ -11,6 +11,5 @@ pub mod Numbers
 pub mod Onward
 pub mod Places
 pub mod Spelling
-pub mod Taking
 pub mod Texts
 pub mod Vectors

@@ -1,6 +1,5 @@
 -- What a reader of a payload has yet to give.
 use Rattle.std.specs.Prelude.{◌≡◌, ◌⊎◌, ◌+◌, ◌-◌, ◌≤◌, ℕ, Bool, true, false, IsTrue, List, [], ◌∷◌, length, map, Result, Ok, Err, Option, Some, None, IfSome, option_map, if◌then◌else◌}
-use Rattle.csv.specs.declared.reader.Reader.{Reader}
 use Rattle.gq_row.specs.declared.limits.Bounds.{Bounds}
 use Rattle.gq_row.specs.declared.value.Value.{Value}
 use Rattle.gq_row.specs.Fitting.{fits_columns, has_null}
@@ -12,7 +11,6 @@ use Rattle.gq_load.specs.declared.row_fault.RowFault.TheVariants as fault
 use Rattle.gq_load.specs.declared.short_records.Short.{Short}
 use Rattle.gq_load.specs.Answers.{◌>>=◌}
 use Rattle.gq_load.specs.Payloads.{completed, rows_from, at_most}
-use Rattle.gq_load.specs.Unread.{IsReading, unread}
 
 -- the rows of the data records that are left, or their first fault, for a table of this schema, if the payload's bytes are known; and how many rows may come at most
 pub record Coming : Type 0 where
@@ -26,13 +24,13 @@ rows_left schema text most places number others = do
   rows ← rows_from schema text places number others
   at_most most rows
 
--- the data records that a reader has left, read under a header of the given number of fields, if they are known
-abbrev pub data_left : {R : Type 0} → (R → Option (List ℕ)) → Short → ℕ → Reader R → Option (List (List (List ℕ)))
-data_left remaining short count reader = option_map (map (completed short count)) (unread remaining reader)
+-- data records, read under a header of the given number of fields, if they are known
+abbrev pub data_left : Short → ℕ → Option (List (List (List ℕ))) → Option (List (List (List ℕ)))
+data_left short count rest = option_map (map (completed short count)) rest
 
 -- their rows, after the given number of rows
-abbrev pub rows_coming : {R : Type 0} → (R → Option (List ℕ)) → Short → PlainSchema → Bounds → List ℕ → ℕ → Reader R → Option (Result (List (List Value)) LoadRefusal)
-rows_coming remaining short schema bounds places given reader = option_map (rows_left schema bounds.text (bounds.rows - given) places (given + 1)) (data_left remaining short (length places) reader)
+abbrev pub rows_coming : Short → PlainSchema → Bounds → List ℕ → ℕ → Option (List (List (List ℕ))) → Option (Result (List (List Value)) LoadRefusal)
+rows_coming short schema bounds places given rest = option_map (rows_left schema bounds.text (bounds.rows - given) places (given + 1)) (data_left short (length places) rest)
 
 -- nothing comes any more, or those do
 abbrev pub unless_over : Bool → Option (Result (List (List Value)) LoadRefusal) → Option (Result (List (List Value)) LoadRefusal)
@@ -65,20 +63,19 @@ refusal_in fault.Read = Memory
 abbrev pub IsFaultOf : {A : Type 0} → Option (Result A LoadRefusal) → RowFault → Type 0
 IsFaultOf read fault = Faulted (λ why. IfSome read (λ given. given ≡ Err why)) fault
 
--- a reader that is not at its end reads on, and has given no more rows than it may
-abbrev pub IsUnder : {R : Type 0} → Bool → ℕ → ℕ → Reader R → Type 0
-IsUnder is_over given most reader = is_over ≡ false → IsReading reader × (given ≤ most)
+-- a reader that is not at its end has given no more rows than it may
+abbrev pub IsUnder : Bool → ℕ → ℕ → Type 0
+IsUnder is_over given most = is_over ≡ false → given ≤ most
 
 -- a row that came after the given number: those that are left begin with it, it fits its table, and more may come
-pub record Came {R : Type 0} (remaining : R → Option (List ℕ)) (short : Short) (schema : PlainSchema) (bounds : Bounds) (places : List ℕ) (given : ℕ) (old : Reader R) (row : List Value) (new : Reader R) : Type 0 where
-  pub left : BeginWith (rows_coming remaining short schema bounds places given old) row (rows_coming remaining short schema bounds places (given + 1) new)
+pub record Came (short : Short) (schema : PlainSchema) (bounds : Bounds) (places : List ℕ) (given : ℕ) (old : Option (List (List (List ℕ)))) (row : List Value) (new : Option (List (List (List ℕ)))) : Type 0 where
+  pub left : BeginWith (rows_coming short schema bounds places given old) row (rows_coming short schema bounds places (given + 1) new)
   pub fits : IsTrue (fits_columns schema.columns row)
   pub keyed : has_null schema.key row ≡ false
-  pub reading : IsReading new
   pub under : given + 1 ≤ bounds.rows
 
 -- what reading the next row gave: a row, the end, or the first fault of the rows that are left
-abbrev pub IsNext : {R : Type 0} → (R → Option (List ℕ)) → Short → PlainSchema → Bounds → List ℕ → ℕ → Reader R → List Value → Reader R → Result Bool RowFault → Type 0
-IsNext remaining short schema bounds places given old row new (Ok true) = Came remaining short schema bounds places given old row new
-IsNext remaining short schema bounds places given old row new (Ok false) = IfSome (rows_coming remaining short schema bounds places given old) (λ read. read ≡ Ok [])
-IsNext remaining short schema bounds places given old row new (Err fault) = IsFaultOf (rows_coming remaining short schema bounds places given old) fault
+abbrev pub IsNext : Short → PlainSchema → Bounds → List ℕ → ℕ → Option (List (List (List ℕ))) → List Value → Option (List (List (List ℕ))) → Result Bool RowFault → Type 0
+IsNext short schema bounds places given old row new (Ok true) = Came short schema bounds places given old row new
+IsNext short schema bounds places given old row new (Ok false) = IfSome (rows_coming short schema bounds places given old) (λ read. read ≡ Ok [])
+IsNext short schema bounds places given old row new (Err fault) = IsFaultOf (rows_coming short schema bounds places given old) fault

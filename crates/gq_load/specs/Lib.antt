@@ -6,4 +6,3 @@ pub mod Headers
 pub mod Laws
 pub mod Numbers
 pub mod Payloads
-pub mod Unread

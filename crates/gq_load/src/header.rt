@@ -1,10 +1,9 @@
 //! Headers of payloads.
 ghost use Rattle.std.specs.Prelude.{◌≡◌, ◌<◌, [], IfSome, length, slice_index_or};
-ghost use Rattle.csv.specs.Records.{fields_of};
 ghost use Rattle.gq_row.specs.Schemas.{position_of};
 
 use crate::load_refusal::LoadRefusal;
-use csv::ByteRecord;
+use gq_csv::Record;
 use gq_row::Column;
 use std::alloc::Global;
 use std::marker::Model;
@@ -28,7 +27,6 @@ impl Model for Header {
 
 impl Header {
     ghost use Rattle.std.specs.Prelude.{◌≡◌, IfOk, length};
-    ghost use Rattle.csv.specs.Records.{fields_of};
     ghost use Rattle.gq_load.specs.Answers.{Gives};
     ghost use Rattle.gq_load.specs.Headers.{EachOnce, places_of};
 
@@ -36,10 +34,10 @@ impl Header {
     pub(crate) fn of(
         alloc: Global,
         columns: &[Column],
-        byte_record: &ByteRecord,
+        byte_record: &Record<'_>,
     ) -> Result<Header, LoadRefusal>
         ensures places { Gives (λ header. header) result
-            (places_of columns.now (fields_of byte_record.now)) }
+            (places_of columns.now byte_record.now) }
         ensures whole { IfOk result (λ header. length header ≡ length columns.now) }
     {
         let mut places = Vec::with_capacity(alloc, columns.len())?;
@@ -81,8 +79,8 @@ fn position(columns: &[Column], name: &[u8]) -> Option<usize>
 }
 
 /// A field of a record; no bytes if the record has no such field.
-pub(crate) fn field(byte_record: &ByteRecord, i: usize) -> &[u8]
-    ensures { result.now ≡ slice_index_or (fields_of byte_record.now) i [] }
+pub(crate) fn field<'a>(byte_record: &'a Record<'_>, i: usize) -> &'a [u8]
+    ensures { result.now ≡ slice_index_or byte_record.now i [] }
 {
     match byte_record.get(i) {
         Some(field) => field,

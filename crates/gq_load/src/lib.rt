@@ -1,8 +1,8 @@
 //! CSV payloads as rows of a table: the rows, or the first fault.
 //!
 //! A payload is the bytes of a CSV text: a header that names each column of the table once, in any
-//! order, and then one record for each row. The `csv` crate splits a text into records, as RFC 4180
-//! says; this crate says what they mean: which column a field belongs to, when it is null, which
+//! order, and then one record for each row. `gq_csv` splits a text into records, as RFC 4180 says;
+//! this crate says what they mean: which column a field belongs to, when it is null, which
 //! numbers and texts there are, and which fault comes first. A row's values are in the order of the
 //! table's columns.
 //!
@@ -34,7 +34,6 @@ pub use lines::line_ends;
 pub use load_refusal::LoadRefusal;
 pub use number::int_of;
 pub use payload::load_rows;
-pub use reader::{payload_reader, read_next};
 pub use row_fault::RowFault;
 pub use row_reader::RowReader;
 pub use short_records::Short;

@@ -1,55 +1,48 @@
 //! The records of a payload, one after the other.
-ghost use Rattle.std.specs.Prelude.{◌≡◌, IfOk, IfErr, OnOk, option_map, if◌then◌else◌};
-ghost use Rattle.csv.specs.Reading.{records, default_config, strip_bom, error_kind, is_io};
-ghost use Rattle.csv.specs.Records.{fields_of};
+ghost use Rattle.std.specs.Prelude.{◌≡◌, Some, IfOk, IfErr, IfSome};
+ghost use Rattle.csv.specs.Reading.{records, default_config, strip_bom};
+ghost use Rattle.gq_csv.specs.Records.{Took};
 ghost use Rattle.gq_load.specs.Coming.{Faulted};
-ghost use Rattle.gq_load.specs.Unread.{IsReading, Took, unread};
-ghost use Rattle.gq_load.specs.declared.load_refusal.LoadRefusal.TheVariants as refusal;
-ghost use Rattle.gq_load.specs.declared.row_fault.RowFault.TheVariants as fault;
 
 use crate::load_refusal::LoadRefusal;
 use crate::row_fault::RowFault;
-use csv::{ByteRecord, Reader, ReaderBuilder, Trim};
+use gq_csv::{ReadError, RecordReader};
 use std::alloc::Global;
 use std::io::Read;
 
-/// A reader of a payload's records, the header among them, whatever their lengths, with all spaces.
-pub fn payload_reader<R: Read>(alloc: Global, payload: R) -> Reader<R>
-    ensures reading { IsReading result }
-    ensures unread { unread R.remaining result
-        ≡ option_map (λ bytes. records default_config (strip_bom bytes)) (R.remaining payload) }
-{
-    ReaderBuilder::new()
-        .has_headers(false)
-        .flexible(true)
-        .trim(Trim::None)
-        .from_reader(alloc, payload)
-}
-
-/// Reads the next record into `byte_record`; false if there is none.
-pub fn read_next<R: Read>(
-    reader: &mut Reader<R>,
-    byte_record: &mut ByteRecord,
-) -> Result<bool, RowFault>
-    requires { IsReading reader.old }
-    ensures reading { OnOk result (IsReading reader.new) }
-    ensures took { IfOk result (λ found. Took (unread R.remaining reader.old) found
-        (fields_of byte_record.new) (unread R.remaining reader.new)) }
+/// A reader of a payload's records, the header among them.
+pub(crate) fn payload_reader<R: Read + Drop>(
+    alloc: Global,
+    payload: R,
+) -> Result<RecordReader<R>, RowFault>
+    ensures rest { IfOk result (λ reader. IfSome (R.remaining payload) (λ bytes.
+        reader.rest ≡ Some (records default_config (strip_bom bytes)))) }
     ensures fault { IfErr result (λ fault. Faulted (λ _. ⊥) fault) }
 {
-    match reader.read_byte_record(byte_record) {
-        Ok(found) => Ok(found),
-        Err(error) => Err(read_fault(&error)),
+    match RecordReader::new(alloc, payload) {
+        Ok(reader) => Ok(reader),
+        Err(error) => Err(read_fault(error)),
     }
 }
 
-// An error of the records' reader as a fault: a failed read, or out of memory.
-fn read_fault(error: &csv::Error) -> RowFault
-    ensures { result ≡ (if is_io (error_kind error.now) then fault.Read else fault.Refused refusal.Memory) }
+/// Reads the next record, and returns whether there was one.
+#[inline(always)]
+pub(crate) fn read_next<R: Read>(reader: &mut RecordReader<R>) -> Result<bool, RowFault>
+    ensures took { IfOk result (λ found. Took reader.old.rest found reader.new.fields reader.new.rest) }
+    ensures fault { IfErr result (λ fault. Faulted (λ _. ⊥) fault) }
 {
-    if error.is_io_error() {
-        RowFault::Read
-    } else {
-        RowFault::Refused(LoadRefusal::Memory)
+    match reader.read() {
+        Ok(found) => Ok(found),
+        Err(error) => Err(read_fault(error)),
+    }
+}
+
+// Why no record was read, as a fault.
+fn read_fault(error: ReadError) -> RowFault
+    ensures { Faulted (λ _. ⊥) result }
+{
+    match error {
+        ReadError::Memory => RowFault::Refused(LoadRefusal::Memory),
+        ReadError::Source => RowFault::Read,
     }
 }

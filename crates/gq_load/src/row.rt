@@ -1,6 +1,5 @@
 //! Data records as rows.
 ghost use Rattle.std.specs.Prelude.{◌≡◌, ◌≤◌, ◌==◌, IfOk, length, slice_index_or};
-ghost use Rattle.csv.specs.Records.{fields_of};
 ghost use Rattle.gq_load.specs.Answers.{Gives};
 ghost use Rattle.gq_load.specs.Fields.{null_field};
 ghost use Rattle.gq_load.specs.Payloads.{cells_of, completed, row_of};
@@ -9,7 +8,7 @@ use crate::field::{NULL, write_value};
 use crate::load_refusal::LoadRefusal;
 use crate::row_format::RowFormat;
 use crate::short_records::Short;
-use csv::ByteRecord;
+use gq_csv::Record;
 use gq_row::{Row, Value};
 use std::alloc::{AllocError, Global};
 
@@ -20,13 +19,13 @@ pub(crate) fn row_of(
     alloc: Global,
     format: &RowFormat<'_>,
     number: u64,
-    byte_record: &ByteRecord,
+    byte_record: &Record<'_>,
     spare: Vec<Value>,
 ) -> Result<Row, LoadRefusal>
     requires { length format.now.header ≡ length format.now.schema.now.columns }
     ensures { Gives (λ row. row) result
         (row_of format.now.schema.now format.now.limits.now.bounds.text format.now.header number
-        (completed format.now.short (length format.now.header) (fields_of byte_record.now))) }
+        (completed format.now.short (length format.now.header) byte_record.now)) }
 {
     let places = format.header.places();
     if !is_whole(format.short, places.len(), byte_record) {
@@ -42,8 +41,8 @@ pub(crate) fn row_of(
 }
 
 /// Whether a record has a field for each of the header's, once it is completed.
-fn is_whole(short: Short, count: usize, byte_record: &ByteRecord) -> bool
-    ensures { result ≡ (length (completed short count (fields_of byte_record.now)) == count) }
+fn is_whole(short: Short, count: usize, byte_record: &Record<'_>) -> bool
+    ensures { result ≡ (length (completed short count byte_record.now) == count) }
 {
     match short {
         Short::Refused => byte_record.len() == count,
@@ -57,16 +56,16 @@ fn cells_of(
     alloc: Global,
     format: &RowFormat<'_>,
     number: u64,
-    byte_record: &ByteRecord,
+    byte_record: &Record<'_>,
     spare: Vec<Value>,
 ) -> Result<Vec<Value>, LoadRefusal>
     requires whole { length format.now.header ≡ length format.now.schema.now.columns }
-    requires count { length (fields_of byte_record.now) ≤ length format.now.header }
+    requires count { length byte_record.now ≤ length format.now.header }
     ensures size { IfOk result (λ v. length v.items ≡ length format.now.schema.now.columns) }
     ensures cells { Gives (λ v. v.items) result
         (cells_of format.now.limits.now.bounds.text number format.now.schema.now.columns
         format.now.header
-        (completed Short.Completed (length format.now.header) (fields_of byte_record.now))) }
+        (completed Short.Completed (length format.now.header) byte_record.now)) }
 {
     let columns = format.schema.columns();
     let places = format.header.places();
@@ -87,8 +86,8 @@ fn cells_of(
 }
 
 /// A field of a record; the null field if the record has no such field.
-fn field_or_null(byte_record: &ByteRecord, i: usize) -> &[u8]
-    ensures { result.now ≡ slice_index_or (fields_of byte_record.now) i null_field }
+fn field_or_null<'a>(byte_record: &'a Record<'_>, i: usize) -> &'a [u8]
+    ensures { result.now ≡ slice_index_or byte_record.now i null_field }
 {
     match byte_record.get(i) {
         Some(field) => field,

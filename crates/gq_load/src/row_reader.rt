@@ -4,7 +4,6 @@ ghost use Rattle.gq_row.specs.declared.limits.Bounds.{Bounds};
 ghost use Rattle.gq_load.specs.declared.short_records.Short.{Short};
 ghost use Rattle.gq_load.specs.Coming.{Faulted, IsFaultOf, IsNext, data_left, fault_of, rows_left};
 ghost use Rattle.gq_load.specs.Payloads.{rows_from, rows_of};
-ghost use Rattle.gq_load.specs.Unread.{IsReading, unread};
 
 use crate::header::Header;
 use crate::load_refusal::LoadRefusal;
@@ -13,7 +12,7 @@ use crate::row::row_of;
 use crate::row_fault::RowFault;
 use crate::row_format::RowFormat;
 use crate::short_records::Short;
-use csv::{ByteRecord, Reader};
+use gq_csv::RecordReader;
 use gq_row::{Limits, Row, Schema};
 use std::alloc::Global;
 use std::io::Read;
@@ -27,8 +26,7 @@ use std::mem;
 pub struct RowReader<'a, R: Read> {
     alloc: Global,
     format: RowFormat<'a>,
-    reader: Reader<R>,
-    byte_record: ByteRecord,
+    reader: RecordReader<R>,
     given: u64,
     is_over: bool,
 }
@@ -42,12 +40,12 @@ impl<'a, R: Read> Model for RowReader<'a, R> {
     ghost view = { λ r. record {
       schema = r.format.schema.now;
       rows = unless_over r.is_over
-          (rows_coming R.remaining r.format.short r.format.schema.now r.format.limits.now.bounds r.format.header r.given r.reader);
+          (rows_coming r.format.short r.format.schema.now r.format.limits.now.bounds r.format.header r.given r.reader.rest);
       room = if r.is_over then 0 else r.format.limits.now.bounds.rows - r.given;
     } };
 
     ghost invariant = { λ r. (length r.format.header ≡ length r.format.schema.now.columns)
-        × IsUnder r.is_over r.given r.format.limits.now.bounds.rows r.reader };
+        × IsUnder r.is_over r.given r.format.limits.now.bounds.rows };
 }
 
 impl<'a, R: Read + Drop> RowReader<'a, R> {
@@ -72,9 +70,8 @@ impl<'a, R: Read + Drop> RowReader<'a, R> {
         ensures fault { IfErr result (λ fault. IsFaultOf (option_map
             (load short schema.entry.now limits.entry.now.bounds) (R.remaining payload)) fault) }
     {
-        let mut reader = payload_reader(alloc, payload);
-        let mut byte_record = ByteRecord::new(alloc);
-        let header = read_header(alloc, schema, &mut reader, &mut byte_record)?;
+        let mut reader = payload_reader(alloc, payload)?;
+        let header = read_header(alloc, schema, &mut reader)?;
         let format = RowFormat {
             schema,
             limits,
@@ -85,7 +82,6 @@ impl<'a, R: Read + Drop> RowReader<'a, R> {
             alloc,
             format,
             reader,
-            byte_record,
             given: 0,
             is_over: false,
         })
@@ -113,14 +109,7 @@ impl<'a, R: Read + Drop> RowReader<'a, R> {
             return Ok(false);
         }
         self.is_over = true;
-        if !next_row(
-            self.alloc,
-            &self.format,
-            self.given,
-            &mut self.reader,
-            &mut self.byte_record,
-            row,
-        )? {
+        if !next_row(self.alloc, &self.format, self.given, &mut self.reader, row)? {
             return Ok(false);
         }
         self.given += 1;
@@ -135,24 +124,21 @@ impl<'a, R: Read + Drop> RowReader<'a, R> {
 fn read_header<R: Read>(
     alloc: Global,
     schema: &Schema,
-    reader: &mut Reader<R>,
-    byte_record: &mut ByteRecord,
+    reader: &mut RecordReader<R>,
 ) -> Result<Header, RowFault>
-    requires { IsReading reader.old }
-    ensures reading { OnOk result (IsReading reader.new) }
     ensures whole { IfOk result (λ header. length header ≡ length schema.now.columns) }
     ensures opened { IfOk result (λ header. (short : Short) (bounds : Bounds) →
-        IfSome (unread R.remaining reader.old) (λ records.
+        IfSome reader.old.rest (λ records.
         option_map (rows_left schema.now bounds.text bounds.rows header 1)
-        (data_left R.remaining short (length header) reader.new)
+        (data_left short (length header) reader.new.rest)
         ≡ Some (rows_of short schema.now bounds records))) }
     ensures fault { IfErr result (λ fault. (short : Short) (bounds : Bounds) →
-        IsFaultOf (option_map (rows_of short schema.now bounds) (unread R.remaining reader.old)) fault) }
+        IsFaultOf (option_map (rows_of short schema.now bounds) reader.old.rest) fault) }
 {
-    if !read_next(reader, byte_record)? {
+    if !read_next(reader)? {
         return Err(RowFault::Refused(LoadRefusal::Header));
     }
-    match Header::of(alloc, schema.columns(), byte_record) {
+    match Header::of(alloc, schema.columns(), &reader.record()) {
         Ok(header) => Ok(header),
         Err(why) => Err(RowFault::Refused(why)),
     }
@@ -163,26 +149,24 @@ fn next_row<R: Read>(
     alloc: Global,
     format: &RowFormat<'_>,
     given: u64,
-    reader: &mut Reader<R>,
-    byte_record: &mut ByteRecord,
+    reader: &mut RecordReader<R>,
     row: &mut Row,
 ) -> Result<bool, RowFault>
-    requires reading { IsReading reader.old }
     requires whole { length format.now.header ≡ length format.now.schema.now.columns }
     requires under { given ≤ format.now.limits.now.bounds.rows }
-    ensures { IsNext R.remaining format.now.short format.now.schema.now format.now.limits.now.bounds
-        format.now.header given reader.old row.new reader.new result }
+    ensures { IsNext format.now.short format.now.schema.now format.now.limits.now.bounds
+        format.now.header given reader.old.rest row.new reader.new.rest result }
 {
-    if !read_next(reader, byte_record)? {
+    if !read_next(reader)? {
         return Ok(false);
     }
     let Some(number) = given.checked_add(1) else {
         return Err(RowFault::Refused(LoadRefusal::Memory));
     };
     let spare = mem::replace(row, Row::new(Vec::new(alloc))).into_cells();
-    *row = row_of(alloc, format, number, byte_record, spare)?;
+    *row = row_of(alloc, format, number, &reader.record(), spare)?;
     if number > format.limits.bounds.rows as u64 {
-        check_rest(alloc, format, number, reader, byte_record)?;
+        check_rest(alloc, format, number, reader)?;
         return Err(RowFault::Refused(LoadRefusal::Limit));
     }
     Ok(true)
@@ -193,26 +177,24 @@ fn check_rest<R: Read>(
     alloc: Global,
     format: &RowFormat<'_>,
     number: u64,
-    reader: &mut Reader<R>,
-    byte_record: &mut ByteRecord,
+    reader: &mut RecordReader<R>,
 ) -> Result<(), RowFault>
-    requires reading { IsReading reader.old }
     requires whole { length format.now.header ≡ length format.now.schema.now.columns }
     ensures none { OnOk result
-        (IfSome (data_left R.remaining format.now.short (length format.now.header) reader.old) (λ records.
+        (IfSome (data_left format.now.short (length format.now.header) reader.old.rest) (λ records.
         fault_of (rows_from format.now.schema.now format.now.limits.now.bounds.text format.now.header
         (number + 1) records) ≡ None)) }
     ensures fault { IfErr result (λ fault. Faulted (λ why.
-        IfSome (data_left R.remaining format.now.short (length format.now.header) reader.old) (λ records.
+        IfSome (data_left format.now.short (length format.now.header) reader.old.rest) (λ records.
         fault_of (rows_from format.now.schema.now format.now.limits.now.bounds.text format.now.header
         (number + 1) records) ≡ Some why)) fault) }
 {
     let mut cells = Vec::new(alloc);
     for last in number..u64::MAX {
-        if !read_next(reader, byte_record)? {
+        if !read_next(reader)? {
             return Ok(());
         }
-        cells = row_of(alloc, format, last + 1, byte_record, cells)?.into_cells();
+        cells = row_of(alloc, format, last + 1, &reader.record(), cells)?.into_cells();
     }
     Err(RowFault::Refused(LoadRefusal::Memory))
 }

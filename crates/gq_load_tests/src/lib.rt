@@ -10,6 +10,8 @@ mod large;
 #[cfg(test)]
 mod payloads;
 #[cfg(test)]
+mod records;
+#[cfg(test)]
 mod refusals;
 #[cfg(test)]
 mod spelled;

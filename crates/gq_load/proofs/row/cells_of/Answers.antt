@@ -1,7 +1,6 @@
 use Rattle.std.proofs.Common.{◌≡◌, ◌∙◌, ◌<◌, ◌≤◌, [], All, length, get_or, Ok, true, sym, arith}
 use Rattle.std.proofs.lemmas.List.{length-set}
 use Rattle.std.proofs.lemmas.Result.{err_from_is_err_and}
-use Rattle.csv.specs.Records.{fields_of}
 use Rattle.gq_load.specs.Fields.{value_of}
 use Rattle.gq_load.specs.Headers.{are_all}
 use Rattle.gq_load.specs.declared.short_records.Short.TheVariants.{Completed}
@@ -16,11 +15,11 @@ returns-in_err-write_value-clause-cells c =
     let text = c.args.format.now.limits.now.bounds.text in
     let columns = c.columns-columns.result.now in
     let places = c.places-places.result.now in
-    let count : length (fields_of c.args.byte_record.now) ≤ length places = rw c.places-places.ensures.value c.requires.count in
+    let count : length c.args.byte_record.now ≤ length places = rw c.places-places.ensures.value c.requires.count in
     let within : All (λ place. place < length columns) places = rw (c.places-places.ensures.value, c.columns-columns.ensures, ← c.requires.whole) c.places-places.ensures.each.within in
     let p = err_from_is_err_and c.from_residual-in_err-write_value.result c.from_residual-in_err-write_value.ensures.1 in
     let e = c.in_err-write_value.field-0.0 in
-    let given = fields_of c.args.byte_record.now in
+    let given = c.args.byte_record.now in
     let fields = completed Completed (length places) given in
     let many = size (length places) given count in
     let place = get_or places c.loop-i.i 0 in
@@ -37,10 +36,10 @@ loop-i-init c =
     let text = c.args.format.now.limits.now.bounds.text in
     let columns = c.columns-columns.result.now in
     let places = c.places-places.result.now in
-    let count : length (fields_of c.args.byte_record.now) ≤ length places = rw c.places-places.ensures.value c.requires.count in
+    let count : length c.args.byte_record.now ≤ length places = rw c.places-places.ensures.value c.requires.count in
     let within : All (λ place. place < length columns) places = rw (c.places-places.ensures.value, c.columns-columns.ensures, ← c.requires.whole) c.places-places.ensures.each.within in
     let all : are_all (length columns) places ≡ true = rw (c.places-places.ensures.value, c.columns-columns.ensures) (once_all c.args.format.now.schema.now.columns c.args.format.now.header c.places-places.ensures.each c.requires.whole) in
-    let given = fields_of c.args.byte_record.now in
+    let given = c.args.byte_record.now in
     let fields = completed Completed (length places) given in
     record {
       size = c.in_ok-cells.ensures;
@@ -52,9 +51,9 @@ loop-i-preserved c =
     let text = c.args.format.now.limits.now.bounds.text in
     let columns = c.columns-columns.result.now in
     let places = c.places-places.result.now in
-    let count : length (fields_of c.args.byte_record.now) ≤ length places = rw c.places-places.ensures.value c.requires.count in
+    let count : length c.args.byte_record.now ≤ length places = rw c.places-places.ensures.value c.requires.count in
     let within : All (λ place. place < length columns) places = rw (c.places-places.ensures.value, c.columns-columns.ensures, ← c.requires.whole) c.places-places.ensures.each.within in
-    let given = fields_of c.args.byte_record.now in
+    let given = c.args.byte_record.now in
     let fields = completed Completed (length places) given in
     let many = size (length places) given count in
     let place = get_or places c.loop-i.i 0 in

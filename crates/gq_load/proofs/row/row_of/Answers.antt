@@ -1,7 +1,6 @@
 use Rattle.std.proofs.Common.{◌≡◌, ◌∙◌, ◌&&◌, true, length, map, eqb, bytes_eq, false, rules, nat_eq, inr, ap, sym, arith}
 use Rattle.std.specs.Prelude.{nat_lt}
 use Rattle.std.specs.List.{list_all}
-use Rattle.csv.specs.Records.{fields_of}
 use Rattle.gq_row.specs.Repeats.{no_repeats}
 use Rattle.gq_row.specs.declared.schema.Column.{Column}
 use Rattle.gq_row.specs.Fitting.{has_null as no_key}
@@ -21,19 +20,19 @@ has_null-requires c = λ k d h.
 
 pub returns-then-not-is_whole : goal.returns-then-not-is_whole
 returns-then-not-is_whole c =
-    let given = fields_of c.args.byte_record.now in
+    let given = c.args.byte_record.now in
     let fields = completed c.args.format.now.short (length c.args.format.now.header) given in
     let other : eqb (length fields) (length c.args.format.now.header) ≡ false = search (rules, c.if-not-is_whole.true, c.is_whole.ensures, c.places-places.ensures.value) in
     inr (other_count c.args.format.now.schema.now c.args.format.now.limits.now.bounds.text c.args.format.now.header c.args.number fields other)
 
 pub cells_of-requires-clause-count : goal.cells_of-requires-clause-count
 cells_of-requires-clause-count c =
-    within c.args.format.now.short (length c.args.format.now.header) (fields_of c.args.byte_record.now) (rw c.places-places.ensures.value at (sym c.is_whole.ensures ∙ c.if-not-is_whole.false))
+    within c.args.format.now.short (length c.args.format.now.header) c.args.byte_record.now (rw c.places-places.ensures.value at (sym c.is_whole.ensures ∙ c.if-not-is_whole.false))
 
 pub returns-then-has_null : goal.returns-then-has_null
 returns-then-has_null c =
     let schema = c.args.format.now.schema.now in
-    let given = fields_of c.args.byte_record.now in
+    let given = c.args.byte_record.now in
     let count = length c.args.format.now.header in
     let fields = completed c.args.format.now.short count given in
     let whole = rw c.places-places.ensures.value at (sym c.is_whole.ensures ∙ c.if-not-is_whole.false) in
