@@ -1,16 +1,21 @@
 -- A record that is copied, byte by byte.
 use Rattle.std.proofs.Common.{◌≡◌, ◌∙◌, ℕ, Bool, true, false, List, [], ◌∷◌, ◌++◌, Option, Some, None, if◌then◌else◌, refl, sym, ap, subst}
-use Rattle.std.specs.Io.KnownBytes.{Consumes, IsAtEnd, Keeps}
+use Rattle.std.specs.Io.KnownBytes.{Consumes, IsAtEnd, Keeps, prepend_known}
+use Rattle.std.specs.List.{position_or_len}
 use Rattle.csv.specs.Machine.{ends_at_end, field_after, fields_after, is_end, next_record, step}
 use Rattle.csv.specs.Reading.{default_config}
 use Rattle.csv.specs.declared.parser.Action.{Action}
 use Rattle.csv.specs.declared.parser.Action.TheVariants as act
 use Rattle.csv.specs.declared.parser.State.{State}
 use Rattle.csv.specs.declared.parser.State.TheVariants as st
-use Rattle.std.specs.Prelude.{IfOk, Result, Ok, Err}
+use Rattle.std.specs.Prelude.{IfOk, Result, Ok, Err, take, drop}
 use Rattle.gq_csv.specs.declared.state.State.{State as OwnState}
-use Rattle.gq_csv.specs.Steps.{machine_state}
+use Rattle.gq_csv.specs.declared.state.State.TheVariants as own
+use Rattle.gq_csv.specs.Bytes.{is_special}
+use Rattle.gq_csv.specs.Inputs.{Ahead, known}
+use Rattle.gq_csv.specs.Steps.{IsInside, machine_state}
 use Rattle.gq_csv.specs.Reads.{EndsAs, Reads}
+use Rattle.gq_csv.proofs.ScanLemmas.{join_plain, join_quoted}
 
 -- the next record of the bytes at first is the one that is now copied, before the bytes that are left
 abbrev pub Tracks : Option (List ℕ) → State → List (List ℕ) → List ℕ → Option (List ℕ) → Type 0
@@ -35,6 +40,24 @@ tracks_byte (Some xs) (Some ys) (Some zs) s t a fields field b k e goes h = h �
         → (if is_end x.1 then Some (fields_after x.1 fields field, x.0, zs) else next_record default_config x.0 (fields_after x.1 fields field) (field_after x.1 b field) zs)
         ≡ next_record default_config t (fields_after a fields field) (field_after a b field) zs
     by_step x e = rw (e, goes) refl
+
+-- the plain bytes at the start of those that are left
+tracks_plain : (all after : Option (List ℕ)) (s : OwnState) (fields : List (List ℕ)) (field ahead : List ℕ) → IsInside s → Tracks all (machine_state s) fields field (prepend_known ahead after)
+    → Tracks all (machine_state s) fields (field ++ take (position_or_len is_special ahead) ahead) (prepend_known (drop (position_or_len is_special ahead) ahead) after)
+tracks_plain None after s fields field ahead inside h = tt
+tracks_plain (Some xs) None s fields field ahead inside h = h
+tracks_plain (Some xs) (Some more) own.StartRecord fields field ahead inside h = absurd inside
+tracks_plain (Some xs) (Some more) own.StartField fields field ahead inside h = absurd inside
+tracks_plain (Some xs) (Some more) own.InField fields field ahead inside h = h ∙ join_plain fields field ahead more
+tracks_plain (Some xs) (Some more) own.InQuoted fields field ahead inside h = h ∙ join_quoted fields field ahead more
+tracks_plain (Some xs) (Some more) own.AfterQuote fields field ahead inside h = absurd inside
+
+-- a byte that is copied, and the plain bytes after it
+pub tracks_copied : (all left : Option (List ℕ)) (old new : Ahead) (s : State) (t : OwnState) (fields : List (List ℕ)) (field copied : List ℕ) (b : ℕ) → Consumes left (known old) (b ∷ [])
+    → new.ahead ≡ drop (position_or_len is_special old.ahead) old.ahead → new.after ≡ old.after → copied ≡ (field ++ b ∷ []) ++ take (position_or_len is_special old.ahead) old.ahead
+    → step default_config s b ≡ (machine_state t, act.Copy) → IsInside t → Tracks all s fields field left → Tracks all (machine_state t) fields copied (known new)
+tracks_copied all left old new s t fields field copied b k ahead after is e inside h =
+    rw (ahead, after, is) (tracks_plain all old.after t fields (field ++ b ∷ []) old.ahead inside (tracks_byte all left (known old) s (machine_state t) act.Copy fields field b k e refl h))
 
 -- a byte that ends the record
 pub tracks_end : (all left after : Option (List ℕ)) (s : State) (fields : List (List ℕ)) (field : List ℕ) (b : ℕ) → Consumes left after (b ∷ [])

@@ -52,7 +52,7 @@ end_step b comma line = rw (comma, line) refl
 
 -- ---- plain bytes join the field
 
-join_plain : (fields : List (List ℕ)) (field ys more : List ℕ)
+pub join_plain : (fields : List (List ℕ)) (field ys more : List ℕ)
     → Next st.InField fields field (ys ++ more) ≡ Next st.InField fields (field ++ take (position_or_len is_special ys) ys) (drop (position_or_len is_special ys) ys ++ more)
 unfolding next_record
 join_plain fields field [] more = ap (λ f. Next st.InField fields f more) (sym (append-nil field))
@@ -64,6 +64,22 @@ join_plain fields field (y ∷ rest) more = by_byte (is_special y) refl (join_pl
         ≡ Next st.InField fields (field ++ take (position_or_len is_special (y ∷ rest)) (y ∷ rest)) (drop (position_or_len is_special (y ∷ rest)) (y ∷ rest) ++ more)
     by_byte true e again = rw (e, append-nil field) refl
     by_byte false e again = rw (plain_step y (plain y e), e, one-add (position_or_len is_special rest)) (again ∙ ap (λ f. Next st.InField fields f (drop (position_or_len is_special rest) rest ++ more)) (append_assoc field (y ∷ []) _))
+
+quoted_step : (b : ℕ) → Plain b → step default_config st.InQuoted b ≡ (st.InQuoted, act.Copy)
+quoted_step b h = rw h.quote refl
+
+pub join_quoted : (fields : List (List ℕ)) (field ys more : List ℕ)
+    → Next st.InQuoted fields field (ys ++ more) ≡ Next st.InQuoted fields (field ++ take (position_or_len is_special ys) ys) (drop (position_or_len is_special ys) ys ++ more)
+unfolding next_record
+join_quoted fields field [] more = ap (λ f. Next st.InQuoted fields f more) (sym (append-nil field))
+join_quoted fields field (y ∷ rest) more = by_byte (is_special y) refl (join_quoted fields (field ++ y ∷ []) rest more)
+  where
+    by_byte : (b : Bool) → is_special y ≡ b
+        → Next st.InQuoted fields (field ++ y ∷ []) (rest ++ more) ≡ Next st.InQuoted fields ((field ++ y ∷ []) ++ take (position_or_len is_special rest) rest) (drop (position_or_len is_special rest) rest ++ more)
+        → Next st.InQuoted fields field ((y ∷ rest) ++ more)
+        ≡ Next st.InQuoted fields (field ++ take (position_or_len is_special (y ∷ rest)) (y ∷ rest)) (drop (position_or_len is_special (y ∷ rest)) (y ∷ rest) ++ more)
+    by_byte true e again = rw (e, append-nil field) refl
+    by_byte false e again = rw (quoted_step y (plain y e), e, one-add (position_or_len is_special rest)) (again ∙ ap (λ f. Next st.InQuoted fields f (drop (position_or_len is_special rest) rest ++ more)) (append_assoc field (y ∷ []) _))
 
 -- a field that doesn't begin with a quote
 start_plain : (fields : List (List ℕ)) (y : ℕ) (rest : List ℕ) → eqb y 34 ≡ false → Next st.StartField fields [] (y ∷ rest) ≡ Next st.InField fields [] (y ∷ rest)

@@ -1,4 +1,4 @@
--- A record that is copied byte by byte.
+-- A record that is copied.
 use Rattle.std.specs.Prelude.{ℕ, List}
 
 -- the fields that ended, and the bytes of the next one so far

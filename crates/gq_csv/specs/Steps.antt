@@ -18,10 +18,18 @@ machine_state state.InField = st.InField
 machine_state state.InQuoted = st.InQuoted
 machine_state state.AfterQuote = st.AfterQuote
 
--- a step is that of the `csv` crate's machine
+-- a state in which a plain byte is copied, and changes nothing else
+abbrev pub IsInside : State → Type 0
+IsInside state.StartRecord = ⊥
+IsInside state.StartField = ⊥
+IsInside state.InField = Unit {0}
+IsInside state.InQuoted = Unit {0}
+IsInside state.AfterQuote = ⊥
+
+-- a step is that of the `csv` crate's machine; one that copies its byte ends within a field
 abbrev pub IsStep : State → ℕ → Step → Type 0
 IsStep s b (step.Skip t) = machine_step default_config (machine_state s) b ≡ (machine_state t, act.Skip)
-IsStep s b (step.Copy t) = machine_step default_config (machine_state s) b ≡ (machine_state t, act.Copy)
+IsStep s b (step.Copy t) = (machine_step default_config (machine_state s) b ≡ (machine_state t, act.Copy)) × IsInside t
 IsStep s b step.EndField = machine_step default_config (machine_state s) b ≡ (st.StartField, act.EndField)
 IsStep s b step.EndRecord = (machine_step default_config (machine_state s) b).1 ≡ act.EndRecord
 

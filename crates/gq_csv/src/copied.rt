@@ -1,9 +1,12 @@
-//! A record, copied byte by byte.
-ghost use Rattle.std.specs.Prelude.{◌≡◌, ◌<◌, true, false, IfOk, OnOk, length};
+//! A record that is copied: special bytes go through the state machine, and those between them at once.
+ghost use Rattle.std.specs.Prelude.{◌≡◌, ◌<◌, ◌++◌, true, false, IfOk, OnOk, length, take, drop};
 ghost use Rattle.std.specs.Io.KnownBytes.{IsAtEnd, Keeps};
+ghost use Rattle.std.specs.List.{position_or_len};
+ghost use Rattle.gq_csv.specs.Bytes.{is_special};
 ghost use Rattle.gq_csv.specs.Inputs.{known};
 ghost use Rattle.gq_csv.specs.Reads.{EndsAs, Gave, Reads};
 
+use crate::find::find_special;
 use crate::input::Input;
 use crate::read_error::ReadError;
 use crate::record::Record;
@@ -13,7 +16,7 @@ use std::alloc::Global;
 use std::io::Read;
 use std::marker::Model;
 
-/// A record that is copied byte by byte. Seen as the fields that ended, and the bytes of the next one so
+/// A record that is copied. Seen as the fields that ended, and the bytes of the next one so
 /// far.
 #[derive(Drop)]
 pub(crate) struct CopiedRecord {
@@ -75,6 +78,14 @@ impl CopiedRecord {
         Ok(())
     }
 
+    fn push_all(&mut self, bytes: &[u8]) -> Result<(), ReadError>
+        ensures fields { OnOk result (self.new.fields ≡ self.old.fields) }
+        ensures field { OnOk result (self.new.field ≡ self.old.field ++ bytes.now) }
+    {
+        self.bytes.extend_from_slice(bytes)?;
+        Ok(())
+    }
+
     fn end_field(&mut self) -> Result<(), ReadError>
         ensures fields { OnOk result (self.new.fields ≡ self.old.fields ++ self.old.field ∷ []) }
         ensures field { OnOk result (self.new.field ≡ []) }
@@ -106,6 +117,7 @@ pub(crate) fn copy_record<R: Read>(
             Step::Skip(next) => state = next,
             Step::Copy(next) => {
                 copied.push(byte)?;
+                copy_plain(input, copied)?;
                 state = next;
             }
             Step::EndField => {
@@ -119,6 +131,21 @@ pub(crate) fn copy_record<R: Read>(
         }
     }
     Err(ReadError::Source)
+}
+
+// Copies the bytes up to the next special one, if they are read ahead already.
+fn copy_plain<R: Read>(input: &mut Input<R>, copied: &mut CopiedRecord) -> Result<(), ReadError>
+    ensures ahead { OnOk result (input.new.ahead
+        ≡ drop (position_or_len is_special input.old.ahead) input.old.ahead) }
+    ensures after { OnOk result (input.new.after ≡ input.old.after) }
+    ensures fields { OnOk result (copied.new.fields ≡ copied.old.fields) }
+    ensures field { OnOk result (copied.new.field ≡ copied.old.field
+        ++ take (position_or_len is_special input.old.ahead) input.old.ahead) }
+{
+    let plain = find_special(input.ahead(), 0);
+    copied.push_all(&input.ahead()[..plain])?;
+    input.take(plain);
+    Ok(())
 }
 
 // Ends the record at the end of the text, and returns whether there is one.

@@ -6,7 +6,7 @@
 //!
 //! A [`RecordReader`] finds the ends of a record's fields sixteen bytes at a time, and lends the fields
 //! from its buffer. Only a record with a quote, one that is longer than the buffer, and a last one
-//! without a line end are copied, byte by byte.
+//! without a line end are copied.
 #![tactic(auto)]
 
 mod copied;

@@ -1,4 +1,4 @@
-use Rattle.std.proofs.Common.{◌<◌, length, sym, arith}
+use Rattle.std.proofs.Common.{sym}
 use Rattle.gq_csv.proofs.FieldLemmas.{field_there, no_field}
 use Rattle.gq_csv.proofs.record.Record.get.Goals as goal
 
