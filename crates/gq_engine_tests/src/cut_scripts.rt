@@ -74,7 +74,7 @@ fn script_of(alloc: Global, parts: &[Part]) -> Result<Vec<u8>, AllocError> {
 }
 
 /// The replies to the first `count` bytes of the script.
-fn replies_to_front(alloc: Global, parts: &[Part], count: usize) -> Result<Vec<u8>, AllocError> {
+fn replies_to_prefix(alloc: Global, parts: &[Part], count: usize) -> Result<Vec<u8>, AllocError> {
     let mut replies = Vec::new(alloc);
     let mut left = count;
     for (bytes, answer, stays) in parts {
@@ -107,7 +107,7 @@ fn run_into(alloc: Global, script: &[u8], writer: &mut Fussy) -> Result<Summary,
 fn assert_cut(rt: &impl Abort, alloc: Global, parts: &[Part]) -> Result<(), Fail> {
     let whole = script_of(alloc, parts)?;
     for count in 0..whole.len().saturating_add(1) {
-        let due = replies_to_front(alloc, parts, count)?;
+        let due = replies_to_prefix(alloc, parts, count)?;
         let (prefix, _rest) = whole.as_slice().split_at(count.min(whole.len()));
         for size in [1usize, 1_000] {
             let (written, ended) = run_over(alloc, Pieces::of(prefix, size));
@@ -149,7 +149,7 @@ fn an_open_payload_is_cut(rt: HostRuntime) -> Result<(), Fail> {
 /// written is a prefix of the whole script's replies.
 fn assert_reads_fail(rt: &impl Abort, alloc: Global, parts: &[Part]) -> Result<(), Fail> {
     let whole = script_of(alloc, parts)?;
-    let due = replies_to_front(alloc, parts, whole.len())?;
+    let due = replies_to_prefix(alloc, parts, whole.len())?;
     for fails_at in 1..whole.len().saturating_add(2) {
         let reader = Pieces {
             bytes: whole.as_slice(),
@@ -183,7 +183,7 @@ fn assert_writes_fail(
     trouble: Trouble,
 ) -> Result<(), Fail> {
     let whole = script_of(alloc, parts)?;
-    let due = replies_to_front(alloc, parts, whole.len())?;
+    let due = replies_to_prefix(alloc, parts, whole.len())?;
     for k in 1..due.len().saturating_add(1) {
         let mut writer = Fussy::new(alloc, 1, trouble, k);
         let ended = run_into(alloc, whole.as_slice(), &mut writer);

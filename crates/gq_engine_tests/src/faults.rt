@@ -11,7 +11,7 @@ use std::process::Abort;
 use std::test::Fail;
 
 /// The replies to the first lines of the script.
-fn replies_to(alloc: Global, lines: usize) -> Result<Vec<u8>, AllocError> {
+fn first_replies(alloc: Global, lines: usize) -> Result<Vec<u8>, AllocError> {
     let mut replies = Vec::new(alloc);
     for (_line, reply) in STATIONS.iter().take(lines) {
         replies.extend_from_slice(reply)?;
@@ -65,7 +65,7 @@ fn expect_read_fault(
     error: ErrorKind,
 ) -> Result<(), Fail> {
     let lines = lines_within(script, fails_at.saturating_sub(1));
-    let due = replies_to(alloc, lines)?;
+    let due = first_replies(alloc, lines)?;
     let mut written = Vec::new(alloc);
     let reader = Pieces::failing(script, fails_at, error);
     expect_fault(rt, alloc, reader, &mut written, Fault::Read, lines)?;
@@ -146,7 +146,7 @@ fn expect_write_fault(
 #[test]
 fn each_write_fails(rt: HostRuntime) -> Result<(), Fail> {
     let whole = script(rt.alloc())?;
-    let due = replies_to(rt.alloc(), STATIONS.len())?;
+    let due = first_replies(rt.alloc(), STATIONS.len())?;
     for k in 1..due.len().saturating_add(1) {
         for trouble in [
             Trouble::Write(ErrorKind::Other),
@@ -175,7 +175,7 @@ fn expect_flush_fault(
     error: ErrorKind,
     most: usize,
 ) -> Result<(), Fail> {
-    let due = replies_to(alloc, k)?;
+    let due = first_replies(alloc, k)?;
     let mut writer = Fussy::new(alloc, most, Trouble::Flush(error), k);
     expect_fault(rt, alloc, script, &mut writer, Fault::Write, k)?;
     expect_at(rt, k, writer.written.as_slice(), due.as_slice());

@@ -35,7 +35,7 @@ pub fn script(alloc: Global) -> Result<Vec<u8>, AllocError> {
 
 /// The replies to the first `count` bytes of that script: those to its whole lines, and a refusal
 /// if it ends within a line, since no prefix of these lines is a command.
-pub fn replies_to_front(alloc: Global, count: usize) -> Result<Vec<u8>, AllocError> {
+pub fn replies_to_prefix(alloc: Global, count: usize) -> Result<Vec<u8>, AllocError> {
     let mut replies = Vec::new(alloc);
     let mut left = count;
     for (line, reply) in STATIONS {
@@ -230,7 +230,7 @@ fn expect_cut(
 fn scripts_cut_at_each_byte(rt: HostRuntime) -> Result<(), Fail> {
     let whole = script(rt.alloc())?;
     for count in 0..whole.len().saturating_add(1) {
-        let due = replies_to_front(rt.alloc(), count)?;
+        let due = replies_to_prefix(rt.alloc(), count)?;
         for size in [1usize, 2, 3, 7, 1000] {
             expect_cut(
                 &rt,

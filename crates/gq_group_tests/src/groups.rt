@@ -390,19 +390,3 @@ fn five_hundred_rows_in_fifty_groups(rt: HostRuntime) -> Result<(), Fail> {
     }
     Ok(())
 }
-
-/// A grouping by two columns, by none, the first and both of them.
-#[test]
-fn prefixes_of_a_grouping(rt: HostRuntime) -> Result<(), Fail> {
-    let alloc = rt.alloc();
-    let spec = spec(alloc, &[0, 1], COUNT)?;
-    assert!(rt; spec.by().len() == 2);
-    let cases: [(usize, &[usize]); 3] = [(0, &[]), (1, &[0]), (2, &[0, 1])];
-    for (columns, by) in cases {
-        if columns <= spec.by().len() {
-            let prefix = spec.prefix(alloc, columns)?;
-            assert!(rt; prefix.by() == by && prefix.aggs() == COUNT);
-        }
-    }
-    Ok(())
-}
