@@ -4,8 +4,8 @@
 //! separated by commas and may be quoted, a line ends by CR, LF or both, and blank lines are dropped.
 //! So is a UTF-8 byte-order mark at the start.
 //!
-//! A [`RecordReader`] finds the ends of a record's fields sixteen bytes at a time, and lends the fields
-//! from its buffer. Only a record with a quote, one that is longer than the buffer, and a last one
+//! A [`RecordReader`] finds the ends of a record's fields sixteen bytes at a time, and the fields are
+//! borrowed from its buffer. Only a record with a quote, one that is longer than the buffer, and a last one
 //! without a line end are copied.
 #![tactic(auto)]
 

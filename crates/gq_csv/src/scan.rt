@@ -9,7 +9,7 @@ use std::alloc::AllocError;
 /// What is at the start of a text.
 #[derive(Clone, Copy)]
 pub(crate) enum Scan {
-    /// A record without quotes, of so many bytes with its line end.
+    /// A record without quotes, and its length in bytes, with its line end.
     Record(usize),
     /// A record with a quote.
     Quoted,
