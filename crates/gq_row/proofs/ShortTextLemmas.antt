@@ -1,7 +1,10 @@
 -- Texts that fit in 22 bytes: how they are made, and when two are equal.
-use Rattle.std.proofs.Common.{◌≡◌, ◌-◌, ◌≤◌, ℕ, Bool, true, false, List, ◌++◌, length, take, drop, replicate, bytes_eq, ◌&&◌, refl, sym, ap, subst, ◌∙◌, arith, length-append, length-drop}
+use Rattle.std.proofs.Common.{◌≡◌, ◌+◌, ◌-◌, ◌≤◌, ℕ, Bool, true, false, List, ◌++◌, length, take, drop, replicate, bytes_eq, ◌&&◌, refl, sym, ap, subst, ◌∙◌, arith, append_assoc, length-append, length-drop, length-take-le}
 use Rattle.std.specs.Prelude.{IsUtf8}
-use Rattle.std.proofs.lemmas.List.{drop-replicate, take_all, drop-drop, length-replicate, take-append-drop}
+use lib.Lanes.{put_chunk}
+use Rattle.std.proofs.lemmas.List.{drop-replicate, take_all, drop-drop, length-replicate, take-append-drop, take-append-le, take-take}
+use Rattle.std.proofs.lemmas.Simd.{put_chunk_is}
+use Rattle.std.proofs.lemmas.Slice.{drop-append-drop}
 use Rattle.std.proofs.Math.Seq.{take-append_seam, drop-append_seam}
 use Rattle.std.proofs.lemmas.Bool.{and_parts}
 use Rattle.std.proofs.lemmas.Slice.Eq.{bytes_eq-Decides}
@@ -68,3 +71,31 @@ module _ (a b : List ℕ) (here : length a ≡ 22) (there : length b ≡ 22) whe
       (bytes_eq-Decides a b).1 (both ((bytes_eq-Decides _ _).0 parts.0) (sym (back_is a here) ∙ (bytes_eq-Decides _ _).0 parts.1 ∙ back_is b there)))
       (λ same. let e = (bytes_eq-Decides a b).0 same in
       and_is _ _ ((bytes_eq-Decides (take 16 a) (take 16 b)).1 (λ i. take 16 (e i))) ((bytes_eq-Decides (take 16 (drop 6 a)) (take 16 (drop 6 b))).1 (λ i. take 16 (drop 6 (e i)))))
+
+-- ---- a copy of both ends, which overlap
+
+module _ (n last : ℕ) (bytes text : List ℕ) (size : length text ≡ last + n) (covers : last ≤ n) (fits : length text ≤ length bytes) where
+  front_size : length (take n text) ≡ n
+  front_size = length-take-le n text (omega (arith, size))
+
+  back_size : length (drop last text) ≡ n
+  back_size = omega (arith, size, length-drop last text)
+
+  front : put_chunk 0 bytes (take n text) ≡ take n text ++ drop n bytes
+  front = put_chunk_is 0 bytes (take n text) (omega (arith, front_size, size, fits)) ∙ ap (λ k. take n text ++ drop k bytes) front_size
+
+  before : take last (take n text ++ drop n bytes) ≡ take last text
+  before = take-append-le last (take n text) (drop n bytes) (omega (arith, front_size, covers)) ∙ take-take last n text covers
+
+  after : drop n (drop last (take n text ++ drop n bytes)) ≡ drop (length text) bytes
+  after =
+      drop-drop n last (take n text ++ drop n bytes) ∙ drop-append-drop n bytes (take n text) (last + n) (omega arith) front_size ∙ ap (λ k. drop k bytes) (sym size)
+
+  pub both_ends : put_chunk last (put_chunk 0 bytes (take n text)) (take n (drop last text)) ≡ text ++ drop (length text) bytes
+  both_ends =
+      ap (put_chunk last (put_chunk 0 bytes (take n text))) (take_all n (drop last text) (omega (arith, back_size)))
+      ∙ ap (λ l. put_chunk last l (drop last text)) front
+      ∙ put_chunk_is last (take n text ++ drop n bytes) (drop last text) (omega (arith, length-append (take n text) (drop n bytes), front_size, back_size, size, fits, length-drop n bytes))
+      ∙ (λ i. before i ++ (drop last text ++ drop (back_size i) (drop last (take n text ++ drop n bytes))))
+      ∙ ap (λ l. take last text ++ (drop last text ++ l)) after
+      ∙ sym (append_assoc (take last text) (drop last text) (drop (length text) bytes)) ∙ ap (λ l. l ++ drop (length text) bytes) (take-append-drop last text)

@@ -74,7 +74,7 @@ impl Names<Key> for KeyRef<'_> {
 
     #[inline(always)]
     fn same(&self, key: &Key) -> bool {
-        has_key(self.row, self.positions, key.cells())
+        has_key(self.row, self.positions, key)
     }
 
     #[inline]
@@ -113,7 +113,22 @@ impl Names<Key> for KeyCells<'_> {
 
 // Whether the folds of a row's values in the columns at these positions are a key's values.
 #[inline(always)]
-fn has_key(row: &[Value], positions: &[usize], key: &[Value]) -> bool
+fn has_key(row: &[Value], positions: &[usize], key: &Key) -> bool
+    requires { All (λ position. position < length row.now) positions.now }
+    ensures { result ≡ same_key (key_of positions.now row.now) key.now }
+{
+    if positions.len() == 1
+        && let Some(number) = key.number()
+        && let Value::Int(n) = &row[positions[0]]
+    {
+        return *n == number;
+    }
+    has_cells(row, positions, key.cells())
+}
+
+// As `has_key`, with a list of values. Not inlined, so that look-ups of single numbers stay short.
+#[inline(never)]
+fn has_cells(row: &[Value], positions: &[usize], key: &[Value]) -> bool
     requires { All (λ position. position < length row.now) positions.now }
     ensures { result ≡ same_key (key_of positions.now row.now) key.now }
 {

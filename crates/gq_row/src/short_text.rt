@@ -1,5 +1,5 @@
 //! Texts of up to 22 bytes, stored inline.
-ghost use Rattle.std.specs.Prelude.{◌≡◌, ◌+◌, ◌≤◌, [], length, take, drop, bytes_eq};
+ghost use Rattle.std.specs.Prelude.{◌≡◌, ◌+◌, ◌≤◌, ◌++◌, [], length, take, drop, bytes_eq};
 
 use std::marker::Model;
 use std::simd::prelude::*;
@@ -51,13 +51,13 @@ impl ShortText {
     }
 
     /// A copy of a text.
-    #[inline]
+    #[inline(always)]
     pub(crate) fn of(chars: &str) -> ShortText
         requires { length chars.now ≤ MOST }
         ensures { result ≡ chars.now }
     {
         let mut bytes = [0; MOST];
-        bytes[..chars.len()].copy_from_slice(chars.as_bytes());
+        copy_over(&mut bytes, chars.as_bytes());
         ShortText {
             len: chars.len() as u8,
             bytes,
@@ -84,6 +84,46 @@ impl ShortText {
         ensures { result ≡ bytes_eq self.now other.now }
     {
         self.len == other.len && same_bytes(&self.bytes, &other.bytes)
+    }
+}
+
+// Copies a text of at most 22 bytes over the first bytes, without a call.
+#[inline(always)]
+fn copy_over(bytes: &mut [u8], text: &[u8])
+    requires fits { length text.now ≤ length bytes.old }
+    requires short { length text.now ≤ MOST }
+    ensures { bytes.new ≡ text.now ++ drop (length text.now) bytes.old }
+{
+    if text.len() >= 16 {
+        copy_ends::<16>(bytes, text);
+    } else if text.len() >= 8 {
+        copy_ends::<8>(bytes, text);
+    } else if text.len() >= 4 {
+        copy_ends::<4>(bytes, text);
+    } else {
+        copy_bytewise(bytes, text);
+    }
+}
+
+// Copies the first and the last `N` bytes of a text, which overlap.
+#[inline(always)]
+fn copy_ends<const N: usize>(bytes: &mut [u8], text: &[u8])
+    requires fits { length text.now ≤ length bytes.old }
+    requires covers { (N ≤ length text.now) × (length text.now ≤ N + N) }
+    ensures { bytes.new ≡ text.now ++ drop (length text.now) bytes.old }
+{
+    let last = text.len() - N;
+    Simd::<u8, N>::from_slice(text).copy_to_slice(bytes);
+    Simd::<u8, N>::from_slice(&text[last..]).copy_to_slice(&mut bytes[last..]);
+}
+
+#[inline(always)]
+fn copy_bytewise(bytes: &mut [u8], text: &[u8])
+    requires { length text.now ≤ length bytes.old }
+    ensures { bytes.new ≡ text.now ++ drop (length text.now) bytes.old }
+{
+    'bytes: for i in 0..text.len() {
+        bytes[i] = text[i];
     }
 }
 

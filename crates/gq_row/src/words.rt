@@ -53,14 +53,15 @@ pub(crate) fn fold_row_words<F: WordStep>(
     acc
 }
 
-// Hashes the words of a value's fold, without making the fold.
-#[inline]
+// Hashes the words of a value's fold, without making the fold. Only that of a number is in line.
+#[inline(always)]
 fn fold_words_of_fold<F: WordStep>(value: &Value, start: u64, f: &F) -> u64
     ensures { result ≡ fold (F.next f.now) start (value_words (folded value.now)) }
 {
     match value {
+        Value::Int(number) => f.step(start, number.cast_unsigned()),
         Value::NoCase(text) => fold_lowered_words(text, start, f),
-        Value::Null | Value::Int(_) | Value::Text(_) => fold_value_words(value, start, f),
+        Value::Null | Value::Text(_) => fold_value_words(value, start, f),
     }
 }
 
