@@ -131,6 +131,12 @@ pub(crate) fn keep_less(alloc: Global, least: &mut Value, value: &Value) -> Resu
     ensures err { OnErr result (least.new ≡ least.old) }
     ensures memory { (is_text value.now && is_less least.old value.now) ≡ false → IsOk result }
 {
+    if let (Value::Int(n), Value::Int(least)) = (value, &mut *least) {
+        if *n < *least {
+            *least = *n;
+        }
+        return Ok(());
+    }
     if !value.is_null() && (least.is_null() || compare(value, least) == Ordering::Less) {
         return keep(alloc, least, value);
     }
@@ -149,6 +155,12 @@ pub(crate) fn keep_greater(
     ensures memory { (is_text value.now && is_greater greatest.old value.now) ≡ false →
         IsOk result }
 {
+    if let (Value::Int(n), Value::Int(greatest)) = (value, &mut *greatest) {
+        if *greatest < *n {
+            *greatest = *n;
+        }
+        return Ok(());
+    }
     if compare(greatest, value) == Ordering::Less {
         return keep(alloc, greatest, value);
     }
