@@ -1,8 +1,11 @@
 -- Lists of numbers in the order of keys.
-use Rattle.std.proofs.Common.{◌≡◌, ℤ, List, [], ◌∷◌, Option, Some, None, map, Ordering, Less, Equal, Greater, refl, sym, ap₂, ◌∙◌}
+use Rattle.std.proofs.Common.{◌≡◌, ℕ, ℤ, true, List, [], ◌∷◌, Option, Some, None, map, Ordering, Less, Equal, Greater, refl, sym, ap₂, ◌∙◌}
+use Rattle.std.specs.Cmp.{Equal-is}
 use Rattle.std.specs.Cmp.Lexicographic.{slice_cmp}
 use Rattle.std.specs.Option.{option_cmp}
-use Rattle.std.specs.Ordering.{int_cmp, ordering_then}
+use Rattle.std.specs.Ordering.{int_cmp, nat_cmp, ordering_then}
+use Rattle.std.specs.Prelude.{bytes_eq}
+use Rattle.std.proofs.lemmas.Map.Text.{is_eq-slice_cmp}
 use Rattle.gq_row.specs.declared.value.Value.{Value}
 use Rattle.gq_row.specs.declared.value.Value.TheVariants.{Int}
 use Rattle.gq_row.specs.Order.{compare_keys, compare_values, folded_order, plain_order}
@@ -69,3 +72,7 @@ first_told Greater q told = refl
 
 pub keys_by_folds : (a b : List Value) → (slice_cmp folded_order a b ≡ Equal → ⊥) → slice_cmp folded_order a b ≡ compare_keys a b
 keys_by_folds a b told = first_told (slice_cmp folded_order a b) (slice_cmp plain_order a b) told
+
+-- texts of the same bytes tie
+pub texts_tie : (s t : List ℕ) → bytes_eq s t ≡ true → Equal ≡ slice_cmp nat_cmp s t
+texts_tie s t same = sym ((Equal-is (slice_cmp nat_cmp s t)).0 (is_eq-slice_cmp s t ∙ same))

@@ -441,11 +441,9 @@ pub(crate) fn push_value(values: &mut Vec<Value>, value: &mut Value) -> Result<(
     ensures pushed { OnOk result (values.new.items ≡ values.old.items ++ value.old ∷ []) }
     ensures unchanged { OnErr result (values.new.items ≡ values.old.items) }
 {
-    match value {
-        // Copies the number, and not the whole `Value`.
-        Value::Int(n) => values.push(Value::Int(*n))?,
-        value => values.push(mem::replace(value, Value::Null))?,
-    }
+    let place = values.len();
+    values.resize_with(place + 1, || Value::Null)?;
+    mem::swap(&mut values[place], value);
     Ok(())
 }
 
