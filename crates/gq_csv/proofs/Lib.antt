@@ -3,5 +3,6 @@ mod FieldLemmas
 mod FindLemmas
 mod InputLemmas
 mod LaneLemmas
+mod MaskLemmas
 mod RecordLemmas
 mod ScanLemmas

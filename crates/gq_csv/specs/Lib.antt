@@ -2,6 +2,7 @@ pub mod Bytes
 pub mod Copies
 pub mod Fields
 pub mod Inputs
+pub mod Masks
 pub mod Reads
 pub mod Records
 pub mod Scanning

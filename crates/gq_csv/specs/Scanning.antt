@@ -26,3 +26,9 @@ abbrev pub Found : Option (List ℕ) → Option (List ℕ) → List ℕ → List
 Found before after taken spans (scan.Record len) = Reads before after true (fields_in taken spans) × AreWithin (length taken) spans
 Found before after taken spans scan.Quoted = SameRecords before after
 Found before after taken spans scan.Cut = SameRecords before after
+
+-- the length of the record that a scan found at a text's start, or 0
+abbrev pub len_of : Scan → ℕ
+len_of (scan.Record len) = len
+len_of scan.Quoted = 0
+len_of scan.Cut = 0

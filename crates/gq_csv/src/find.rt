@@ -30,8 +30,8 @@ pub(crate) fn find_special(text: &[u8], from: usize) -> usize
     find_bytewise(text, at)
 }
 
-// The same, byte by byte.
-fn find_bytewise(text: &[u8], from: usize) -> usize
+/// The same, byte by byte.
+pub(crate) fn find_bytewise(text: &[u8], from: usize) -> usize
     requires { from ≤ length text.now }
     ensures { result ≡ from + position_or_len is_special (drop from text.now) }
 {

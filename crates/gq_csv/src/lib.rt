@@ -4,7 +4,7 @@
 //! separated by commas and may be quoted, a line ends by CR, LF or both, and blank lines are dropped.
 //! So is a UTF-8 byte-order mark at the start.
 //!
-//! A [`RecordReader`] finds the ends of a record's fields sixteen bytes at a time, and the fields are
+//! A [`RecordReader`] finds the ends of fields sixty-four bytes at a time, and a record's fields are
 //! borrowed from its buffer. Only a record with a quote, one that is longer than the buffer, and a last one
 //! without a line end are copied.
 #![tactic(auto)]
@@ -18,6 +18,7 @@ mod reader;
 mod record;
 mod scan;
 mod span;
+mod special_mask;
 mod state;
 
 pub use read_error::ReadError;

@@ -4,6 +4,7 @@ ghost use Rattle.std.specs.Io.KnownBytes.{Keeps};
 ghost use Rattle.csv.specs.Reading.{is_bom, strip_bom};
 ghost use Rattle.gq_csv.specs.Fields.{AreWithin, fields_in};
 ghost use Rattle.gq_csv.specs.Inputs.{known};
+ghost use Rattle.gq_csv.specs.Masks.{Covers};
 ghost use Rattle.gq_csv.specs.Reads.{Reads, SameRecords};
 ghost use Rattle.gq_csv.specs.Scanning.{Found};
 
@@ -14,6 +15,7 @@ use crate::read_error::ReadError;
 use crate::record::Record;
 use crate::scan::{Scan, scan_record};
 use crate::span::FieldSpan;
+use crate::special_mask::SpecialMask;
 use std::alloc::Global;
 use std::io::Read;
 use std::marker::Model;
@@ -27,6 +29,7 @@ const MARK: usize = 3;
 pub struct RecordReader<R: Read> {
     input: Input<R>,
     spans: Vec<FieldSpan>,
+    mask: SpecialMask,
     copied: CopiedRecord,
     is_copied: bool,
 }
@@ -35,6 +38,7 @@ impl<R: Read> Model for RecordReader<R> {
     ghost use Rattle.std.specs.Prelude.{◌≡◌, false, length, if◌then◌else◌};
     ghost use Rattle.gq_csv.specs.Fields.{AreWithin, fields_in};
     ghost use Rattle.gq_csv.specs.Inputs.{known};
+    ghost use Rattle.gq_csv.specs.Masks.{Covers};
     ghost use Rattle.gq_csv.specs.Records.{Reading, records_of};
 
     ghost Value = { Reading };
@@ -44,7 +48,8 @@ impl<R: Read> Model for RecordReader<R> {
       rest = records_of (known r.input);
     } };
 
-    ghost invariant = { λ r. r.is_copied ≡ false → AreWithin (length r.input.taken) r.spans.items };
+    ghost invariant = { λ r. (r.is_copied ≡ false → AreWithin (length r.input.taken) r.spans.items)
+        × Covers r.input.ahead r.mask };
 }
 
 impl<R: Read + Drop> RecordReader<R> {
@@ -61,6 +66,7 @@ impl<R: Read + Drop> RecordReader<R> {
         Ok(RecordReader {
             input,
             spans: Vec::new(alloc),
+            mask: SpecialMask::none(),
             copied: CopiedRecord::new(alloc),
             is_copied: true,
         })
@@ -77,8 +83,11 @@ impl<R: Read> RecordReader<R> {
     pub fn read(&mut self) -> Result<bool, ReadError>
         ensures { IfOk result (λ found. Took self.old.rest found self.new.fields self.new.rest) }
     {
+        let mut mask = self.mask;
+        self.mask = SpecialMask::none();
         self.is_copied = true;
-        if find_record(&mut self.input, &mut self.spans)? {
+        if find_record(&mut self.input, &mut mask, &mut self.spans)? {
+            self.mask = mask;
             self.is_copied = false;
             return Ok(true);
         }
@@ -122,8 +131,14 @@ fn is_mark(a: u8, b: u8, c: u8) -> bool
 }
 
 // Finds the next record in place, if it has no quote and ends within the buffer. Else only line ends
-// before it are taken.
-fn find_record<R: Read>(input: &mut Input<R>, spans: &mut Vec<FieldSpan>) -> Result<bool, ReadError>
+// before it are taken. `mask` covers the bytes that are read ahead, and again once a record is found.
+fn find_record<R: Read>(
+    input: &mut Input<R>,
+    mask: &mut SpecialMask,
+    spans: &mut Vec<FieldSpan>,
+) -> Result<bool, ReadError>
+    requires { Covers input.old.ahead mask.old }
+    ensures mask { IfOk result (λ found. found ≡ true → Covers input.new.ahead mask.new) }
     ensures found { IfOk result (λ found. found ≡ true →
         Reads (known input.old) (known input.new) true (fields_in input.new.taken spans.new.items)) }
     ensures within { IfOk result (λ found. found ≡ true →
@@ -131,27 +146,51 @@ fn find_record<R: Read>(input: &mut Input<R>, spans: &mut Vec<FieldSpan>) -> Res
     ensures none { IfOk result (λ found. found ≡ false →
         SameRecords (known input.old) (known input.new)) }
 {
-    match take_record(input, spans)? {
+    match take_record(input, mask, spans)? {
         Scan::Record(_) => Ok(true),
         Scan::Quoted => Ok(false),
-        Scan::Cut => {
-            input.refill()?;
-            match take_record(input, spans)? {
-                Scan::Record(_) => Ok(true),
-                Scan::Quoted | Scan::Cut => Ok(false),
-            }
-        }
+        Scan::Cut => find_after_refill(input, mask, spans),
+    }
+}
+
+// As `find_record`, once more bytes are read ahead.
+#[cold]
+fn find_after_refill<R: Read>(
+    input: &mut Input<R>,
+    mask: &mut SpecialMask,
+    spans: &mut Vec<FieldSpan>,
+) -> Result<bool, ReadError>
+    ensures mask { IfOk result (λ found. found ≡ true → Covers input.new.ahead mask.new) }
+    ensures found { IfOk result (λ found. found ≡ true →
+        Reads (known input.old) (known input.new) true (fields_in input.new.taken spans.new.items)) }
+    ensures within { IfOk result (λ found. found ≡ true →
+        AreWithin (length input.new.taken) spans.new.items) }
+    ensures none { IfOk result (λ found. found ≡ false →
+        SameRecords (known input.old) (known input.new)) }
+{
+    input.refill()?;
+    *mask = SpecialMask::none();
+    match take_record(input, mask, spans)? {
+        Scan::Record(_) => Ok(true),
+        Scan::Quoted | Scan::Cut => Ok(false),
     }
 }
 
 // Takes line ends, and then the next record if it is found in place.
 #[inline(always)]
-fn take_record<R: Read>(input: &mut Input<R>, spans: &mut Vec<FieldSpan>) -> Result<Scan, ReadError>
-    ensures { IfOk result (Found (known input.old) (known input.new) input.new.taken spans.new.items) }
+fn take_record<R: Read>(
+    input: &mut Input<R>,
+    mask: &mut SpecialMask,
+    spans: &mut Vec<FieldSpan>,
+) -> Result<Scan, ReadError>
+    requires { Covers input.old.ahead mask.old }
+    ensures found { IfOk result (Found (known input.old) (known input.new) input.new.taken spans.new.items) }
+    ensures mask { IfOk result (λ _. Covers input.new.ahead mask.new) }
 {
     let line_ends = count_line_ends(input.ahead());
     input.take(line_ends);
-    let found = scan_record(input.ahead(), spans)?;
+    mask.skip(line_ends);
+    let found = scan_record(input.ahead(), mask, spans)?;
     if let Scan::Record(len) = found {
         input.take(len);
     }

@@ -1,9 +1,10 @@
 //! The next record, found in place.
-ghost use Rattle.std.specs.Prelude.{IfOk};
-ghost use Rattle.gq_csv.specs.Scanning.{Scanned};
+ghost use Rattle.std.specs.Prelude.{IfOk, drop};
+ghost use Rattle.gq_csv.specs.Masks.{Covers};
+ghost use Rattle.gq_csv.specs.Scanning.{Scanned, len_of};
 
-use crate::find::find_special;
 use crate::span::FieldSpan;
+use crate::special_mask::{SpecialMask, next_special};
 use std::alloc::AllocError;
 
 /// What is at the start of a text.
@@ -17,15 +18,23 @@ pub(crate) enum Scan {
     Cut,
 }
 
-/// Finds the fields of the record at the start of a text, which isn't a line end.
-#[inline]
-pub(crate) fn scan_record(text: &[u8], spans: &mut Vec<FieldSpan>) -> Result<Scan, AllocError>
-    ensures { IfOk result (λ found. Scanned text.now spans.new.items found) }
+/// Finds the fields of the record at the start of a text, which isn't a line end. `mask` covers the text's
+/// first bytes, and if a record is found, afterwards those that follow it.
+#[inline(always)]
+pub(crate) fn scan_record(
+    text: &[u8],
+    mask: &mut SpecialMask,
+    spans: &mut Vec<FieldSpan>,
+) -> Result<Scan, AllocError>
+    requires { Covers text.now mask.old }
+    ensures scanned { IfOk result (λ found. Scanned text.now spans.new.items found) }
+    ensures mask { IfOk result (λ found. Covers (drop (len_of found) text.now) mask.new) }
 {
     spans.clear();
+    let mut rest = *mask;
     let mut start = 0;
     'fields: while start < text.len() {
-        let end = find_special(text, start);
+        let end = next_special(text, start, &mut rest);
         if end >= text.len() {
             break;
         }
@@ -36,6 +45,7 @@ pub(crate) fn scan_record(text: &[u8], spans: &mut Vec<FieldSpan>) -> Result<Sca
         spans.push(FieldSpan { start, end })?;
         start = end + 1;
         if special != b',' {
+            *mask = rest;
             return Ok(Scan::Record(start));
         }
     }

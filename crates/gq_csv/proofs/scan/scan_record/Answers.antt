@@ -2,12 +2,30 @@ use Rattle.gq_csv.proofs.ScanLemmas.{last_field, no_fields, one_field}
 use Rattle.gq_csv.proofs.scan.scan_record.Goals as goal
 
 pub fields-init : goal.fields-init
-fields-init c = rw c.clear.ensures.items (no_fields c.args.text.now)
+fields-init c = record { read = rw c.clear.ensures.items (no_fields c.args.text.now); covers = c.requires; whole = c.requires }
 
-pub returns-then-special-ne44 : goal.returns-then-special-ne44
-returns-then-special-ne44 c =
-    rw c.in_ok-push.ensures.items (last_field c.args.text.now c.fields.spans.items c.fields.start c.find_special-end.result c.fields.invariant c.find_special-end.ensures c.if-end-text.false c.if-special-eq34.false c.if-special-ne44.true)
+pub returns-then-special-ne44-clause-scanned : goal.returns-then-special-ne44-clause-scanned
+returns-then-special-ne44-clause-scanned c =
+    rw c.in_ok-push.ensures.items (last_field c.args.text.now c.fields.spans.items c.fields.start c.next_special-end.result c.fields.invariant.read c.next_special-end.ensures.found c.if-end-text.false c.if-special-eq34.false c.if-special-ne44.true)
+
+pub returns-then-special-ne44-clause-mask : goal.returns-then-special-ne44-clause-mask
+returns-then-special-ne44-clause-mask c = c.next_special-end.ensures.covers c.if-end-text.false
+
+pub returns-then-special-eq34-clause-mask : goal.returns-then-special-eq34-clause-mask
+returns-then-special-eq34-clause-mask c = c.fields.invariant.whole
+
+pub returns-after-fields-clause-mask : goal.returns-after-fields-clause-mask
+returns-after-fields-clause-mask c = c.fields.invariant.whole
+
+pub returns-then-end-text-clause-mask : goal.returns-then-end-text-clause-mask
+returns-then-end-text-clause-mask c = c.fields.invariant.whole
+
+pub next_special-end-requires-clause-covers : goal.next_special-end-requires-clause-covers
+next_special-end-requires-clause-covers c = c.fields.invariant.covers
 
 pub fields-preserved : goal.fields-preserved
-fields-preserved c =
-    rw c.in_ok-push.ensures.items (one_field c.args.text.now c.fields.spans.items c.fields.start c.find_special-end.result c.fields.invariant c.find_special-end.ensures c.if-end-text.false c.if-special-eq34.false c.if-special-ne44.false)
+fields-preserved c = record {
+  read = rw c.in_ok-push.ensures.items (one_field c.args.text.now c.fields.spans.items c.fields.start c.next_special-end.result c.fields.invariant.read c.next_special-end.ensures.found c.if-end-text.false c.if-special-eq34.false c.if-special-ne44.false);
+  covers = c.next_special-end.ensures.covers c.if-end-text.false;
+  whole = c.fields.invariant.whole;
+}

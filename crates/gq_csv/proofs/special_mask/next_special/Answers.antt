@@ -1,0 +1,19 @@
+use Rattle.std.proofs.Common.{◌≤◌, ◌∙◌, ◌+◌, ◌-◌, length, arith}
+use Rattle.gq_csv.proofs.MaskLemmas.{block_covered, goes_on}
+use Rattle.gq_csv.proofs.special_mask.next_special.Goals as goal
+
+pub returns-then-text-at-lt-MASK_LANES-clause-found : goal.returns-then-text-at-lt-MASK_LANES-clause-found
+returns-then-text-at-lt-MASK_LANES-clause-found c =
+    let own = c.blocks-2.invariant in
+    c.find_bytewise.ensures ∙ goes_on c.args.text.now c.blocks-2.at c.blocks-2.mask own.covers c.blocks-2-test.true ∙ own.found
+
+pub blocks-2-preserved : goal.blocks-2-preserved
+blocks-2-preserved c =
+    let own = c.blocks-2.invariant in
+    let at = c.blocks-2.at + c.blocks-2.mask.len in
+    let room : at + 64 ≤ length c.args.text.now = omega (arith, c.if-text-at-lt-MASK_LANES.false, own.within, own.covers.within) in
+    record {
+      within = omega (arith, room);
+      covers = block_covered c.args.text.now at c.special_bits.result (at + 64 - at) (omega arith) room c.special_bits.ensures;
+      found = goes_on c.args.text.now c.blocks-2.at c.blocks-2.mask own.covers c.blocks-2-test.true ∙ own.found;
+    }
