@@ -1,5 +1,5 @@
 -- Numbers, digit by digit.
-use Rattle.std.proofs.Common.{◌≡◌, ◌+◌, ◌-◌, ◌*◌, ◌^◌, ◌<◌, ◌≤◌, ℕ, Bool, true, false, cond, List, [], ◌∷◌, length, drop, get_or, Option, Some, None, refl, ap, add-one, arith}
+use Rattle.std.proofs.Common.{◌≡◌, ◌+◌, ◌-◌, ◌*◌, ◌^◌, ◌<◌, ◌≤◌, ℕ, Bool, true, false, cond, List, [], ◌∷◌, length, drop, get_or, Option, Some, None, refl, sym, ◌∙◌, ap, add-one, arith}
 use Rattle.std.specs.Prelude.{nat_le, nat_lt, ◌&&◌}
 use Rattle.std.specs.Char.{digit_value, is_ascii_digit}
 use Rattle.std.specs.Str.{all_ascii_digits}
@@ -84,9 +84,6 @@ pub filled_by_length : (ds : List ℕ) → 19 < length ds → is_filled ds ≡ t
 filled_by_length [] h = let none : ⊥ = omega (arith, h) in absurd none
 filled_by_length (d ∷ ds) h = refl
 
-pub digit_small : (d : ℕ) → is_ascii_digit d ≡ true → d - 48 ≤ 9
-digit_small d e = grind (arith, nat_tests)
-
 pub within_64 : (v i : ℕ) → v < 10 ^ i → i ≤ 19 → v < 2 ^ 64
 within_64 v i h k =
     let top : 10 ^ i ≤ 10 ^ 19 = pow-le-pow_right (omega arith) k in
@@ -101,3 +98,11 @@ pub one_digit_more : (v i d : ℕ) → v < 10 ^ i → d ≤ 9 → v * 10 + d < 1
 one_digit_more v i d h k =
     let next : 10 ^ (i + 1) ≡ 10 * 10 ^ i = rw (add-one i) (pow-succ' 10 i) in
     omega (arith, h, k, next)
+
+pub over_nine : (digit byte : ℕ) → nat_le digit 9 ≡ is_ascii_digit byte → 9 < digit → is_ascii_digit byte ≡ false
+over_nine digit byte is over = let more : nat_le digit 9 ≡ false = grind (arith, nat_tests) in sym is ∙ more
+
+pub within_63 : (v i : ℕ) → v < 10 ^ i → i < 19 → v < 2 ^ 63
+within_63 v i h k =
+    let top : 10 ^ i ≤ 10 ^ 18 = pow-le-pow_right {n = 10} (omega arith) {j = 18} (omega (arith, k)) in
+    omega (arith, h, top)

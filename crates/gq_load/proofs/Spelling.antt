@@ -1,14 +1,19 @@
 -- Fields that spell numbers.
-use Rattle.std.proofs.Common.{◌≡◌, ◌∙◌, ◌+◌, ◌++◌, ◌<◌, ℕ, ℤ, suc, Bool, true, false, cond, not, List, [], ◌∷◌, take, drop, eqb, Option, Some, None, is_some, refl, sym, ap, arith, inl, inr}
-use Rattle.std.specs.Prelude.{◌&&◌}
+use Rattle.std.proofs.Common.{◌≡◌, ◌∙◌, ◌+◌, ◌++◌, ◌<◌, ℕ, ℤ, suc, Bool, true, false, cond, not, List, [], ◌∷◌, take, drop, eqb, Option, Some, None, length, is_some, refl, sym, ap, subst, arith, inl, inr}
+use Rattle.std.specs.Prelude.{◌&&◌, ◌^◌, bytes_eq, nat_lt, pos}
 use Rattle.std.specs.Char.{is_ascii_digit}
 use Rattle.std.specs.List.{list_all, prefix_len}
 use Rattle.std.specs.Str.{all_ascii_digits}
 use Rattle.std.specs.Str.Parse.{digits_value, without_leading_plus}
 use Rattle.std.proofs.lemmas.Bool.Decides.{nat_tests}
 use Rattle.std.proofs.lemmas.List.{append-nil, take-append-drop}
-use Rattle.gq_load.specs.Numbers.{int_of, is_filled, is_space, number_of, of_digits, signed}
+use Rattle.std.proofs.lemmas.Slice.Eq.{bytes_eq-Decides}
+use Rattle.std.proofs.lemmas.Bool.{ne_eqb}
+use Rattle.gq_row.specs.declared.schema.Kind.TheVariants.{Int}
+use Rattle.gq_load.specs.Fields.{is_null_field, null_field}
+use Rattle.gq_load.specs.Numbers.{int_of, is_filled, is_space, magnitude, number_of, of_digits, signed}
 use Rattle.gq_load.specs.Laws.{SignBefore, SpellsNumber, SpellsInt}
+use Rattle.gq_load.proofs.Numbers.{some_signed}
 use Rattle.gq_load.proofs.Places.{both}
 
 some_if : {A : Type 0} (b : Bool) (o : Option A) (z : A) → cond b o None ≡ Some z → (b ≡ true) × (o ≡ Some z)
@@ -156,3 +161,26 @@ unspaced field h = by (number_of field) refl h
       number = number_sound field z e;
       after = refl;
     })
+
+-- a few digits and nothing else
+pub plainly : (field : List ℕ) (n : ℕ) → magnitude field ≡ Some n → n < 2 ^ 63 → int_of field ≡ Some (pos n)
+plainly field n e small =
+    let spelled = some_if (is_filled field && all_ascii_digits field && nat_lt (digits_value 10 field) (2 ^ 64)) (Some (digits_value 10 field)) n e in
+    let digits = both (is_filled field) (all_ascii_digits field) (both (is_filled field && all_ascii_digits field) (nat_lt (digits_value 10 field) (2 ^ 64)) spelled.0).0 in
+    let under : nat_lt n (2 ^ 63) ≡ true = grind (arith, nat_tests) in
+    let value : of_digits false field ≡ Some (pos n) = some_signed false field n e ∙ ap (λ b. cond b (Some (pos n)) None) under in
+    let number = plain field (pos n) digits.0 digits.1 value in
+    unspaced field (ap is_some number) ∙ number
+
+-- a field that spells a number isn't null
+pub spelled_not_null : (field : List ℕ) (z : ℤ) → int_of field ≡ Some z → is_null_field Int field ≡ false
+unfolding int_of number_of
+spelled_not_null [] z e = let none : ⊥ = cc in absurd none
+spelled_not_null (b ∷ bs) z e = by_mark (bytes_eq (b ∷ bs) null_field) refl
+  where
+    by_mark : (t : Bool) → bytes_eq (b ∷ bs) null_field ≡ t → is_null_field Int (b ∷ bs) ≡ false
+    by_mark false h = rw (ne_eqb (length (b ∷ bs)) 0 (λ z. omega (arith, z)), h) refl
+    by_mark true h =
+        let marked : int_of null_field ≡ Some z = subst (λ f. int_of f ≡ Some z) ((bytes_eq-Decides (b ∷ bs) null_field).0 h) e in
+        let none : ⊥ = cc in
+        absurd none

@@ -38,6 +38,10 @@ value_by longest number kind.Int field = int_value number (int_of field)
 value_by longest number kind.Text field = text_value longest number field
 value_by longest number kind.NoCase field = text_value longest number field >>= λ text. Ok (without_case text)
 
+-- the value of a field in a column of numbers, or its fault
+abbrev pub int_or_null : ℕ → List ℕ → Result Value LoadRefusal
+int_or_null number field = if is_null_field kind.Int field then Ok Null else int_value number (int_of field)
+
 -- the value of a field in a column of a kind, or its fault
 unfoldable pub value_of : ℕ → ℕ → Kind → List ℕ → Result Value LoadRefusal
 value_of longest number column field = if is_null_field column field then Ok Null else value_by longest number column field

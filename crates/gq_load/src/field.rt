@@ -1,13 +1,13 @@
 //! Fields of data records as values.
-ghost use Rattle.std.specs.Prelude.{◌≡◌, IsUtf8, MatchOption};
+ghost use Rattle.std.specs.Prelude.{◌≡◌, IsUtf8, MatchOption, bytes_eq};
 ghost use Rattle.gq_row.specs.declared.value.Value.TheVariants as variant;
 ghost use Rattle.gq_load.specs.Answers.{Gives};
-ghost use Rattle.gq_load.specs.Fields.{is_null_field, int_value, text_value, value_of};
+ghost use Rattle.gq_load.specs.Fields.{is_null_field, int_or_null, int_value, null_field, text_value, value_of};
 ghost use Rattle.gq_load.specs.Numbers.{int_of};
 
 use crate::ascii::is_ascii;
 use crate::load_refusal::LoadRefusal;
-use crate::number::int_of;
+use crate::number::{int_of, plain_number};
 use gq_row::{Kind, Value};
 use std::alloc::Global;
 use std::str;
@@ -18,6 +18,7 @@ pub(crate) const NULL: &[u8] = b"\\N";
 /// Writes the value of a field in a column of a kind over another value; a text reuses the memory of a
 /// text of the same kind. A text has at most `longest` bytes; `number` is that of the record.
 #[tactic(auto, unfolding(crate::specs::Fields::value_of))]
+#[inline(always)]
 pub(crate) fn write_value(
     alloc: Global,
     longest: usize,
@@ -28,13 +29,10 @@ pub(crate) fn write_value(
 ) -> Result<(), LoadRefusal>
     ensures { Gives (λ _. value.new) result (value_of longest number kind field.now) }
 {
-    if is_null(kind, field) {
-        *value = Value::Null;
-        return Ok(());
-    }
     match kind {
-        Kind::Int => {
-            value.write_number(number_of(number, field)?);
+        Kind::Int => write_int(number, field, value),
+        Kind::Text | Kind::NoCase if is_null_mark(field) => {
+            *value = Value::Null;
             Ok(())
         }
         Kind::Text => Ok(value.write_text(alloc, text_of(longest, number, field)?)?),
@@ -42,14 +40,50 @@ pub(crate) fn write_value(
     }
 }
 
+// Writes the value of a field in a column of numbers. Most are a few digits.
+#[tactic(auto, using(crate::proofs::Spelling::spelled_not_null))]
+#[inline(always)]
+fn write_int(number: u64, field: &[u8], value: &mut Value) -> Result<(), LoadRefusal>
+    ensures { Gives (λ _. value.new) result (int_or_null number field.now) }
+{
+    match plain_number(field) {
+        Some(n) => {
+            value.write_number(n);
+            Ok(())
+        }
+        None => write_other_int(number, field, value),
+    }
+}
+
+// Writes the value of any field in a column of numbers.
+#[cold]
+fn write_other_int(number: u64, field: &[u8], value: &mut Value) -> Result<(), LoadRefusal>
+    ensures { Gives (λ _. value.new) result (int_or_null number field.now) }
+{
+    if is_null(Kind::Int, field) {
+        *value = Value::Null;
+        return Ok(());
+    }
+    value.write_number(number_of(number, field)?);
+    Ok(())
+}
+
 /// Whether a field is null in a column of a kind.
 pub fn is_null(kind: Kind, field: &[u8]) -> bool
     ensures { result ≡ is_null_field kind field.now }
 {
     match kind {
-        Kind::Int => field.is_empty() || field == NULL,
-        Kind::Text | Kind::NoCase => field == NULL,
+        Kind::Int => field.is_empty() || is_null_mark(field),
+        Kind::Text | Kind::NoCase => is_null_mark(field),
     }
+}
+
+// Whether a field is `NULL`.
+#[inline(always)]
+fn is_null_mark(field: &[u8]) -> bool
+    ensures { result ≡ bytes_eq field.now null_field }
+{
+    matches!(field, [b'\\', b'N'])
 }
 
 /// The number of a field.

@@ -1,13 +1,42 @@
 //! Fields of INT columns as numbers, read from their bytes.
-ghost use Rattle.std.specs.Prelude.{◌≡◌, ◌<◌, ◌≤◌, not, length};
+ghost use Rattle.std.specs.Prelude.{◌≡◌, ◌<◌, ◌≤◌, ◌^◌, IfSome, Some, true, nat_le, not, length};
+ghost use Rattle.std.specs.Char.{digit_value, is_ascii_digit};
 ghost use Rattle.std.specs.List.{prefix_len, list_all};
 ghost use Rattle.std.specs.Str.Parse.{starts_with_minus, without_leading_sign};
 ghost use Rattle.gq_load.specs.Numbers.{is_space, int_of, magnitude, number_of, signed};
 
-/// The number that a field spells. Most fields have no spaces, so the whole field is tried first.
-#[tactic(auto, using(crate::proofs::Spelling::unspaced))]
+/// The number that a field spells. Most fields are a few digits, and these are tried first.
 #[inline]
 pub fn int_of(field: &[u8]) -> Option<i64>
+    ensures { result ≡ int_of field.now }
+{
+    let number = plain_number(field);
+    if number.is_some() {
+        number
+    } else {
+        with_sign_or_spaces(field)
+    }
+}
+
+/// The number of a field of up to 18 digits. For `None` the field may still spell one, in another way.
+#[inline(always)]
+pub(crate) fn plain_number(field: &[u8]) -> Option<i64>
+    ensures { IfSome result (λ n. int_of field.now ≡ Some n) }
+{
+    // Below 10^18, so that it is below 2^63.
+    if field.len() >= FEW {
+        return None;
+    }
+    match few_digits(field) {
+        Some(value) => Some(value as i64),
+        None => None,
+    }
+}
+
+/// The number that a field spells. Most fields have no spaces, so the whole field is tried first.
+#[tactic(auto, using(crate::proofs::Spelling::unspaced))]
+#[cold]
+fn with_sign_or_spaces(field: &[u8]) -> Option<i64>
     ensures { result ≡ int_of field.now }
 {
     let number = number_of(field);
@@ -95,21 +124,33 @@ fn magnitude(digits: &[u8]) -> Option<u64>
 
 /// The number that a few digits spell.
 #[tactic(auto, using(crate::proofs::Numbers::one_digit_more))]
+#[inline(always)]
 fn few_digits(digits: &[u8]) -> Option<u64>
     requires { length digits.now ≤ 19 }
-    ensures { result ≡ magnitude digits.now }
+    ensures value { result ≡ magnitude digits.now }
+    ensures small { IfSome result (λ n. n < 10 ^ length digits.now) }
 {
     if digits.is_empty() {
         return None;
     }
     let mut value = 0u64;
-    for digit in digits {
-        if !digit.is_ascii_digit() {
+    for byte in digits {
+        let digit = digit_of(*byte);
+        if digit > 9 {
             return None;
         }
-        value = value * 10 + u64::from(*digit - b'0');
+        value = value * 10 + digit;
     }
     Some(value)
+}
+
+// The value of a digit, and more than 9 for each other byte.
+#[inline(always)]
+fn digit_of(byte: u8) -> u64
+    ensures digit { nat_le result 9 ≡ is_ascii_digit byte }
+    ensures value { is_ascii_digit byte ≡ true → result ≡ digit_value byte }
+{
+    u64::from(byte).wrapping_sub(48)
 }
 
 /// The number that more digits spell, if it is below 2^64.

@@ -1,5 +1,5 @@
 //! Data records as rows.
-ghost use Rattle.std.specs.Prelude.{◌≡◌, ◌≤◌, ◌==◌, IfOk, length, slice_index_or};
+ghost use Rattle.std.specs.Prelude.{◌≡◌, ◌≤◌, ◌==◌, OnOk, length, slice_index_or};
 ghost use Rattle.gq_load.specs.Answers.{Gives};
 ghost use Rattle.gq_load.specs.Fields.{null_field};
 ghost use Rattle.gq_load.specs.Payloads.{cells_of, completed, row_of};
@@ -11,19 +11,20 @@ use crate::short_records::Short;
 use gq_csv::Record;
 use gq_row::{Row, Value};
 use std::alloc::{AllocError, Global};
+use std::mem;
 
-/// The row of the data record with this number. It reuses the memory of `spare`.
+/// Overwrites `row` with the row of the data record with this number. On error what it holds is unspecified.
 #[tactic(auto, unfolding(crate::specs::Payloads::row_of, crate::specs::Payloads::keyed))]
 #[inline(always)]
-pub(crate) fn row_of(
+pub(crate) fn write_row(
     alloc: Global,
     format: &RowFormat<'_>,
     number: u64,
     byte_record: &Record<'_>,
-    spare: Vec<Value>,
-) -> Result<Row, LoadRefusal>
+    row: &mut Row,
+) -> Result<(), LoadRefusal>
     requires { length format.now.header ≡ length format.now.schema.now.columns }
-    ensures { Gives (λ row. row) result
+    ensures { Gives (λ _. row.new) result
         (row_of format.now.schema.now format.now.limits.now.bounds.text format.now.header number
         (completed format.now.short (length format.now.header) byte_record.now)) }
 {
@@ -31,12 +32,15 @@ pub(crate) fn row_of(
     if !is_whole(format.short, places.len(), byte_record) {
         return Err(LoadRefusal::FieldCount(number));
     }
-    let cells = cells_of(alloc, format, number, byte_record, spare)?;
-    let row = Row::new(cells);
+    let columns = format.schema.columns();
+    if row.len() != columns.len() {
+        fit_row(alloc, row, columns.len())?;
+    }
+    write_cells(alloc, format, number, byte_record, row.cells_mut())?;
     if row.has_null(format.schema.key()) {
         Err(LoadRefusal::NullKey(number))
     } else {
-        Ok(row)
+        Ok(())
     }
 }
 
@@ -50,19 +54,19 @@ fn is_whole(short: Short, count: usize, byte_record: &Record<'_>) -> bool
     }
 }
 
-/// The values of a record's fields, each written to its column's place, and null if the record has no
-/// such field. A header names all columns, so each value of `spare` is overwritten.
-fn cells_of(
+/// Overwrites `cells` with the values of a record's fields, each in its column's place; null if the record has
+/// no such field. A header names all columns, so each cell is overwritten.
+fn write_cells(
     alloc: Global,
     format: &RowFormat<'_>,
     number: u64,
     byte_record: &Record<'_>,
-    spare: Vec<Value>,
-) -> Result<Vec<Value>, LoadRefusal>
+    cells: &mut [Value],
+) -> Result<(), LoadRefusal>
     requires whole { length format.now.header ≡ length format.now.schema.now.columns }
     requires count { length byte_record.now ≤ length format.now.header }
-    ensures size { IfOk result (λ v. length v.items ≡ length format.now.schema.now.columns) }
-    ensures cells { Gives (λ v. v.items) result
+    requires size { length cells.old ≡ length format.now.schema.now.columns }
+    ensures { Gives (λ _. cells.new) result
         (cells_of format.now.limits.now.bounds.text number format.now.schema.now.columns
         format.now.header
         (completed Short.Completed (length format.now.header) byte_record.now)) }
@@ -70,7 +74,6 @@ fn cells_of(
     let columns = format.schema.columns();
     let places = format.header.places();
     let longest = format.limits.bounds.text;
-    let mut cells = so_many(spare, columns.len())?;
     for i in 0..places.len() {
         let place = places[i];
         write_value(
@@ -82,7 +85,7 @@ fn cells_of(
             &mut cells[place],
         )?;
     }
-    Ok(cells)
+    Ok(())
 }
 
 /// A field of a record; the null field if the record has no such field.
@@ -95,14 +98,13 @@ fn field_or_null<'a>(byte_record: &'a Record<'_>, i: usize) -> &'a [u8]
     }
 }
 
-/// `count` unspecified values, in the memory of `values` if that is enough.
-fn so_many(mut values: Vec<Value>, count: usize) -> Result<Vec<Value>, AllocError>
-    ensures { IfOk result (λ v. length v.items ≡ count) }
+// Resizes a row; its values are unspecified.
+#[cold]
+fn fit_row(alloc: Global, row: &mut Row, width: usize) -> Result<(), AllocError>
+    ensures { OnOk result (length row.new ≡ width) }
 {
-    values.truncate(count);
-    values.reserve_exact(count - values.len())?;
-    for _ in values.len()..count {
-        values.push(Value::Null)?;
-    }
-    Ok(values)
+    let mut cells = mem::replace(row, Row::new(Vec::new(alloc))).into_cells();
+    cells.resize_with(width, || Value::Null)?;
+    *row = Row::new(cells);
+    Ok(())
 }

@@ -8,7 +8,7 @@ ghost use Rattle.gq_load.specs.Payloads.{rows_from, rows_of};
 use crate::header::Header;
 use crate::load_refusal::LoadRefusal;
 use crate::reader::{payload_reader, read_next};
-use crate::row::row_of;
+use crate::row::write_row;
 use crate::row_fault::RowFault;
 use crate::row_format::RowFormat;
 use crate::short_records::Short;
@@ -17,7 +17,6 @@ use gq_row::{Limits, Row, Schema};
 use std::alloc::Global;
 use std::io::Read;
 use std::marker::Model;
-use std::mem;
 
 /// A reader that gives a row for each data record of a payload, piece by piece, and keeps none. Seen as
 /// the rows that are yet to come or their first fault, if the payload's bytes are known, and as the
@@ -163,8 +162,7 @@ fn next_row<R: Read>(
     let Some(number) = given.checked_add(1) else {
         return Err(RowFault::Refused(LoadRefusal::Memory));
     };
-    let spare = mem::replace(row, Row::new(Vec::new(alloc))).into_cells();
-    *row = row_of(alloc, format, number, &reader.record(), spare)?;
+    write_row(alloc, format, number, &reader.record(), row)?;
     if number > format.limits.bounds.rows as u64 {
         check_rest(alloc, format, number, reader)?;
         return Err(RowFault::Refused(LoadRefusal::Limit));
@@ -189,12 +187,12 @@ fn check_rest<R: Read>(
         fault_of (rows_from format.now.schema.now format.now.limits.now.bounds.text format.now.header
         (number + 1) records) ≡ Some why)) fault) }
 {
-    let mut cells = Vec::new(alloc);
+    let mut row = Row::new(Vec::new(alloc));
     for last in number..u64::MAX {
         if !read_next(reader)? {
             return Ok(());
         }
-        cells = row_of(alloc, format, last + 1, &reader.record(), cells)?.into_cells();
+        write_row(alloc, format, last + 1, &reader.record(), &mut row)?;
     }
     Err(RowFault::Refused(LoadRefusal::Memory))
 }

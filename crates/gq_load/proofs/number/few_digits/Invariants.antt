@@ -4,10 +4,10 @@ use Rattle.std.specs.Str.Parse.{digits_value, digits_value_after}
 use Rattle.gq_load.specs.Numbers.{is_filled}
 use Rattle.gq_load.proofs.number.few_digits.Given as goal
 
-abbrev pub invariant-loop-digit : goal.invariant-loop-digit
-invariant-loop-digit l = record {
+abbrev pub invariant-loop-byte : goal.invariant-loop-byte
+invariant-loop-byte l = record {
   filled : is_filled l.digits ≡ true;
-  all : all_ascii_digits (drop l.digit-index l.digits) ≡ all_ascii_digits l.digits;
-  value : digits_value_after 10 l.value (drop l.digit-index l.digits) ≡ digits_value 10 l.digits;
-  small : l.value < 10 ^ l.digit-index;
+  all : all_ascii_digits (drop l.byte-index l.digits) ≡ all_ascii_digits l.digits;
+  value : digits_value_after 10 l.value (drop l.byte-index l.digits) ≡ digits_value 10 l.digits;
+  small : l.value < 10 ^ l.byte-index;
 }

@@ -8,16 +8,16 @@ use Rattle.gq_load.specs.Payloads.{cells_of, completed, kind_at}
 use Rattle.gq_load.proofs.Completing.{field_at_place, size}
 use Rattle.gq_load.proofs.Filling.{once_all, one_more, one_bad, no_more, from_any, kind_is}
 use Rattle.gq_load.proofs.Onward.{carried}
-use Rattle.gq_load.proofs.row.cells_of.Goals as goal
+use Rattle.gq_load.proofs.row.write_cells.Goals as goal
 
-pub returns-in_err-write_value-clause-cells : goal.returns-in_err-write_value-clause-cells
-returns-in_err-write_value-clause-cells c =
+pub returns-in_err-write_value : goal.returns-in_err-write_value
+returns-in_err-write_value c =
     let text = c.args.format.now.limits.now.bounds.text in
     let columns = c.columns-columns.result.now in
     let places = c.places-places.result.now in
     let count : length c.args.byte_record.now ≤ length places = rw c.places-places.ensures.value c.requires.count in
     let within : All (λ place. place < length columns) places = rw (c.places-places.ensures.value, c.columns-columns.ensures, ← c.requires.whole) c.places-places.ensures.each.within in
-    let p = err_from_is_err_and c.from_residual-in_err-write_value.result c.from_residual-in_err-write_value.ensures.1 in
+    let p = err_from_is_err_and c.from_residual.result c.from_residual.ensures.1 in
     let e = c.in_err-write_value.field-0.0 in
     let given = c.args.byte_record.now in
     let fields = completed Completed (length places) given in
@@ -28,7 +28,7 @@ returns-in_err-write_value-clause-cells c =
     let at : c.field_or_null.result.now ≡ get_or fields c.loop-i.i [] = c.field_or_null.ensures ∙ field_at_place (length places) c.loop-i.i given h in
     let kind = kind_is columns place c.index-columns-place.result (within c.loop-i.i 0 h) in
     rw (p.1, p.2, ← c.places-places.ensures.value, ← c.columns-columns.ensures) (carried e (value_of text c.args.number (get_or columns place c.index-columns-place.result).kind c.field_or_null.result.now) (cells_of text c.args.number columns places fields)
-    (λ bad. sym c.loop-i.invariant.finishes ∙ one_bad text c.args.number columns places fields c.loop-i.cells.items c.loop-i.i e h k (rw (kind, ← at) bad))
+    (λ bad. sym c.loop-i.invariant.finishes ∙ one_bad text c.args.number columns places fields c.loop-i.cells c.loop-i.i e h k (rw (kind, ← at) bad))
     c.in_err-write_value.ensures)
 
 pub loop-i-init : goal.loop-i-init
@@ -42,8 +42,8 @@ loop-i-init c =
     let given = c.args.byte_record.now in
     let fields = completed Completed (length places) given in
     record {
-      size = c.in_ok-cells.ensures;
-      finishes = from_any text c.args.number columns places fields c.in_ok-cells.cells.items all within (size (length places) given count) c.in_ok-cells.ensures;
+      size = rw c.columns-columns.ensures c.requires.size;
+      finishes = from_any text c.args.number columns places fields c.args.cells.now all within (size (length places) given count) (rw c.columns-columns.ensures c.requires.size);
     }
 
 pub loop-i-preserved : goal.loop-i-preserved
@@ -64,13 +64,13 @@ loop-i-preserved c =
     let value = c.write_value.new.value in
     let good : value_of text c.args.number (kind_at columns place) (get_or fields c.loop-i.i []) ≡ Ok value = rw (kind, ← at) c.in_ok-write_value.ensures in
     record {
-      size = length-set c.loop-i.cells.items place value ∙ c.loop-i.invariant.size;
-      finishes = sym (one_more text c.args.number columns places fields c.loop-i.cells.items c.loop-i.i value h k good) ∙ c.loop-i.invariant.finishes;
+      size = length-set c.loop-i.cells place value ∙ c.loop-i.invariant.size;
+      finishes = sym (one_more text c.args.number columns places fields c.loop-i.cells c.loop-i.i value h k good) ∙ c.loop-i.invariant.finishes;
     }
 
-pub returns-clause-cells : goal.returns-clause-cells
-returns-clause-cells c =
+pub returns : goal.returns
+returns c =
     let text = c.args.format.now.limits.now.bounds.text in
     let columns = c.columns-columns.result.now in
     let places = c.places-places.result.now in
-    rw (← c.places-places.ensures.value, ← c.columns-columns.ensures) (sym c.loop-i.invariant.finishes ∙ no_more text c.args.number columns places _ c.loop-i.cells.items c.loop-i.i (omega (arith, c.loop-i-test.false)))
+    rw (← c.places-places.ensures.value, ← c.columns-columns.ensures) (sym c.loop-i.invariant.finishes ∙ no_more text c.args.number columns places _ c.loop-i.cells c.loop-i.i (omega (arith, c.loop-i-test.false)))
