@@ -2,9 +2,10 @@
 ghost use Rattle.std.specs.Prelude.{◌≡◌, ◌<◌, ◌≤◌, ◌+◌, ◌^◌, ◌++◌, ◌∷◌, [], ℕ, true, false, List, length, drop, map, take, Some, None, IsTrue, MatchResult, OnOk, OnErr};
 ghost use Rattle.std.specs.List.{list_all, list_any};
 ghost use Rattle.gq_row.specs.declared.value.Value.{Value as Cell};
+ghost use Rattle.gq_row.specs.declared.value.Value.TheVariants.{Null};
 ghost use Rattle.gq_row.specs.Rows.{cell};
 ghost use Rattle.gq_agg.specs.declared.kind.AggKind.{AggKind as Kind};
-ghost use Rattle.gq_agg.specs.Aggregates.{aggregate};
+ghost use Rattle.gq_agg.specs.Aggregates.{aggregate, takes};
 ghost use Rattle.gq_agg.specs.Running.{tally, kind_of};
 ghost use Rattle.gq_group.specs.Entries.{tallies};
 ghost use Rattle.gq_group.specs.Groups.{answers, counts_all, fits_cell, is_none};
@@ -151,8 +152,19 @@ fn add_cell(agg: &mut Agg, column: usize, row: &Row) -> Result<(), AllocError>
         agg.new ≡ tally kind (values ++ cell row.now column ∷ [])) }
 {
     if column < row.len() {
-        agg.add(row.cell(column))
-    } else {
-        agg.add(&Value::Null)
+        return agg.add(row.cell(column));
     }
+    add_null(agg)
+}
+
+// Adds null.
+#[cold]
+#[inline(never)]
+fn add_null(agg: &mut Agg) -> Result<(), AllocError>
+    requires few { agg.old.adds < 2 ^ 32 }
+    requires fits { IsTrue (takes (kind_of agg.old.state) Null) }
+    ensures { OnOk result ((kind : Kind) (values : List Cell) → agg.old ≡ tally kind values →
+        agg.new ≡ tally kind (values ++ Null ∷ [])) }
+{
+    agg.add(&Value::Null)
 }

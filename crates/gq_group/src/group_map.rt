@@ -118,8 +118,8 @@ impl<H: KeyHash<Key> + Copy> GroupMap<H> {
         self.index.hash(key)
     }
 
-    // The number of the group of a key with this hash, or the hash if the key has none. The candidate
-    // is tried first.
+    // The number of the group of a key with this hash, or the hash if the key has none. Tries the
+    // candidate first; without one, the group that the hash suggests.
     #[inline(always)]
     pub(crate) fn find(&self, key: &KeyRef<'_>, hash: u64, candidate: Option<usize>) -> Found
         requires { hash ≡ H.hash_of self.now.hasher (class_of key.now) }
@@ -127,11 +127,26 @@ impl<H: KeyHash<Key> + Copy> GroupMap<H> {
         ensures absent { IsNoGroup (H.hash_of self.now.hasher) self.now.pairs
             (class_of key.now) result }
     {
-        if let Some(number) = candidate {
-            if self.index.is_at(number, key) {
-                return Found::At(number);
-            }
+        let likely = match candidate {
+            Some(_) => candidate,
+            None => self.index.candidate(hash),
+        };
+        if let Some(number) = likely
+            && self.index.is_at(number, key)
+        {
+            return Found::At(number);
         }
+        self.find_hashed(key, hash)
+    }
+
+    // As `find`, without a candidate. Not inlined, so that `find` stays short.
+    #[inline(never)]
+    fn find_hashed(&self, key: &KeyRef<'_>, hash: u64) -> Found
+        requires { hash ≡ H.hash_of self.now.hasher (class_of key.now) }
+        ensures found { IsGroup self.now.pairs (class_of key.now) result }
+        ensures absent { IsNoGroup (H.hash_of self.now.hasher) self.now.pairs
+            (class_of key.now) result }
+    {
         self.index.find_hashed(key, hash)
     }
 

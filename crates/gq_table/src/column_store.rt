@@ -84,7 +84,7 @@ impl ColumnStore {
 
     /// Overwrites `cells` with the values of a row in some columns. Only texts longer than 22 bytes may
     /// allocate.
-    #[inline]
+    #[inline(always)]
     pub fn copy_cells(
         &self,
         alloc: Global,
@@ -225,7 +225,7 @@ fn write_cells(
 }
 
 // Overwrites `cells` with those at a position of some columns.
-#[inline]
+#[inline(always)]
 fn pick_cells(
     alloc: Global,
     all: &[Cells],

@@ -135,7 +135,7 @@ impl<'a> RowCursor<'a> {
 
     /// Overwrites `row` with the current row's values in some columns, and copies no other. On error what `row`
     /// holds is unspecified.
-    #[inline]
+    #[inline(always)]
     pub fn write_cells(&self, columns: &[usize], row: &mut Row) -> Result<(), AllocError>
         requires { All (λ column. column < length self.now.row) columns.now }
         ensures copied { OnOk result (row.new ≡ cells_in columns.now self.now.row) }
@@ -149,7 +149,7 @@ impl<'a> RowCursor<'a> {
     }
 
     // Overwrites `cells` with the current row's values in some columns.
-    #[inline]
+    #[inline(always)]
     fn write_values(&self, columns: &[usize], cells: &mut [Value]) -> Result<(), AllocError>
         requires within { All (λ column. column < length self.now.row) columns.now }
         requires all { length cells.old ≡ length columns.now }
@@ -176,8 +176,8 @@ fn fit_row(alloc: Global, row: &mut Row, width: usize) -> Result<(), AllocError>
     Ok(())
 }
 
-// Overwrites `cells` with a row's values in some columns.
-#[inline]
+// Overwrites `cells` with a row's values in some columns. Not inlined, since only columns are copied in line.
+#[inline(never)]
 fn write_cells(
     alloc: Global,
     cells: &mut [Value],
