@@ -1,5 +1,5 @@
 -- SortPrefixes come in the order of the values' folds, which decides first.
-use Rattle.std.proofs.Common.{◌≡◌, ℕ, ℤ, zero, suc, ◌+◌, ◌*◌, ◌^◌, ◌<◌, ◌≤◌, List, [], ◌∷◌, drop, get_or, slice_index_or, Ordering, Less, Equal, Greater, refl, sym, ap, subst, ◌∙◌, arith}
+use Rattle.std.proofs.Common.{◌≡◌, ℕ, ℤ, zero, suc, ◌+◌, ◌*◌, ◌^◌, ◌<◌, ◌≤◌, List, [], ◌∷◌, length, map, drop, get_or, Ordering, Less, Equal, Greater, refl, sym, ap, subst, ◌∙◌, arith}
 use Rattle.std.specs.Prelude.{negsuc, ◌-ℤ◌, ◌-◌, unsigned_abs, FitsSigned, ◌<ℤ◌}
 use Rattle.std.specs.Char.{to_ascii_lowercase}
 use Rattle.std.specs.Int.{w64}
@@ -9,6 +9,7 @@ use Rattle.std.proofs.lemmas.Cmp.{ranked, int_ranked, by_ranked}
 use Rattle.std.proofs.lemmas.Bool.Decides.{nat_tests}
 use Rattle.std.proofs.Math.Nat.{mul-le-mul_right, add-mul, pow-suc, one-le-pow}
 use Rattle.std.proofs.lemmas.Int.{ints}
+use Rattle.std.proofs.lemmas.List.{get_or-map, get_or_past, length-map}
 use Rattle.gq_row.specs.declared.value.Value.{Value}
 use Rattle.gq_row.specs.declared.value.Value.TheVariants.{Null, Int, Text, NoCase}
 use Rattle.gq_row.specs.Folding.{fold_case, folded}
@@ -34,7 +35,7 @@ less x y lt = grind (arith, nat_tests)
 greater : (x y : ℕ) → y < x → nat_cmp x y ≡ Greater
 greater x y lt = grind (arith, nat_tests)
 
-same : (x y : ℕ) → x ≡ y → nat_cmp x y ≡ Equal
+pub same : (x y : ℕ) → x ≡ y → nat_cmp x y ≡ Equal
 same x y e = grind (arith, nat_tests)
 
 shifted : (k x y : ℕ) → nat_cmp (k + x) (k + y) ≡ nat_cmp x y
@@ -177,12 +178,18 @@ bytes_folded (Int n) h = h
 bytes_folded (Text t) h = h
 bytes_folded (NoCase t) h = folded_bytes t h
 
--- the prefix of a value is that of its fold, so that of a row's first value is that of its key
-pub first_prefix : (columns : List ℕ) (row : List Value) (column : ℕ) (v : Value) (f : SortPrefix) → column ≡ slice_index_or columns 0 0 → v ≡ cell row column → IsValuePrefix v f → IsSortPrefix (ordered_by columns row) f
-first_prefix [] row column v f at is h = subst (λ w. IsValuePrefix w f) (is ∙ ap (cell row) at) h
-first_prefix (c ∷ columns) row column v f at is h =
-    let prefix : IsValuePrefix (cell row c) f = subst (λ w. IsValuePrefix w f) (is ∙ ap (cell row) at) h in
-    (prefix.0 ∙ sym (prefix_folded (cell row c)), bytes_folded (cell row c) prefix.1)
+-- the prefix of a value is that of its fold, so that of a row's value is that of its key
+pub nth_prefix : (columns : List ℕ) (row : List Value) (n column : ℕ) (f : SortPrefix) → n < length columns → column ≡ get_or columns n 0 → IsValuePrefix (cell row column) f → IsValuePrefix (cell (ordered_by columns row) n) f
+nth_prefix [] row n column f lt at h = absurd (omega (arith, lt))
+nth_prefix (c ∷ columns) row n column f lt at h =
+    let is : cell (ordered_by (c ∷ columns) row) n ≡ folded (cell row column) = get_or-map (λ k. folded (cell row k)) (c ∷ columns) n 0 Null lt ∙ ap (λ k. folded (cell row k)) (sym at) in
+    (h.0 ∙ sym (prefix_folded (cell row column)) ∙ ap prefix_of (sym is), subst IsOfBytes (sym is) (bytes_folded (cell row column) h.1))
+
+-- a key has nulls past its values
+pub past_prefix : (columns : List ℕ) (row : List Value) (n : ℕ) (f : SortPrefix) → 0 < length columns → length columns ≤ n → IsValuePrefix Null f → IsValuePrefix (cell (ordered_by columns row) n) f
+past_prefix [] row n f some le h = absurd (omega (arith, some))
+past_prefix (c ∷ columns) row n f some le h =
+    subst (λ v. IsValuePrefix v f) (sym (get_or_past (map (λ k. folded (cell row k)) (c ∷ columns)) n Null (omega (arith, le, length-map (c ∷ columns) (λ k. folded (cell row k)))))) h
 
 -- ---- values and keys
 

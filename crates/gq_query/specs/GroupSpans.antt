@@ -29,6 +29,10 @@ pub record IsSpan (prefix : SortPrefix) (start key values : ℕ) (span : GroupSp
 abbrev pub group_at : List Value → GroupSpan → Group
 group_at cells span = (part cells span.start (middle_of span), part cells (middle_of span) (end_of span))
 
+-- the key at a span
+abbrev pub key_at : List Value → GroupSpan → List Value
+key_at cells span = part cells span.start (middle_of span)
+
 -- a span is within a list, and its prefix is that of the key there
 pub record IsGroupAt (cells : List Value) (span : GroupSpan) : Type 0 where
   pub within : end_of span ≤ length cells

@@ -6,6 +6,7 @@ use Rattle.gq_row.specs.declared.value.Value.TheVariants.{Null, Int, Text, NoCas
 use Rattle.gq_row.specs.Folding.{fold_case}
 use Rattle.gq_row.specs.Rows.{cell}
 use Rattle.gq_query.specs.declared.sort_prefix.SortPrefix.{SortPrefix}
+use Rattle.gq_query.specs.declared.sort_prefix.NextPrefixes.{NextPrefixes}
 
 -- the first `n` bytes of a text as a big-endian number, padded with zeros
 abbrev pub leading : ℕ → List ℕ → ℕ
@@ -45,3 +46,8 @@ IsValuePrefix value prefix = (prefix ≡ prefix_of value) × IsOfBytes value
 -- the prefix of a key is that of its first value
 abbrev pub IsSortPrefix : List Value → SortPrefix → Type 0
 IsSortPrefix key prefix = IsValuePrefix (cell key 0) prefix
+
+-- the prefixes of the second and the third value of a key
+pub record AreNextPrefixes (key : List Value) (prefixes : NextPrefixes) : Type 0 where
+  pub second : IsValuePrefix (cell key 1) prefixes.second
+  pub third : IsValuePrefix (cell key 2) prefixes.third

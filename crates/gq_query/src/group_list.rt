@@ -11,7 +11,7 @@ ghost use Rattle.gq_query.specs.GroupSpans.{IsSpan, compare_at, end_of, middle_o
 ghost use Rattle.gq_query.specs.Joining.{row_of};
 
 use crate::sort_prefix::{SortPrefix, prefix_in};
-use crate::tie_sort::sort_ties;
+use crate::tie_sort::sort_groups;
 use gq_cells::{Cells, Rows, Span};
 use gq_group::{GroupSink, Refusal};
 use gq_row::{Key, Value};
@@ -156,7 +156,7 @@ impl GroupList {
     fn add(&mut self, key: Key, values: &mut Vec<Value>) -> Result<(), AllocError>
         ensures { OnOk result (self.new ≡ self.old ++ (key, values.old.items) ∷ []) }
     {
-        let prefix = prefix_in(&[], key.cells());
+        let prefix = prefix_in(&[], key.cells(), 0);
         let start = self.cells.len();
         let span = GroupSpan::new(prefix, start, key.len(), values.len())?;
         put_key(self.alloc, &mut self.cells, key)?;
@@ -175,7 +175,7 @@ impl GroupList {
     ) -> Result<(), AllocError>
         ensures { OnOk result (self.new ≡ self.old ++ (key.old.items, values.old.items) ∷ []) }
     {
-        let prefix = prefix_in(&[], key.as_slice());
+        let prefix = prefix_in(&[], key.as_slice(), 0);
         let span = GroupSpan::new(prefix, self.cells.len(), key.len(), values.len())?;
         self.cells.push_all(self.alloc, key.as_mut_slice())?;
         self.cells.push_all(self.alloc, values.as_mut_slice())?;
@@ -209,17 +209,12 @@ impl GroupList {
         self.cells.copy_part(self.alloc, span, values)
     }
 
-    /// Sorts the groups by their keys. Once they are sorted by prefixes, cell after cell, the sort
-    /// by whole keys is one pass.
+    /// Sorts the groups by their keys.
     pub fn sort(&mut self)
         ensures moved { IsPermutation self.old self.new }
         ensures ascending { IsSortedByKey (λ (g : Group). g.0) compare_keys self.new }
     {
-        let cells = &self.cells;
-        self.groups.sort_unstable_by(|a, b| a.prefix.cmp(&b.prefix));
-        sort_ties(self.alloc, cells, self.groups.as_mut_slice());
-        self.groups
-            .sort_unstable_by(|a, b| compare_spans(cells, a, b));
+        sort_groups(self.alloc, &self.cells, self.groups.as_mut_slice());
     }
 
     /// The result rows of the groups: the key's values, then the shown values. No cell moves.
@@ -293,7 +288,7 @@ fn key_within(cells: &Cells, group: &GroupSpan) -> Span
 
 // The order of two groups by their keys.
 #[inline]
-fn compare_spans(cells: &Cells, a: &GroupSpan, b: &GroupSpan) -> Ordering
+pub(crate) fn compare_spans(cells: &Cells, a: &GroupSpan, b: &GroupSpan) -> Ordering
     ensures { result ≡ compare_at cells.now a.now b.now }
 {
     match a.prefix.cmp(&b.prefix) {

@@ -54,7 +54,7 @@ impl<'a, H: KeyHash<Key>> RowFilter<'a, H> {
         self.condition.tests.as_slice().is_empty() && self.matching.is_none()
     }
 
-    // Whether the cursor's row is kept. The row is read only if that depends on its values.
+    // Reads the cursor's row, and returns whether it is kept.
     #[inline]
     fn keeps_here(&self, rows: &mut RowCursor<'_>) -> Result<bool, AllocError>
         requires { All (λ column. column < length rows.old.row)
@@ -63,17 +63,36 @@ impl<'a, H: KeyHash<Key>> RowFilter<'a, H> {
         ensures row { rows.new.row ≡ rows.old.row }
         ensures rest { rows.new.rest ≡ rows.old.rest }
     {
-        if self.keeps_all() {
-            return Ok(true);
-        }
         rows.read()?;
         Ok(self.keeps(rows.row()))
     }
 
     /// Advances to the next row that is kept, and returns whether there is one. Fails only if
     /// reading a row runs out of memory.
-    #[inline]
+    #[inline(always)]
     pub fn advance(&self, rows: &mut RowCursor<'_>) -> Result<bool, AllocError>
+        requires { AreLong (ours_of (option_copied self.now.matching)) rows.old.rest }
+        ensures kept { IfOk result (λ found. found ≡ true → filter (is_kept self.now) rows.old.rest ≡
+            rows.new.row ∷ filter (is_kept self.now) rows.new.rest) }
+        ensures none { IfOk result (λ found. found ≡ false →
+            (filter (is_kept self.now) rows.old.rest ≡ []) × (rows.new.rest ≡ [])) }
+        ensures fewer { IfOk result (λ found. found ≡ true →
+            1 + length rows.new.rest ≤ length rows.old.rest) }
+        ensures long { (columns : List ℕ) → AreLong columns rows.old.rest →
+            IfOk result (λ found. found ≡ true →
+            All (λ column. column < length rows.new.row) columns) }
+        ensures left { (columns : List ℕ) → AreLong columns rows.old.rest →
+            AreLong columns rows.new.rest }
+    {
+        if self.keeps_all() {
+            return Ok(rows.advance());
+        }
+        self.advance_to_kept(rows)
+    }
+
+    // As `advance`, and reads each row to decide. Not inlined, so that `advance` stays short.
+    #[inline(never)]
+    fn advance_to_kept(&self, rows: &mut RowCursor<'_>) -> Result<bool, AllocError>
         requires { AreLong (ours_of (option_copied self.now.matching)) rows.old.rest }
         ensures kept { IfOk result (λ found. found ≡ true → filter (is_kept self.now) rows.old.rest ≡
             rows.new.row ∷ filter (is_kept self.now) rows.new.rest) }

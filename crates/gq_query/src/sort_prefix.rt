@@ -2,9 +2,10 @@
 ghost use Rattle.std.specs.Prelude.{◌≡◌, drop, slice_index_or};
 ghost use Rattle.gq_row.specs.declared.value.Value.TheVariants.{Int, NoCase, Text};
 ghost use Rattle.gq_row.specs.Folding.{fold_case};
+ghost use Rattle.gq_row.specs.Rows.{cell};
 ghost use Rattle.gq_cells.specs.Cells.{value_of};
 ghost use Rattle.gq_query.specs.Answers.{ordered_by};
-ghost use Rattle.gq_query.specs.SortPrefixes.{IsSortPrefix, IsValuePrefix, is_full, prefix_of, leading, without_bytes};
+ghost use Rattle.gq_query.specs.SortPrefixes.{AreNextPrefixes, IsValuePrefix, is_full, prefix_of, leading, without_bytes};
 
 use gq_cells::CellRef;
 use gq_row::{Value, fold_eight};
@@ -42,15 +43,43 @@ impl SortPrefix {
     }
 }
 
-/// The prefix of the first value that a row is ordered by.
+/// The prefixes of the second and the third value that a row is ordered by.
+#[derive(Clone, Copy, PartialEq, Eq, PartialOrd, Ord)]
+pub struct NextPrefixes {
+    second: SortPrefix,
+    third: SortPrefix,
+}
+
+/// The prefixes by which rows are sorted that tie in the first one.
 #[inline]
-pub fn prefix_in(columns: &[usize], row: &[Value]) -> SortPrefix
-    ensures { IsSortPrefix (ordered_by columns.now row.now) result }
+pub fn next_prefixes(columns: &[usize], row: &[Value]) -> NextPrefixes
+    ensures { AreNextPrefixes (ordered_by columns.now row.now) result }
 {
-    let column = match columns.first() {
-        Some(column) => *column,
-        None => 0,
-    };
+    NextPrefixes {
+        second: prefix_in(columns, row, 1),
+        third: prefix_in(columns, row, 2),
+    }
+}
+
+/// The prefix of the value at a position among those that a row is ordered by.
+#[inline]
+pub fn prefix_in(columns: &[usize], row: &[Value], position: usize) -> SortPrefix
+    ensures { IsValuePrefix (cell (ordered_by columns.now row.now) position) result }
+{
+    if columns.is_empty() {
+        return cell_prefix_in(row, position);
+    }
+    match columns.get(position) {
+        Some(column) => cell_prefix_in(row, *column),
+        None => NULL,
+    }
+}
+
+// The prefix of a row's value, or of null if the row is too short.
+#[inline]
+fn cell_prefix_in(row: &[Value], column: usize) -> SortPrefix
+    ensures { IsValuePrefix (cell row.now column) result }
+{
     match row.get(column) {
         Some(value) => value_prefix(value),
         None => NULL,

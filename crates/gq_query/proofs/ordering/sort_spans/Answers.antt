@@ -7,7 +7,7 @@ use Rattle.gq_query.proofs.OrderingLemmas.{sorted_by}
 use Rattle.gq_query.proofs.ordering.sort_spans.Goals as goal
 
 pub returns-clause-moved : goal.returns-clause-moved
-returns-clause-moved c = IsPermutation-trans _ _ _ c.sort_by_cached_key.ensures.permutation c.sort_by.ensures.permutation
+returns-clause-moved c = IsPermutation-trans _ _ _ c.in_ok-sort_by_prefixes.ensures c.sort_by.ensures.permutation
 
 pub returns-clause-ascending : goal.returns-clause-ascending
 returns-clause-ascending c =

@@ -1,50 +1,24 @@
-use Rattle.std.proofs.Common.{◌≡◌, ◌∙◌, ◌<◌, ℕ, false, All, List, filter, length, sym, ap, subst, arith}
-use Rattle.std.specs.Prelude.{option_copied}
+use Rattle.std.proofs.Common.{◌≡◌, ◌∙◌, ◌<◌, ◌∷◌, [], ℕ, Bool, true, false, All, List, length, refl, sym, subst}
 use Rattle.std.proofs.lemmas.List.Elements.{All-head, All-tail}
 use Rattle.gq_row.specs.declared.value.Value.{Value}
-use Rattle.gq_query.specs.Keeping.{AreLong, is_kept, ours_of}
-use Rattle.gq_query.proofs.KeepingLemmas.{passed_first}
+use Rattle.gq_query.specs.Keeping.{AreLong}
 use Rattle.gq_query.proofs.row_filter.RowFilter.advance.Goals as goal
 
 -- a row has these columns
 abbrev Long : List ℕ → List Value → Type 0
 Long columns row = All (λ column. column < length row) columns
 
-pub keeps_here-requires : goal.keeps_here-requires
-keeps_here-requires g c =
-    let ours : List ℕ = ours_of (option_copied c.args.self.now.matching) in
-    let at = c.advance.new.self in
-    All-head (Long ours) at.row at.rest (subst (All (Long ours)) (c.advance.ensures.next c.rows-test.true) (c.rows.invariant.long ours c.requires))
+-- the rows after the next one, or after the end, are among those before
+still_long : (columns : List ℕ) (before rest : List (List Value)) (row : List Value) (found : Bool) → (found ≡ true → before ≡ row ∷ rest) → (found ≡ false → (before ≡ []) × (rest ≡ [])) → AreLong columns before → AreLong columns rest
+still_long columns before rest row true next end h = All-tail (Long columns) row rest (subst (All (Long columns)) (next refl) h)
+still_long columns before rest row false next end h = subst (AreLong columns) ((end refl).0 ∙ sym (end refl).1) h
 
-pub returns-in_err-keeps_here-clause-left : goal.returns-in_err-keeps_here-clause-left
-returns-in_err-keeps_here-clause-left g c = λ columns h.
+pub returns-then-keeps_all-clause-long : goal.returns-then-keeps_all-clause-long
+returns-then-keeps_all-clause-long g c = λ columns h found.
     let at = c.advance.new.self in
-    subst (AreLong columns) (sym c.in_err-keeps_here.ensures.rest)
-    (All-tail (Long columns) at.row at.rest (subst (All (Long columns)) (c.advance.ensures.next c.rows-test.true) (c.rows.invariant.long columns h)))
+    All-head (Long columns) at.row at.rest (subst (All (Long columns)) (c.advance.ensures.next found) h)
 
-pub returns-then-branch-clause-long : goal.returns-then-branch-clause-long
-returns-then-branch-clause-long g c = λ columns h found.
+pub returns-then-keeps_all-clause-left : goal.returns-then-keeps_all-clause-left
+returns-then-keeps_all-clause-left g c = λ columns h.
     let at = c.advance.new.self in
-    subst (Long columns) (sym c.in_ok-keeps_here.ensures.row)
-    (All-head (Long columns) at.row at.rest (subst (All (Long columns)) (c.advance.ensures.next c.rows-test.true) (c.rows.invariant.long columns h)))
-
-pub returns-then-branch-clause-left : goal.returns-then-branch-clause-left
-returns-then-branch-clause-left g c = λ columns h.
-    let at = c.advance.new.self in
-    subst (AreLong columns) (sym c.in_ok-keeps_here.ensures.rest)
-    (All-tail (Long columns) at.row at.rest (subst (All (Long columns)) (c.advance.ensures.next c.rows-test.true) (c.rows.invariant.long columns h)))
-
-pub rows-preserved : goal.rows-preserved
-rows-preserved g c =
-    let keep = is_kept c.args.self.now in
-    let at = c.advance.new.self in
-    let steps = c.advance.ensures.next c.rows-test.true in
-    let same = c.in_ok-keeps_here.ensures.rest in
-    let passed : keep at.row ≡ false = sym c.in_ok-keeps_here.ensures.kept ∙ c.if-branch.false in
-    let many = ap length steps in
-    let size = ap length same in
-    record {
-      kept = ap (filter keep) same ∙ sym (passed_first keep at.row at.rest passed) ∙ ap (filter keep) (sym steps) ∙ c.rows.invariant.kept;
-      fewer = omega (arith, many, size, c.rows.invariant.fewer);
-      long = λ columns h. subst (AreLong columns) (sym same) (All-tail (Long columns) at.row at.rest (subst (All (Long columns)) steps (c.rows.invariant.long columns h)));
-    }
+    still_long columns c.args.rows.now.rest at.rest at.row c.advance.result c.advance.ensures.next c.advance.ensures.end h

@@ -1,6 +1,6 @@
 use Rattle.std.proofs.Common.{◌≡◌, ◌≤◌, ℕ, List, filter, length}
 use Rattle.gq_query.specs.Keeping.{AreLong, is_kept}
-use Rattle.gq_query.proofs.row_filter.RowFilter.advance.Given as goal
+use Rattle.gq_query.proofs.row_filter.RowFilter.advance_to_kept.Given as goal
 
 -- the rows that are kept are among those that are left
 abbrev pub invariant-rows : goal.invariant-rows
