@@ -53,7 +53,7 @@ fn leads_with_any(
 
 /// `begin`, then `count` names (at least one) and a closing parenthesis. Each name is `_`: the
 /// lists of an `exists` may repeat a name.
-fn names_behind(alloc: Global, begin: &str, count: usize) -> Result<String, AllocError> {
+fn names_after(alloc: Global, begin: &str, count: usize) -> Result<String, AllocError> {
     let mut list = String::from_str(alloc, begin)?;
     list.push_str("_")?;
     for _ in 1..count {
@@ -74,7 +74,7 @@ fn leads_with_names(
     ensures { IfOk result (λ b. b ≡ true → Leads prefix.now) }
 {
     for begin in &BEFORE_LISTS {
-        let list = names_behind(alloc, begin, count)?;
+        let list = names_after(alloc, begin, count)?;
         if leads_with(alloc, prefix, list.as_bytes(), limits)? {
             return Ok(true);
         }
@@ -206,7 +206,7 @@ pub struct Diagnosis {
     pub prefix: usize,
     /// The piece after it; empty at the line's end.
     pub piece: Piece,
-    /// The words that can follow, as messages show them and as they are spelled.
+    /// The words that can follow: as messages show each, and as it is spelled.
     pub words: Vec<(&'static str, &'static str)>,
     /// Whether the prefix is itself a command.
     pub whole: bool,

@@ -22,7 +22,7 @@ fn kept_for(alloc: Global, room: Option<usize>) -> Kept
 }
 
 /// How many more bytes a payload may have after this line; `None` past the limit.
-fn room_behind(room: Option<usize>, line: Kept) -> Result<Option<usize>, AllocError>
+fn room_after(room: Option<usize>, line: Kept) -> Result<Option<usize>, AllocError>
     ensures { IfOk result (λ left. (most : ℕ) (front raw : Bytes) → HasRoom most room front → Holds most line raw → HasRoom most left (front ++ raw)) }
 {
     let Some(room) = room else {
@@ -52,7 +52,7 @@ pub fn pass_payload<R: Read>(
         match take_payload_line(source, &mut line, bounds)? {
             None => return Ok((Some(Fault::LoadOpen), lines)),
             Some(true) => return Ok((past_limit(room), lines + 1)),
-            Some(false) => room = room_behind(room, line)?,
+            Some(false) => room = room_after(room, line)?,
         }
     }
     Err(CheckFault::Read)

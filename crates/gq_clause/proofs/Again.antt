@@ -19,7 +19,7 @@ use Rattle.gq_row.specs.declared.comparison.Comparison.TheVariants as comparison
 use Rattle.gq_clause.specs.declared.condition.Test.{Test}
 use Rattle.gq_clause.specs.declared.condition.Test.TheVariants.{Compare, IsNull, IsNotNull}
 use Rattle.gq_clause.specs.Words.{Bytes, some, separated, clause, parenthesized, name_words, names_words, literal_words, literals_words, aggregate_words, aggregates_words, operand_words, comparison_word, test_words, tests_words, tests_clause, is_literal, is_operand, is_test, are_literals, are_tests}
-use Rattle.gq_clause.specs.Reading.{name_at, literal_at, items_within, items_at, names_at, literals_at, in_parentheses, clause_at, counted_at, aggregate_within, aggregate_behind, aggregate_at, aggregates_at, operand_at, comparison_at, null_test_behind, test_at, tests_at}
+use Rattle.gq_clause.specs.Reading.{name_at, literal_at, items_within, items_at, names_at, literals_at, in_parentheses, clause_at, counted_at, aggregate_within, aggregate_after, aggregate_at, aggregates_at, operand_at, comparison_at, null_test_after, test_at, tests_at}
 use Rattle.gq_clause.proofs.Sound.{same_self, both, both_true}
 
 -- a valid item that is written is read, before all that may follow it
@@ -121,7 +121,7 @@ clause_again {A} starter separator items write (x ∷ xs) rest again starts ends
     ap (λ (b : Bool). f (cond b (Some behind) None)) (same_self starter) ∙ again refl ends
 
 aggregate_again : Again aggregate_at aggregate_words
-unfolding aggregate_at aggregate_behind aggregate_within counted_at in_parentheses name_at
+unfolding aggregate_at aggregate_after aggregate_within counted_at in_parentheses name_at
 aggregate_again CountAll rest = refl
 aggregate_again (Count n) rest = refl
 aggregate_again (CountDistinct n) rest = refl
@@ -142,7 +142,7 @@ aggregates_again xs rest filled ends =
     list_again aggregate_at (skip terminal.Comma) aggregate_words terminal.Comma always (λ l. Unit {0}) (λ x l v f. aggregate_again x l) aggregate_takes (λ l. tt) (λ x l. refl) xs rest filled (all_always xs) tt ends
 
 operand_again : AgainIf is_operand operand_at operand_words
-unfolding operand_at aggregate_behind aggregate_within counted_at in_parentheses name_at
+unfolding operand_at aggregate_after aggregate_within counted_at in_parentheses name_at
 operand_again (operand.Column n) rest valid = refl
 operand_again (operand.Literal value.Null) rest valid = refl
 operand_again (operand.Literal (value.Int z)) rest valid = refl
@@ -165,11 +165,11 @@ compare_again a comparison.Greater b rest va vb = rw (operand_again a (Fixed ter
 compare_again a comparison.GreaterEqual b rest va vb = rw (operand_again a (Fixed terminal.GreaterEqual ∷ (operand_words b ++ rest)) va, operand_again b rest vb) refl
 
 is_null_again : (a : Operand) (rest : List Token) → is_operand a ≡ true → test_at (operand_words a ++ (Fixed terminal.Is ∷ Fixed terminal.Null ∷ rest)) ≡ Some (IsNull a, rest)
-unfolding test_at null_test_behind
+unfolding test_at null_test_after
 is_null_again a rest valid = rw (operand_again a (Fixed terminal.Is ∷ Fixed terminal.Null ∷ rest) valid) refl
 
 is_not_null_again : (a : Operand) (rest : List Token) → is_operand a ≡ true → test_at (operand_words a ++ (Fixed terminal.Is ∷ Fixed terminal.Not ∷ Fixed terminal.Null ∷ rest)) ≡ Some (IsNotNull a, rest)
-unfolding test_at null_test_behind
+unfolding test_at null_test_after
 is_not_null_again a rest valid = rw (operand_again a (Fixed terminal.Is ∷ Fixed terminal.Not ∷ Fixed terminal.Null ∷ rest) valid) refl
 
 test_again : AgainIf is_test test_at test_words

@@ -20,7 +20,7 @@ use Rattle.gq_row.specs.declared.comparison.Comparison.TheVariants as comparison
 use Rattle.gq_clause.specs.declared.condition.Test.{Test}
 use Rattle.gq_clause.specs.declared.condition.Test.TheVariants.{Compare, IsNull, IsNotNull}
 use Rattle.gq_clause.specs.Words.{Bytes, some, separated, clause, parenthesized, name_words, names_words, literal_words, literals_words, aggregate_words, aggregates_words, operand_words, comparison_word, test_words, tests_words}
-use Rattle.gq_clause.specs.Reading.{name_at, literal_at, items_within, names_at, literals_at, in_parentheses, clause_at, counted_at, aggregate_within, aggregate_behind, aggregate_at, aggregates_at, operand_at, comparison_at, null_test_behind, right_at, compared_at, test_at, tests_at}
+use Rattle.gq_clause.specs.Reading.{name_at, literal_at, items_within, names_at, literals_at, in_parentheses, clause_at, counted_at, aggregate_within, aggregate_after, aggregate_at, aggregates_at, operand_at, comparison_at, null_test_after, right_at, compared_at, test_at, tests_at}
 
 -- a terminal by its number
 terminal_at : ℕ → Terminal
@@ -250,8 +250,8 @@ within_sound terminal.Min ts a rest e = of_column_sound Min terminal.Min (λ n. 
 within_sound terminal.Max ts a rest e = of_column_sound Max terminal.Max (λ n. refl) (λ n. refl) ts a rest e
 within_sound _ ts a rest e = absurd cc
 
-behind_sound : (word : Terminal) (ts : List Token) (a : Aggregate) (rest : List Token) → aggregate_behind word ts ≡ Some (a, rest) → Fixed word ∷ ts ≡ aggregate_words a ++ rest
-unfolding aggregate_behind
+behind_sound : (word : Terminal) (ts : List Token) (a : Aggregate) (rest : List Token) → aggregate_after word ts ≡ Some (a, rest) → Fixed word ∷ ts ≡ aggregate_words a ++ rest
+unfolding aggregate_after
 behind_sound word ts a rest e =
     let b = in_parentheses_sound (aggregate_within word) within_words (λ a. aggregate_word a ≡ word) (within_sound word) ts a rest e in
     ap (λ (l : List Token). Fixed word ∷ l) b.0 ∙ ap (λ (w : Terminal). Fixed w ∷ (parenthesized (within_words a) ++ rest)) (sym b.1) ∙ ap (λ (l : List Token). l ++ rest) (sym (aggregate_parts a))
@@ -271,10 +271,10 @@ operand_sound : Sound operand_at operand_words
 unfolding operand_at
 operand_sound [] x rest e = absurd cc
 operand_sound (Fixed u ∷ ts) x rest e =
-    let other : Option (Operand × List Token) = aggregate_behind u ts >>= λ a. Some (operand.Aggregate a.0, a.1) in
+    let other : Option (Operand × List Token) = aggregate_after u ts >>= λ a. Some (operand.Aggregate a.0, a.1) in
     ⊎_elim
     (λ g. ap (λ (v : Terminal). Fixed v ∷ ts) (same_is u terminal.Null g.0) ∙ read_is operand_words (operand.Literal value.Null) x ts rest g.1)
-    (λ g. let a = bind_some (aggregate_behind u ts) (λ a. Some (operand.Aggregate a.0, a.1)) (x, rest) g.1 in behind_sound u ts a.0.0 a.0.1 a.1 ∙ read_is operand_words (operand.Aggregate a.0.0) x a.0.1 rest a.2)
+    (λ g. let a = bind_some (aggregate_after u ts) (λ a. Some (operand.Aggregate a.0, a.1)) (x, rest) g.1 in behind_sound u ts a.0.0 a.0.1 a.1 ∙ read_is operand_words (operand.Aggregate a.0.0) x a.0.1 rest a.2)
     (chosen (same u terminal.Null) (Some (operand.Literal value.Null, ts)) other (Some (x, rest)) e)
 operand_sound (Name n ∷ ts) x rest e = read_is operand_words (operand.Column n) x ts rest e
 operand_sound (Number z ∷ ts) x rest e = read_is operand_words (operand.Literal (value.Int z)) x ts rest e
@@ -297,8 +297,8 @@ comparison_sound _ x rest e = absurd cc
 pub joined : (front back ts after rest : List Token) → ts ≡ front ++ after → after ≡ back ++ rest → ts ≡ (front ++ back) ++ rest
 joined front back ts after rest a b = a ∙ ap (λ (l : List Token). front ++ l) b ∙ sym (append_assoc front back rest)
 
-null_sound : (a : Operand) (before ts : List Token) (x : Test) (rest : List Token) → before ≡ operand_words a ++ (Fixed terminal.Is ∷ ts) → null_test_behind a ts ≡ Some (x, rest) → before ≡ test_words x ++ rest
-unfolding null_test_behind
+null_sound : (a : Operand) (before ts : List Token) (x : Test) (rest : List Token) → before ≡ operand_words a ++ (Fixed terminal.Is ∷ ts) → null_test_after a ts ≡ Some (x, rest) → before ≡ test_words x ++ rest
+unfolding null_test_after
 null_sound a before ts x rest is e =
     let f : Option (List Token) → Option (Test × List Token) = λ o. elim o [ None ↦ skip terminal.Null ts >>= λ rest. Some (IsNull a, rest) | Some after ↦ skip terminal.Null after >>= λ rest. Some (IsNotNull a, rest) ] in
     let P : Option (List Token) → Type 0 = λ o. skip terminal.Not ts ≡ o → f o ≡ Some (x, rest) → before ≡ test_words x ++ rest in
@@ -330,7 +330,7 @@ compared_sound a before ts x rest is e =
 test_sound : Sound test_at test_words
 unfolding test_at
 test_sound ts x rest e =
-    let f : Operand → List Token → Option (List Token) → Option (Test × List Token) = λ a behind o. elim o [ None ↦ compared_at a behind | Some after ↦ null_test_behind a after ] in
+    let f : Operand → List Token → Option (List Token) → Option (Test × List Token) = λ a behind o. elim o [ None ↦ compared_at a behind | Some after ↦ null_test_after a after ] in
     let a = bind_some (operand_at ts) (λ a. f a.0 a.1 (skip terminal.Is a.1)) (x, rest) e in
     let first = operand_sound ts a.0.0 a.0.1 a.1 in
     let P : Option (List Token) → Type 0 = λ o. skip terminal.Is a.0.1 ≡ o → f a.0.0 a.0.1 o ≡ Some (x, rest) → ts ≡ test_words x ++ rest in

@@ -16,7 +16,7 @@ use Rattle.gq_clause.specs.declared.condition.Test.{Test}
 use Rattle.gq_row.specs.declared.comparison.Comparison.{Comparison}
 use Rattle.gq_clause.specs.declared.condition.Test.TheVariants.{Compare, IsNull, IsNotNull}
 use Rattle.gq_clause.specs.Words.{some, literals_words, tests_words, test_words, tests_clause, is_literal, is_operand, is_test, are_literals, are_tests}
-use Rattle.gq_clause.specs.Reading.{literal_at, items_within, literals_at, clause_at, aggregate_behind, operand_at, comparison_at, null_test_behind, right_at, compared_at, test_at, tests_at}
+use Rattle.gq_clause.specs.Reading.{literal_at, items_within, literals_at, clause_at, aggregate_after, operand_at, comparison_at, null_test_after, right_at, compared_at, test_at, tests_at}
 use Rattle.gq_clause.proofs.Sound.{both, bind_some, guard_some, pair_is, chosen, literals_sound, tests_sound, clause_sound}
 
 -- what is read is valid
@@ -68,17 +68,17 @@ operand_valid : Valid is_operand operand_at
 unfolding operand_at
 operand_valid [] x rest e = absurd cc
 operand_valid (Fixed u ∷ ts) x rest e =
-    let other : Option (Operand × List Token) = aggregate_behind u ts >>= λ a. Some (operand.Aggregate a.0, a.1) in
+    let other : Option (Operand × List Token) = aggregate_after u ts >>= λ a. Some (operand.Aggregate a.0, a.1) in
     ⊎_elim
     (λ g. valid_is is_operand (operand.Literal value.Null) x ts rest g.1 refl)
-    (λ g. let a = bind_some (aggregate_behind u ts) (λ a. Some (operand.Aggregate a.0, a.1)) (x, rest) g.1 in valid_is is_operand (operand.Aggregate a.0.0) x a.0.1 rest a.2 refl)
+    (λ g. let a = bind_some (aggregate_after u ts) (λ a. Some (operand.Aggregate a.0, a.1)) (x, rest) g.1 in valid_is is_operand (operand.Aggregate a.0.0) x a.0.1 rest a.2 refl)
     (chosen (same u terminal.Null) (Some (operand.Literal value.Null, ts)) other (Some (x, rest)) e)
 operand_valid (Name n ∷ ts) x rest e = valid_is is_operand (operand.Column n) x ts rest e refl
 operand_valid (Number z ∷ ts) x rest e = valid_is is_operand (operand.Literal (value.Int z)) x ts rest e refl
 operand_valid (Text t ∷ ts) x rest e = valid_is is_operand (operand.Literal (value.Text t)) x ts rest e refl
 
-null_valid : (a : Operand) → is_operand a ≡ true → Valid is_test (null_test_behind a)
-unfolding null_test_behind
+null_valid : (a : Operand) → is_operand a ≡ true → Valid is_test (null_test_after a)
+unfolding null_test_after
 null_valid a h ts x rest e =
     let f : Option (List Token) → Option (Test × List Token) = λ o. elim o [ None ↦ skip terminal.Null ts >>= λ rest. Some (IsNull a, rest) | Some after ↦ skip terminal.Null after >>= λ rest. Some (IsNotNull a, rest) ] in
     let P : Option (List Token) → Type 0 = λ o. f o ≡ Some (x, rest) → is_test x ≡ true in
@@ -100,7 +100,7 @@ compared_valid a h ts x rest e =
 test_valid : Valid is_test test_at
 unfolding test_at
 test_valid ts x rest e =
-    let f : Operand → List Token → Option (List Token) → Option (Test × List Token) = λ a behind o. elim o [ None ↦ compared_at a behind | Some after ↦ null_test_behind a after ] in
+    let f : Operand → List Token → Option (List Token) → Option (Test × List Token) = λ a behind o. elim o [ None ↦ compared_at a behind | Some after ↦ null_test_after a after ] in
     let a = bind_some (operand_at ts) (λ a. f a.0 a.1 (skip terminal.Is a.1)) (x, rest) e in
     let h = operand_valid ts a.0.0 a.0.1 a.1 in
     let P : Option (List Token) → Type 0 = λ o. f a.0.0 a.0.1 o ≡ Some (x, rest) → is_test x ≡ true in

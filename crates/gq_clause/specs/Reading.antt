@@ -82,12 +82,12 @@ aggregate_within terminal.Max ts = do
 aggregate_within _ ts = None
 
 -- the aggregate that begins with the word, given the tokens after it
-unfoldable pub aggregate_behind : Terminal → List Token → Option (Aggregate × List Token)
-aggregate_behind word ts = in_parentheses (aggregate_within word) ts
+unfoldable pub aggregate_after : Terminal → List Token → Option (Aggregate × List Token)
+aggregate_after word ts = in_parentheses (aggregate_within word) ts
 
 unfoldable pub aggregate_at : List Token → Option (Aggregate × List Token)
 aggregate_at [] = None
-aggregate_at (Fixed word ∷ rest) = aggregate_behind word rest
+aggregate_at (Fixed word ∷ rest) = aggregate_after word rest
 aggregate_at (Name n ∷ rest) = None
 aggregate_at (Number z ∷ rest) = None
 aggregate_at (Text s ∷ rest) = None
@@ -97,7 +97,7 @@ aggregates_at ts = items_at aggregate_at (skip terminal.Comma) ts
 
 unfoldable pub operand_at : List Token → Option (Operand × List Token)
 operand_at [] = None
-operand_at (Fixed word ∷ rest) = if same word terminal.Null then Some (operand.Literal value.Null, rest) else (aggregate_behind word rest >>= λ a. Some (operand.Aggregate a.0, a.1))
+operand_at (Fixed word ∷ rest) = if same word terminal.Null then Some (operand.Literal value.Null, rest) else (aggregate_after word rest >>= λ a. Some (operand.Aggregate a.0, a.1))
 operand_at (Name n ∷ rest) = Some (operand.Column n, rest)
 operand_at (Number z ∷ rest) = Some (operand.Literal (value.Int z), rest)
 operand_at (Text s ∷ rest) = Some (operand.Literal (value.Text s), rest)
@@ -112,8 +112,8 @@ comparison_at (Fixed terminal.GreaterEqual ∷ rest) = Some (comparison.GreaterE
 comparison_at _ = None
 
 -- the test that begins with the operand and `is`, given the tokens after them
-unfoldable pub null_test_behind : Operand → List Token → Option (Test × List Token)
-null_test_behind a ts = elim (skip terminal.Not ts) [
+unfoldable pub null_test_after : Operand → List Token → Option (Test × List Token)
+null_test_after a ts = elim (skip terminal.Not ts) [
   | None ↦ skip terminal.Null ts >>= λ rest. Some (IsNull a, rest)
   | Some after ↦ skip terminal.Null after >>= λ rest. Some (IsNotNull a, rest)
 ]
@@ -127,7 +127,7 @@ abbrev pub compared_at : Operand → List Token → Option (Test × List Token)
 compared_at a ts = right_at ts >>= λ right. Some (Compare a right.0.0 right.0.1, right.1)
 
 unfoldable pub test_at : List Token → Option (Test × List Token)
-test_at ts = operand_at ts >>= λ a. elim (skip terminal.Is a.1) [ None ↦ compared_at a.0 a.1 | Some after ↦ null_test_behind a.0 after ]
+test_at ts = operand_at ts >>= λ a. elim (skip terminal.Is a.1) [ None ↦ compared_at a.0 a.1 | Some after ↦ null_test_after a.0 after ]
 
 abbrev pub tests_at : List Token → Option (List Test × List Token)
 tests_at ts = items_at test_at (skip terminal.And) ts

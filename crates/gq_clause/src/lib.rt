@@ -21,6 +21,6 @@ pub use condition::{Operand, Test};
 pub use gq_row::Comparison;
 pub use limits::{aggregates_fit, names_fit, tests_fit, values_fit};
 pub use reading::{
-    aggregates_of, enclosed_literals, enclosed_names, expect, name_of, names_behind, names_of,
-    tests_behind,
+    aggregates_of, enclosed_literals, enclosed_names, expect, name_of, names_after, names_of,
+    tests_after,
 };

@@ -5,7 +5,7 @@ ghost use Rattle.gq_token.specs.Results.{Gives};
 ghost use Rattle.gq_token.specs.Queue.{skip};
 ghost use Rattle.gq_token.specs.declared.token.Token.{Token as Item};
 ghost use Rattle.gq_token.specs.declared.token.Token.TheVariants.{Fixed};
-ghost use Rattle.gq_clause.specs.Reading.{name_at, literal_at, names_at, literals_at, in_parentheses, clause_at, counted_at, aggregate_within, aggregate_behind, aggregate_at, aggregates_at, operand_at, comparison_at, right_at, null_test_behind, test_at, tests_at};
+ghost use Rattle.gq_clause.specs.Reading.{name_at, literal_at, names_at, literals_at, in_parentheses, clause_at, counted_at, aggregate_within, aggregate_after, aggregate_at, aggregates_at, operand_at, comparison_at, right_at, null_test_after, test_at, tests_at};
 
 use crate::aggregate::Aggregate;
 use crate::condition::{Operand, Test};
@@ -126,9 +126,9 @@ fn aggregate_within(word: Terminal, tokens: &mut Tokens) -> Result<Aggregate, Pa
 }
 
 /// The aggregate that begins with this word, given the tokens after it.
-#[tactic(auto, unfolding(crate::specs::Reading::aggregate_behind, crate::specs::Reading::in_parentheses))]
-fn aggregate_behind(word: Terminal, tokens: &mut Tokens) -> Result<Aggregate, ParseError>
-    ensures { Gives (λ aggregate. (aggregate, tokens.new)) result (aggregate_behind word tokens.old) }
+#[tactic(auto, unfolding(crate::specs::Reading::aggregate_after, crate::specs::Reading::in_parentheses))]
+fn aggregate_after(word: Terminal, tokens: &mut Tokens) -> Result<Aggregate, ParseError>
+    ensures { Gives (λ aggregate. (aggregate, tokens.new)) result (aggregate_after word tokens.old) }
 {
     expect(tokens, Terminal::Open)?;
     let aggregate = aggregate_within(word, tokens)?;
@@ -141,7 +141,7 @@ fn aggregate_of(tokens: &mut Tokens) -> Result<Aggregate, ParseError>
     ensures { Gives (λ aggregate. (aggregate, tokens.new)) result (aggregate_at tokens.old) }
 {
     match tokens.take() {
-        Some(Token::Fixed(word)) => aggregate_behind(word, tokens),
+        Some(Token::Fixed(word)) => aggregate_after(word, tokens),
         _ => Err(ParseError::Syntax),
     }
 }
@@ -170,7 +170,7 @@ fn operand_of(tokens: &mut Tokens) -> Result<Operand, ParseError>
         Some(Token::Number(number)) => Ok(Operand::Literal(Value::Int(number))),
         Some(Token::Text(text)) => Ok(Operand::Literal(Value::Text(text))),
         Some(Token::Fixed(Terminal::Null)) => Ok(Operand::Literal(Value::Null)),
-        Some(Token::Fixed(word)) => Ok(Operand::Aggregate(aggregate_behind(word, tokens)?)),
+        Some(Token::Fixed(word)) => Ok(Operand::Aggregate(aggregate_after(word, tokens)?)),
         None => Err(ParseError::Syntax),
     }
 }
@@ -202,9 +202,9 @@ fn comparison_of(tokens: &mut Tokens) -> Result<Comparison, ParseError>
 }
 
 /// The test that begins with this operand and `is`, given the tokens after them.
-#[tactic(auto, unfolding(crate::specs::Reading::null_test_behind))]
-fn null_test_behind(operand: Operand, tokens: &mut Tokens) -> Result<Test, ParseError>
-    ensures { Gives (λ test. (test, tokens.new)) result (null_test_behind operand tokens.old) }
+#[tactic(auto, unfolding(crate::specs::Reading::null_test_after))]
+fn null_test_after(operand: Operand, tokens: &mut Tokens) -> Result<Test, ParseError>
+    ensures { Gives (λ test. (test, tokens.new)) result (null_test_after operand tokens.old) }
 {
     let negated = tokens.skip(Terminal::Not);
     // A single exit path, since each of them writes out the drop of the operand.
@@ -231,7 +231,7 @@ fn test_of(tokens: &mut Tokens) -> Result<Test, ParseError>
 {
     let left = operand_of(tokens)?;
     if tokens.skip(Terminal::Is) {
-        return null_test_behind(left, tokens);
+        return null_test_after(left, tokens);
     }
     let (comparison, right) = right_of(tokens)?;
     Ok(Test::Compare(left, comparison, right))
@@ -253,7 +253,7 @@ fn tests_of(alloc: Global, tokens: &mut Tokens) -> Result<Vec<Test>, ParseError>
 
 /// The tests after this word, or none if it doesn't come first.
 #[tactic(auto, unfolding(crate::specs::Reading::clause_at))]
-pub fn tests_behind(
+pub fn tests_after(
     alloc: Global,
     starter: Terminal,
     tokens: &mut Tokens,
@@ -268,7 +268,7 @@ pub fn tests_behind(
 
 /// The names after this word, or none if it doesn't come first.
 #[tactic(auto, unfolding(crate::specs::Reading::clause_at))]
-pub fn names_behind(
+pub fn names_after(
     alloc: Global,
     starter: Terminal,
     tokens: &mut Tokens,

@@ -25,11 +25,11 @@ use Rattle.gq_command.specs.declared.command.Command.TheVariants.{Create, Drop, 
 use Rattle.gq_command.specs.declared.command.Exists.{Exists}
 use Rattle.gq_command.specs.declared.command.Payload.{Payload}
 use Rattle.gq_command.specs.declared.command.Payload.TheVariants as payload
-use Rattle.gq_command.specs.Reading.{text_behind, kind_at, column_at, columns_at, key_at, ended, row_at, create_at, exists_behind, exists_at, by_behind, by_at, conditions_behind, group_at, distinct_at, form_behind, form_at, command_of}
+use Rattle.gq_command.specs.Reading.{text_after, kind_at, column_at, columns_at, key_at, ended, row_at, create_at, exists_after, exists_at, by_after, by_at, conditions_after, group_at, distinct_at, form_after, form_at, command_of}
 
 -- a kind is read where no `nocase` follows it
 kind_again : (k : Kind) (rest : List Token) → skip terminal.NoCase rest ≡ None → kind_at (kind_words k ++ rest) ≡ Some (k, rest)
-unfolding kind_at text_behind
+unfolding kind_at text_after
 kind_again kind.Int rest ends = refl
 kind_again kind.Text rest ends =
     let f : Option (List Token) → Option (Kind × List Token) = λ o. Some (elim o [ None ↦ (kind.Text, rest) | Some after ↦ (kind.NoCase, after) ]) in
@@ -89,8 +89,8 @@ exists_not_led word (Some e) rest unlike other none = by_negated e.negated
 
 -- what follows the word `exists` is read
 exists_behind_again : (negated : Bool) (t : Bytes) (theirs ours : List Bytes) (rest : List Token) → some theirs ≡ true → some ours ≡ true
-    → exists_behind negated (Name t ∷ (parenthesized (names_words theirs) ++ (Fixed terminal.Equal ∷ (parenthesized (names_words ours) ++ rest)))) ≡ Some (record { negated = negated; table = t; theirs = theirs; ours = ours }, rest)
-unfolding exists_behind name_at
+    → exists_after negated (Name t ∷ (parenthesized (names_words theirs) ++ (Fixed terminal.Equal ∷ (parenthesized (names_words ours) ++ rest)))) ≡ Some (record { negated = negated; table = t; theirs = theirs; ours = ours }, rest)
+unfolding exists_after name_at
 exists_behind_again negated t theirs ours rest h k =
     let behind : List Token = Fixed terminal.Equal ∷ (parenthesized (names_words ours) ++ rest) in
     let first : in_parentheses names_at (parenthesized (names_words theirs) ++ behind) ≡ Some (theirs, behind) = in_parentheses_again names_at (names_words theirs) theirs behind (names_again theirs (Fixed terminal.Close ∷ behind) h refl) in
@@ -105,14 +105,14 @@ exists_again (Some e) rest filled unlike other =
     let back : List Token = parenthesized (names_words e.ours) in
     let p = both_true (some e.theirs) (some e.ours) filled in
     let apart : (front ++ (Fixed terminal.Equal ∷ back)) ++ rest ≡ front ++ (Fixed terminal.Equal ∷ (back ++ rest)) = append_assoc front (Fixed terminal.Equal ∷ back) rest in
-    let read : (negated : Bool) → exists_behind negated (Name e.table ∷ ((front ++ (Fixed terminal.Equal ∷ back)) ++ rest)) ≡ Some (record { negated = negated; table = e.table; theirs = e.theirs; ours = e.ours }, rest)
-    = λ negated. ap (λ (l : List Token). exists_behind negated (Name e.table ∷ l)) apart ∙ exists_behind_again negated e.table e.theirs e.ours rest p.0 p.1 in
+    let read : (negated : Bool) → exists_after negated (Name e.table ∷ ((front ++ (Fixed terminal.Equal ∷ back)) ++ rest)) ≡ Some (record { negated = negated; table = e.table; theirs = e.theirs; ours = e.ours }, rest)
+    = λ negated. ap (λ (l : List Token). exists_after negated (Name e.table ∷ l)) apart ∙ exists_behind_again negated e.table e.theirs e.ours rest p.0 p.1 in
     let P : Bool → Type 0 = λ negated. exists_at ((not_words negated ++ (Fixed terminal.Exists ∷ Name e.table ∷ (front ++ (Fixed terminal.Equal ∷ back)))) ++ rest) ≡ Some (Some (record { negated = negated; table = e.table; theirs = e.theirs; ours = e.ours }), rest) in
     let by_negated : (negated : Bool) → P negated = λ negated. elim negated as P [ true ↦ rw (read true) refl | false ↦ rw (read false) refl ] in
     by_negated e.negated
 
 by_again : (by : By) (rest : List Token) → columns_filled by.rollup by.columns ≡ true → by_at (by_words by ++ (Fixed terminal.Show ∷ rest)) ≡ Some (by, Fixed terminal.Show ∷ rest)
-unfolding by_at by_behind
+unfolding by_at by_after
 by_again by rest filled = by_columns by.rollup by.columns filled
   where
     by_columns : (rollup : Bool) (columns : List Bytes) → columns_filled rollup columns ≡ true → by_at (columns_words rollup columns ++ (Fixed terminal.Show ∷ rest)) ≡ Some (record { columns = columns; rollup = rollup }, Fixed terminal.Show ∷ rest)
@@ -124,7 +124,7 @@ by_again by rest filled = by_columns by.rollup by.columns filled
 
 group_again : (t : Bytes) (by : By) (shown : List Aggregate) (tests : List Test) (exists : Option Exists) (having : List Test)
     → columns_filled by.rollup by.columns ≡ true → some shown ≡ true → exists_filled exists ≡ true → list_all is_test tests ≡ true → list_all is_test having ≡ true → form_at (phrase (Group t by shown tests exists having)) ≡ Some (Group t by shown tests exists having, [])
-unfolding group_at conditions_behind name_at form_at form_behind phrase
+unfolding group_at conditions_after name_at form_at form_after phrase
 group_again t by shown tests exists having columned filled both tested tested_having =
     let end : List Token = tests_clause terminal.Having having in
     let last : List Token = exists_words exists ++ end in
@@ -139,7 +139,7 @@ group_again t by shown tests exists having columned filled both tested tested_ha
     rw (first, second, third, fourth, fifth) refl
 
 distinct_again : (t : Bytes) (on : List Bytes) (tests : List Test) → some on ≡ true → list_all is_test tests ≡ true → form_at (phrase (Distinct t on tests)) ≡ Some (Distinct t on tests, [])
-unfolding distinct_at name_at form_at form_behind phrase
+unfolding distinct_at name_at form_at form_after phrase
 distinct_again t on tests filled tested =
     let end : List Token = tests_clause terminal.Where tests in
     let led : skip terminal.Comma end ≡ None = ap (skip terminal.Comma) (sym (append-nil end)) ∙ not_led terminal.Comma terminal.Where terminal.And test_words tests [] refl refl in
@@ -153,7 +153,7 @@ opened payload.NoMemory e = absurd cc
 
 -- a command's phrase is read as the command
 form_again : (c : Command) → grammatical c ≡ true → keeps_rules c ≡ true → form_at (phrase c) ≡ Some (c, [])
-unfolding form_at form_behind name_at phrase
+unfolding form_at form_after name_at phrase
 form_again (Create t columns key) h k = create_again t columns key h
 form_again (Drop t) h k = refl
 form_again (Load t carried) h k = ap (λ (p : Payload). Some (Load t p, [])) (sym (opened carried k))

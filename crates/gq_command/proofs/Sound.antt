@@ -25,11 +25,11 @@ use Rattle.gq_command.specs.declared.command.Command.{Command}
 use Rattle.gq_command.specs.declared.command.Command.TheVariants.{Create, Drop, Load, Upsert, Delete, Show, Group, Distinct}
 use Rattle.gq_command.specs.declared.command.Exists.{Exists}
 use Rattle.gq_command.specs.declared.command.Payload.TheVariants as payload
-use Rattle.gq_command.specs.Reading.{text_behind, kind_at, column_at, columns_at, key_at, row_at, create_at, exists_behind, with_exists, exists_at, by_behind, by_at, conditions_behind, group_at, distinct_at, ended, form_behind, form_at, command_of}
+use Rattle.gq_command.specs.Reading.{text_after, kind_at, column_at, columns_at, key_at, row_at, create_at, exists_after, with_exists, exists_at, by_after, by_at, conditions_after, group_at, distinct_at, ended, form_after, form_at, command_of}
 
 -- the kind that begins with `text`
-text_sound : (ts : List Token) (x : Kind) (rest : List Token) → Some (text_behind ts) ≡ Some (x, rest) → Fixed terminal.Text ∷ ts ≡ kind_words x ++ rest
-unfolding text_behind
+text_sound : (ts : List Token) (x : Kind) (rest : List Token) → Some (text_after ts) ≡ Some (x, rest) → Fixed terminal.Text ∷ ts ≡ kind_words x ++ rest
+unfolding text_after
 text_sound ts x rest e =
     let f : Option (List Token) → Kind × List Token = λ o. elim o [ None ↦ (kind.Text, ts) | Some after ↦ (kind.NoCase, after) ] in
     let P : Option (List Token) → Type 0 = λ o. skip terminal.NoCase ts ≡ o → Some (f o) ≡ Some (x, rest) → Fixed terminal.Text ∷ ts ≡ kind_words x ++ rest in
@@ -45,8 +45,8 @@ kind_sound [] x rest e = absurd cc
 kind_sound (Fixed u ∷ ts) x rest e =
     ⊎_elim
     (λ g. ap (λ (v : Terminal). Fixed v ∷ ts) (same_is u terminal.Int g.0) ∙ read_is kind_words kind.Int x ts rest g.1)
-    (λ g. let h = guard_some (same u terminal.Text) (text_behind ts) (x, rest) g.1 in ap (λ (v : Terminal). Fixed v ∷ ts) (same_is u terminal.Text h.0) ∙ text_sound ts x rest (ap Some h.1))
-    (chosen (same u terminal.Int) (Some (kind.Int, ts)) (cond (same u terminal.Text) (Some (text_behind ts)) None) (Some (x, rest)) e)
+    (λ g. let h = guard_some (same u terminal.Text) (text_after ts) (x, rest) g.1 in ap (λ (v : Terminal). Fixed v ∷ ts) (same_is u terminal.Text h.0) ∙ text_sound ts x rest (ap Some h.1))
+    (chosen (same u terminal.Int) (Some (kind.Int, ts)) (cond (same u terminal.Text) (Some (text_after ts)) None) (Some (x, rest)) e)
 kind_sound (Name n ∷ ts) x rest e = absurd cc
 kind_sound (Number n ∷ ts) x rest e = absurd cc
 kind_sound (Text n ∷ ts) x rest e = absurd cc
@@ -148,8 +148,8 @@ exists_parts : (e : Exists) → exists_words (Some e) ≡ not_words e.negated ++
 unfolding exists_tail
 exists_parts e = refl
 
-exists_behind_sound : (negated : Bool) (ts : List Token) (e : Exists) (rest : List Token) → exists_behind negated ts ≡ Some (e, rest) → (ts ≡ exists_tail e ++ rest) × (e.negated ≡ negated) × (exists_filled (Some e) ≡ true)
-unfolding exists_behind exists_tail
+exists_behind_sound : (negated : Bool) (ts : List Token) (e : Exists) (rest : List Token) → exists_after negated ts ≡ Some (e, rest) → (ts ≡ exists_tail e ++ rest) × (e.negated ≡ negated) × (exists_filled (Some e) ≡ true)
+unfolding exists_after exists_tail
 exists_behind_sound negated ts c rest e =
     let named = bind_some (name_at ts) (λ t. in_parentheses names_at t.1 >>= λ f. skip terminal.Equal f.1 >>= λ q. in_parentheses names_at q >>= λ o. Some (record { negated = negated; table = t.0; theirs = f.0; ours = o.0 }, o.1)) (c, rest) e in
     let theirs_read = bind_some (in_parentheses names_at named.0.1) (λ f. skip terminal.Equal f.1 >>= λ q. in_parentheses names_at q >>= λ o. Some (record { negated = negated; table = named.0.0; theirs = f.0; ours = o.0 }, o.1)) (c, rest) named.2 in
@@ -167,10 +167,10 @@ exists_behind_sound negated ts c rest e =
     (whole ∙ read_is exists_tail made c ours_read.0.1 rest ours_read.2, ap (λ (e : Exists). e.negated) (sym p.0), ap (λ (e : Exists). exists_filled (Some e)) (sym p.0) ∙ filled)
 
 -- an exists that was read, after what precedes it
-exists_made : (negated : Bool) (before ts : List Token) (x : Option Exists) (rest : List Token) → before ≡ not_words negated ++ (Fixed terminal.Exists ∷ ts) → with_exists (exists_behind negated ts) ≡ Some (x, rest)
+exists_made : (negated : Bool) (before ts : List Token) (x : Option Exists) (rest : List Token) → before ≡ not_words negated ++ (Fixed terminal.Exists ∷ ts) → with_exists (exists_after negated ts) ≡ Some (x, rest)
     → (before ≡ exists_words x ++ rest) × (exists_filled x ≡ true)
 exists_made negated before ts x rest is e =
-    let a = bind_some (exists_behind negated ts) (λ e. Some (Some e.0, e.1)) (x, rest) e in
+    let a = bind_some (exists_after negated ts) (λ e. Some (Some e.0, e.1)) (x, rest) e in
     let p = pair_is (Some a.0.0) x a.0.1 rest a.2 in
     let s = exists_behind_sound negated ts a.0.0 a.0.1 a.1 in
     let tail : Fixed terminal.Exists ∷ ts ≡ (Fixed terminal.Exists ∷ exists_tail a.0.0) ++ a.0.1 = ap (λ (l : List Token). Fixed terminal.Exists ∷ l) s.0 in
@@ -182,8 +182,8 @@ exists_made negated before ts x rest is e =
 exists_sound : (ts : List Token) (x : Option Exists) (rest : List Token) → exists_at ts ≡ Some (x, rest) → (ts ≡ exists_words x ++ rest) × (exists_filled x ≡ true)
 unfolding exists_at
 exists_sound ts x rest e =
-    let g : Option (List Token) → Option (Option Exists × List Token) = λ o. elim o [ None ↦ Some (None, ts) | Some after ↦ with_exists (exists_behind false after) ] in
-    let f : Option (List Token) → Option (Option Exists × List Token) = λ o. elim o [ None ↦ g (skip terminal.Exists ts) | Some after ↦ skip terminal.Exists after >>= λ behind. with_exists (exists_behind true behind) ] in
+    let g : Option (List Token) → Option (Option Exists × List Token) = λ o. elim o [ None ↦ Some (None, ts) | Some after ↦ with_exists (exists_after false after) ] in
+    let f : Option (List Token) → Option (Option Exists × List Token) = λ o. elim o [ None ↦ g (skip terminal.Exists ts) | Some after ↦ skip terminal.Exists after >>= λ behind. with_exists (exists_after true behind) ] in
     let Q : Option (List Token) → Type 0 = λ o. skip terminal.Exists ts ≡ o → g o ≡ Some (x, rest) → (ts ≡ exists_words x ++ rest) × (exists_filled x ≡ true) in
     let by_exists : (o : Option (List Token)) → Q o = λ o. elim o as Q [
       | None ↦ λ is h. (read_is exists_words None x ts rest h, ap exists_filled (sym (pair_is None x ts rest h).0))
@@ -193,7 +193,7 @@ exists_sound ts x rest e =
     let by_not : (o : Option (List Token)) → P o = λ o. elim o as P [
       | None ↦ λ is h. by_exists (skip terminal.Exists ts) refl h
       | Some after ↦ λ is h.
-          let a = bind_some (skip terminal.Exists after) (λ behind. with_exists (exists_behind true behind)) (x, rest) h in
+          let a = bind_some (skip terminal.Exists after) (λ behind. with_exists (exists_after true behind)) (x, rest) h in
           exists_made true ts a.0 x rest (skip_sound terminal.Not ts after is ∙ ap (λ (l : List Token). Fixed terminal.Not ∷ l) (skip_sound terminal.Exists after a.0 a.1)) a.2
     ] in
     by_not (skip terminal.Not ts) refl e
@@ -211,8 +211,8 @@ by_is : (before : List Token) (made by : By) (after rest : List Token) → ◌�
 unfolding ByRead
 by_is before made by after rest e h = (h.0 ∙ read_is by_words made by after rest e, ap (λ (b : By). columns_filled b.rollup b.columns) (sym (pair_is made by after rest e).0) ∙ h.1)
 
-by_behind_sound : (ts : List Token) (by : By) (rest : List Token) → by_behind ts ≡ Some (by, rest) → ByRead (Fixed terminal.By ∷ ts) by rest
-unfolding by_behind ByRead
+by_behind_sound : (ts : List Token) (by : By) (rest : List Token) → by_after ts ≡ Some (by, rest) → ByRead (Fixed terminal.By ∷ ts) by rest
+unfolding by_after ByRead
 by_behind_sound ts by rest e =
     let f : Option (List Token) → Option (By × List Token) = λ o. elim o [
       | None ↦ names_at ts >>= λ names. Some (record { columns = names.0; rollup = false }, names.1)
@@ -238,7 +238,7 @@ by_behind_sound ts by rest e =
 by_sound : (ts : List Token) (by : By) (rest : List Token) → by_at ts ≡ Some (by, rest) → (ts ≡ by_words by ++ rest) × (columns_filled by.rollup by.columns ≡ true)
 unfolding by_at ByRead
 by_sound ts by rest e =
-    let f : Option (List Token) → Option (By × List Token) = λ o. elim o [ None ↦ Some (record { columns = []; rollup = false }, ts) | Some after ↦ by_behind after ] in
+    let f : Option (List Token) → Option (By × List Token) = λ o. elim o [ None ↦ Some (record { columns = []; rollup = false }, ts) | Some after ↦ by_after after ] in
     let P : Option (List Token) → Type 0 = λ o. skip terminal.By ts ≡ o → f o ≡ Some (by, rest) → ByRead ts by rest in
     let by_led : (o : Option (List Token)) → P o = λ o. elim o as P [
       | None ↦ λ is g. by_is ts (record { columns = []; rollup = false }) by ts rest g (refl, refl)
@@ -261,8 +261,8 @@ record Conditions (table : Bytes) (by : By) (shown : List Aggregate) (ts : List 
   tested : list_all is_test tests ≡ true
   tested_having : list_all is_test having ≡ true
 
-conditions_sound : (table : Bytes) (by : By) (shown : List Aggregate) (ts : List Token) (c : Command) (rest : List Token) → conditions_behind table by shown ts ≡ Some (c, rest) → Conditions table by shown ts c rest
-unfolding conditions_behind
+conditions_sound : (table : Bytes) (by : By) (shown : List Aggregate) (ts : List Token) (c : Command) (rest : List Token) → conditions_after table by shown ts ≡ Some (c, rest) → Conditions table by shown ts c rest
+unfolding conditions_after
 conditions_sound table by shown ts c rest e =
     let where_read = bind_some (clause_at terminal.Where tests_at ts) (λ w. exists_at w.1 >>= λ x. clause_at terminal.Having tests_at x.1 >>= λ h. Some (Group table by shown w.0 x.0 h.0, h.1)) (c, rest) e in
     let exists_read = bind_some (exists_at where_read.0.1) (λ x. clause_at terminal.Having tests_at x.1 >>= λ h. Some (Group table by shown where_read.0.0 x.0 h.0, h.1)) (c, rest) where_read.2 in
@@ -301,10 +301,10 @@ group_written t by shown tests exists having ts named grouped showing given rest
 group_sound : SoundForm terminal.Group group_at
 unfolding group_at SoundForm
 group_sound ts c rest e =
-    let named = bind_some (name_at ts) (λ t. by_at t.1 >>= λ b. skip terminal.Show b.1 >>= λ s. aggregates_at s >>= λ a. conditions_behind t.0 b.0 a.0 a.1) (c, rest) e in
-    let grouped = bind_some (by_at named.0.1) (λ b. skip terminal.Show b.1 >>= λ s. aggregates_at s >>= λ a. conditions_behind named.0.0 b.0 a.0 a.1) (c, rest) named.2 in
-    let showing = bind_some (skip terminal.Show grouped.0.1) (λ s. aggregates_at s >>= λ a. conditions_behind named.0.0 grouped.0.0 a.0 a.1) (c, rest) grouped.2 in
-    let given = bind_some (aggregates_at showing.0) (λ a. conditions_behind named.0.0 grouped.0.0 a.0 a.1) (c, rest) showing.2 in
+    let named = bind_some (name_at ts) (λ t. by_at t.1 >>= λ b. skip terminal.Show b.1 >>= λ s. aggregates_at s >>= λ a. conditions_after t.0 b.0 a.0 a.1) (c, rest) e in
+    let grouped = bind_some (by_at named.0.1) (λ b. skip terminal.Show b.1 >>= λ s. aggregates_at s >>= λ a. conditions_after named.0.0 b.0 a.0 a.1) (c, rest) named.2 in
+    let showing = bind_some (skip terminal.Show grouped.0.1) (λ s. aggregates_at s >>= λ a. conditions_after named.0.0 grouped.0.0 a.0 a.1) (c, rest) grouped.2 in
+    let given = bind_some (aggregates_at showing.0) (λ a. conditions_after named.0.0 grouped.0.0 a.0 a.1) (c, rest) showing.2 in
     let k = conditions_sound named.0.0 grouped.0.0 given.0.0 given.0.1 c rest given.2 in
     let shown = aggregates_sound showing.0 given.0.0 given.0.1 given.1 in
     let by = by_sound named.0.1 grouped.0.0 grouped.0.1 grouped.1 in
@@ -333,8 +333,8 @@ distinct_sound ts c rest e =
     ap (λ (l : List Token). Fixed terminal.Distinct ∷ l) (name_sound ts named.0.0 named.0.1 named.1 ∙ ap (λ (l : List Token). Name named.0.0 ∷ l) (skip_sound terminal.On named.0.1 on_read.0 on_read.1 ∙ ap (λ (l : List Token). Fixed terminal.On ∷ l) inner)) in
     (worded ∙ ap (λ (v : Command). phrase v ++ tested.0.1) p.0 ∙ ap (λ (l : List Token). phrase c ++ l) p.1, ap grammatical (sym p.0) ∙ both (some listed.0.0) (list_all is_test tested.0.0) names.1 tests.1)
 
-behind_sound : (first : Terminal) → SoundForm first (form_behind first)
-unfolding form_behind SoundForm phrase row_words
+behind_sound : (first : Terminal) → SoundForm first (form_after first)
+unfolding form_after SoundForm phrase row_words
 behind_sound terminal.Create ts c rest e = create_sound ts c rest e
 behind_sound terminal.Drop ts c rest e = named_sound terminal.Drop Drop (λ t. refl) (λ t. refl) ts c rest e
 behind_sound terminal.Load ts c rest e = named_sound terminal.Load (λ t. Load t payload.Open) (λ t. refl) (λ t. refl) ts c rest e

@@ -14,14 +14,14 @@ use Rattle.gq_clause.specs.declared.aggregate.Aggregate.TheVariants.{CountAll, C
 use Rattle.gq_clause.specs.declared.condition.Operand.TheVariants as operand
 use Rattle.gq_row.specs.declared.comparison.Comparison.TheVariants as comparison
 use Rattle.gq_clause.specs.declared.condition.Test.TheVariants.{Compare, IsNull, IsNotNull}
-use Rattle.gq_clause.specs.Reading.{name_at, in_parentheses, items_within, literal_at, clause_at, aggregate_at, aggregate_behind, aggregate_within, counted_at, operand_at, comparison_at, null_test_behind, test_at}
+use Rattle.gq_clause.specs.Reading.{name_at, in_parentheses, items_within, literal_at, clause_at, aggregate_at, aggregate_after, aggregate_within, counted_at, operand_at, comparison_at, null_test_after, test_at}
 use Rattle.gq_command.specs.declared.command.Command.{Command}
 use Rattle.gq_command.specs.declared.command.Command.TheVariants.{Create, Drop, Load, Upsert, Delete, Show, Group, Distinct}
 use Rattle.gq_command.specs.declared.command.Payload.TheVariants as payload
 use Rattle.gq_command.specs.declared.reader.Item.TheVariants as item
 use Rattle.gq_command.specs.Commands.{Bytes, phrase, is_command, fits}
 use Rattle.gq_command.specs.Items.{ReadsAs}
-use Rattle.gq_command.specs.Reading.{command_of, form_at, form_behind, create_at, column_at, kind_at, text_behind, key_at, by_behind, by_at, group_at, conditions_behind, distinct_at, exists_at, exists_behind, row_at, ended}
+use Rattle.gq_command.specs.Reading.{command_of, form_at, form_after, create_at, column_at, kind_at, text_after, key_at, by_after, by_at, group_at, conditions_after, distinct_at, exists_at, exists_after, row_at, ended}
 use Rattle.gq_token.specs.Lexing.{tokens, lexed, tokens_within, token_at, word_at, word, sign_at, digits_at, name_in_quotes, text_in_quotes}
 use Rattle.gq_command.specs.Lines.{Says}
 use Rattle.gq_script.specs.Script.{Plain, Loading, items, entries_by}
@@ -131,136 +131,136 @@ unsaid : (line : Bytes) (ts : List Token) → is_ascii line ≡ true → lexed l
 unsaid line ts plain e none = none_said line (ap (λ (o : Option (List Token)). o >>= command_of) (cut line (Some ts) plain e) ∙ none)
 
 number_without_case : (c : Command) → Says (codes "create p (c int nocase)") c → ⊥
-unfolding lexed tokens_within token_at word_at word sign_at digits_at name_in_quotes text_in_quotes command_of form_at form_behind create_at column_at kind_at key_at name_at items_within column_comma ended
+unfolding lexed tokens_within token_at word_at word sign_at digits_at name_in_quotes text_in_quotes command_of form_at form_after create_at column_at kind_at key_at name_at items_within column_comma ended
 number_without_case = unsaid (codes "create p (c int nocase)") _ refl refl refl
 
 kind_without_case_alone : (c : Command) → Says (codes "create p (c nocase)") c → ⊥
-unfolding lexed tokens_within token_at word_at word sign_at digits_at name_in_quotes text_in_quotes command_of form_at form_behind create_at column_at kind_at key_at name_at items_within column_comma ended
+unfolding lexed tokens_within token_at word_at word sign_at digits_at name_in_quotes text_in_quotes command_of form_at form_after create_at column_at kind_at key_at name_at items_within column_comma ended
 kind_without_case_alone = unsaid (codes "create p (c nocase)") _ refl refl refl
 
 -- a column's kind is one of these words, and a name is none
 text_of_a_name : (c : Command) → Says (codes "create p (c text folded)") c → ⊥
-unfolding lexed tokens_within token_at word_at word sign_at digits_at name_in_quotes text_in_quotes command_of form_at form_behind create_at column_at kind_at text_behind key_at name_at items_within column_comma ended
+unfolding lexed tokens_within token_at word_at word sign_at digits_at name_in_quotes text_in_quotes command_of form_at form_after create_at column_at kind_at text_after key_at name_at items_within column_comma ended
 text_of_a_name = unsaid (codes "create p (c text folded)") _ refl refl refl
 
 no_name_shown : (c : Command) → Says (codes "show") c → ⊥
-unfolding lexed tokens_within token_at word_at word sign_at digits_at name_in_quotes text_in_quotes command_of form_at form_behind name_at row_at in_parentheses items_within literal_at ended
+unfolding lexed tokens_within token_at word_at word sign_at digits_at name_in_quotes text_in_quotes command_of form_at form_after name_at row_at in_parentheses items_within literal_at ended
 no_name_shown = unsaid (codes "show") _ refl refl refl
 
 two_names_loaded : (c : Command) → Says (codes "load s extra") c → ⊥
-unfolding lexed tokens_within token_at word_at word sign_at digits_at name_in_quotes text_in_quotes command_of form_at form_behind name_at row_at in_parentheses items_within literal_at ended
+unfolding lexed tokens_within token_at word_at word sign_at digits_at name_in_quotes text_in_quotes command_of form_at form_after name_at row_at in_parentheses items_within literal_at ended
 two_names_loaded = unsaid (codes "load s extra") _ refl refl refl
 
 two_names_dropped : (c : Command) → Says (codes "drop s, t") c → ⊥
-unfolding lexed tokens_within token_at word_at word sign_at digits_at name_in_quotes text_in_quotes command_of form_at form_behind name_at row_at in_parentheses items_within literal_at ended
+unfolding lexed tokens_within token_at word_at word sign_at digits_at name_in_quotes text_in_quotes command_of form_at form_after name_at row_at in_parentheses items_within literal_at ended
 two_names_dropped = unsaid (codes "drop s, t") _ refl refl refl
 
 no_values_deleted : (c : Command) → Says (codes "delete s") c → ⊥
-unfolding lexed tokens_within token_at word_at word sign_at digits_at name_in_quotes text_in_quotes command_of form_at form_behind name_at row_at in_parentheses items_within literal_at ended
+unfolding lexed tokens_within token_at word_at word sign_at digits_at name_in_quotes text_in_quotes command_of form_at form_after name_at row_at in_parentheses items_within literal_at ended
 no_values_deleted = unsaid (codes "delete s") _ refl refl refl
 
 empty_values_deleted : (c : Command) → Says (codes "delete s ()") c → ⊥
-unfolding lexed tokens_within token_at word_at word sign_at digits_at name_in_quotes text_in_quotes command_of form_at form_behind name_at row_at in_parentheses items_within literal_at ended
+unfolding lexed tokens_within token_at word_at word sign_at digits_at name_in_quotes text_in_quotes command_of form_at form_after name_at row_at in_parentheses items_within literal_at ended
 empty_values_deleted = unsaid (codes "delete s ()") _ refl refl refl
 
 bare_value_deleted : (c : Command) → Says (codes "delete s 1") c → ⊥
-unfolding lexed tokens_within token_at word_at word sign_at digits_at name_in_quotes text_in_quotes command_of form_at form_behind name_at row_at in_parentheses items_within literal_at ended
+unfolding lexed tokens_within token_at word_at word sign_at digits_at name_in_quotes text_in_quotes command_of form_at form_after name_at row_at in_parentheses items_within literal_at ended
 bare_value_deleted = unsaid (codes "delete s 1") _ refl refl refl
 
 values_shown : (c : Command) → Says (codes "show s (1)") c → ⊥
-unfolding lexed tokens_within token_at word_at word sign_at digits_at name_in_quotes text_in_quotes command_of form_at form_behind name_at row_at in_parentheses items_within literal_at ended
+unfolding lexed tokens_within token_at word_at word sign_at digits_at name_in_quotes text_in_quotes command_of form_at form_after name_at row_at in_parentheses items_within literal_at ended
 values_shown = unsaid (codes "show s (1)") _ refl refl refl
 
 nothing_shown : (c : Command) → Says (codes "group s by a show") c → ⊥
-unfolding lexed tokens_within token_at word_at word sign_at digits_at name_in_quotes text_in_quotes command_of form_at form_behind group_at by_at by_behind conditions_behind exists_at clause_at aggregate_at aggregate_behind aggregate_within counted_at name_at in_parentheses items_within ended
+unfolding lexed tokens_within token_at word_at word sign_at digits_at name_in_quotes text_in_quotes command_of form_at form_after group_at by_at by_after conditions_after exists_at clause_at aggregate_at aggregate_after aggregate_within counted_at name_at in_parentheses items_within ended
 nothing_shown = unsaid (codes "group s by a show") _ refl refl refl
 
 nothing_counted : (c : Command) → Says (codes "group s show count()") c → ⊥
-unfolding lexed tokens_within token_at word_at word sign_at digits_at name_in_quotes text_in_quotes command_of form_at form_behind group_at by_at by_behind conditions_behind exists_at clause_at aggregate_at aggregate_behind aggregate_within counted_at name_at in_parentheses items_within ended
+unfolding lexed tokens_within token_at word_at word sign_at digits_at name_in_quotes text_in_quotes command_of form_at form_after group_at by_at by_after conditions_after exists_at clause_at aggregate_at aggregate_after aggregate_within counted_at name_at in_parentheses items_within ended
 nothing_counted = unsaid (codes "group s show count()") _ refl refl refl
 
 rows_summed : (c : Command) → Says (codes "group s show sum(*)") c → ⊥
-unfolding lexed tokens_within token_at word_at word sign_at digits_at name_in_quotes text_in_quotes command_of form_at form_behind group_at by_at by_behind conditions_behind exists_at clause_at aggregate_at aggregate_behind aggregate_within counted_at name_at in_parentheses items_within ended
+unfolding lexed tokens_within token_at word_at word sign_at digits_at name_in_quotes text_in_quotes command_of form_at form_after group_at by_at by_after conditions_after exists_at clause_at aggregate_at aggregate_after aggregate_within counted_at name_at in_parentheses items_within ended
 rows_summed = unsaid (codes "group s show sum(*)") _ refl refl refl
 
 different_summed : (c : Command) → Says (codes "group s show sum(distinct a)") c → ⊥
-unfolding lexed tokens_within token_at word_at word sign_at digits_at name_in_quotes text_in_quotes command_of form_at form_behind group_at by_at by_behind conditions_behind exists_at clause_at aggregate_at aggregate_behind aggregate_within counted_at name_at in_parentheses items_within ended
+unfolding lexed tokens_within token_at word_at word sign_at digits_at name_in_quotes text_in_quotes command_of form_at form_after group_at by_at by_after conditions_after exists_at clause_at aggregate_at aggregate_after aggregate_within counted_at name_at in_parentheses items_within ended
 different_summed = unsaid (codes "group s show sum(distinct a)") _ refl refl refl
 
 comma_at_the_end : (c : Command) → Says (codes "group s show count(*),") c → ⊥
-unfolding lexed tokens_within token_at word_at word sign_at digits_at name_in_quotes text_in_quotes command_of form_at form_behind group_at by_at by_behind conditions_behind exists_at clause_at aggregate_at aggregate_behind aggregate_within counted_at name_at in_parentheses items_within ended
+unfolding lexed tokens_within token_at word_at word sign_at digits_at name_in_quotes text_in_quotes command_of form_at form_after group_at by_at by_after conditions_after exists_at clause_at aggregate_at aggregate_after aggregate_within counted_at name_at in_parentheses items_within ended
 comma_at_the_end = unsaid (codes "group s show count(*),") _ refl refl refl
 
 no_columns_behind_by : (c : Command) → Says (codes "group s by show count(*)") c → ⊥
-unfolding lexed tokens_within token_at word_at word sign_at digits_at name_in_quotes text_in_quotes command_of form_at form_behind group_at by_at by_behind conditions_behind exists_at clause_at aggregate_at aggregate_behind aggregate_within counted_at name_at in_parentheses items_within ended
+unfolding lexed tokens_within token_at word_at word sign_at digits_at name_in_quotes text_in_quotes command_of form_at form_after group_at by_at by_after conditions_after exists_at clause_at aggregate_at aggregate_after aggregate_within counted_at name_at in_parentheses items_within ended
 no_columns_behind_by = unsaid (codes "group s by show count(*)") _ refl refl refl
 
 column_twice_behind_by : (c : Command) → Says (codes "group s by a, a show count(*)") c → ⊥
-unfolding lexed tokens_within token_at word_at word sign_at digits_at name_in_quotes text_in_quotes command_of form_at form_behind group_at by_at by_behind conditions_behind exists_at clause_at aggregate_at aggregate_behind aggregate_within counted_at name_at in_parentheses items_within ended
+unfolding lexed tokens_within token_at word_at word sign_at digits_at name_in_quotes text_in_quotes command_of form_at form_after group_at by_at by_after conditions_after exists_at clause_at aggregate_at aggregate_after aggregate_within counted_at name_at in_parentheses items_within ended
 column_twice_behind_by = unsaid (codes "group s by a, a show count(*)") _ refl refl refl
 
 nothing_rolled_up : (c : Command) → Says (codes "group t by rollup () show count(*)") c → ⊥
-unfolding lexed tokens_within token_at word_at word sign_at digits_at name_in_quotes text_in_quotes command_of form_at form_behind group_at by_at by_behind conditions_behind exists_at clause_at aggregate_at aggregate_behind aggregate_within counted_at name_at in_parentheses items_within ended
+unfolding lexed tokens_within token_at word_at word sign_at digits_at name_in_quotes text_in_quotes command_of form_at form_after group_at by_at by_after conditions_after exists_at clause_at aggregate_at aggregate_after aggregate_within counted_at name_at in_parentheses items_within ended
 nothing_rolled_up = unsaid (codes "group t by rollup () show count(*)") _ refl refl refl
 
 rollup_without_parentheses : (c : Command) → Says (codes "group t by rollup a show count(*)") c → ⊥
-unfolding lexed tokens_within token_at word_at word sign_at digits_at name_in_quotes text_in_quotes command_of form_at form_behind group_at by_at by_behind conditions_behind exists_at clause_at aggregate_at aggregate_behind aggregate_within counted_at name_at in_parentheses items_within ended
+unfolding lexed tokens_within token_at word_at word sign_at digits_at name_in_quotes text_in_quotes command_of form_at form_after group_at by_at by_after conditions_after exists_at clause_at aggregate_at aggregate_after aggregate_within counted_at name_at in_parentheses items_within ended
 rollup_without_parentheses = unsaid (codes "group t by rollup a show count(*)") _ refl refl refl
 
 column_twice_in_a_rollup : (c : Command) → Says (codes "group t by rollup (a, a) show count(*)") c → ⊥
-unfolding lexed tokens_within token_at word_at word sign_at digits_at name_in_quotes text_in_quotes command_of form_at form_behind group_at by_at by_behind conditions_behind exists_at clause_at aggregate_at aggregate_behind aggregate_within counted_at name_at in_parentheses items_within ended
+unfolding lexed tokens_within token_at word_at word sign_at digits_at name_in_quotes text_in_quotes command_of form_at form_after group_at by_at by_after conditions_after exists_at clause_at aggregate_at aggregate_after aggregate_within counted_at name_at in_parentheses items_within ended
 column_twice_in_a_rollup = unsaid (codes "group t by rollup (a, a) show count(*)") _ refl refl refl
 
 aggregate_where : (c : Command) → Says (codes "group s show count(*) where sum(a) > 0") c → ⊥
-unfolding lexed tokens_within token_at word_at word sign_at digits_at name_in_quotes text_in_quotes command_of form_at form_behind group_at by_at by_behind conditions_behind distinct_at exists_at exists_behind clause_at aggregate_at aggregate_behind aggregate_within counted_at operand_at comparison_at null_test_behind test_at name_at in_parentheses items_within ended
+unfolding lexed tokens_within token_at word_at word sign_at digits_at name_in_quotes text_in_quotes command_of form_at form_after group_at by_at by_after conditions_after distinct_at exists_at exists_after clause_at aggregate_at aggregate_after aggregate_within counted_at operand_at comparison_at null_test_after test_at name_at in_parentheses items_within ended
 aggregate_where = unsaid (codes "group s show count(*) where sum(a) > 0") _ refl refl refl
 
 aggregate_in_distinct : (c : Command) → Says (codes "distinct s on a where count(*) = 1") c → ⊥
-unfolding lexed tokens_within token_at word_at word sign_at digits_at name_in_quotes text_in_quotes command_of form_at form_behind group_at by_at by_behind conditions_behind distinct_at exists_at exists_behind clause_at aggregate_at aggregate_behind aggregate_within counted_at operand_at comparison_at null_test_behind test_at name_at in_parentheses items_within ended
+unfolding lexed tokens_within token_at word_at word sign_at digits_at name_in_quotes text_in_quotes command_of form_at form_after group_at by_at by_after conditions_after distinct_at exists_at exists_after clause_at aggregate_at aggregate_after aggregate_within counted_at operand_at comparison_at null_test_after test_at name_at in_parentheses items_within ended
 aggregate_in_distinct = unsaid (codes "distinct s on a where count(*) = 1") _ refl refl refl
 
 lists_of_two_lengths : (c : Command) → Says (codes "group s show count(*) exists u (a, b) = (c)") c → ⊥
-unfolding lexed tokens_within token_at word_at word sign_at digits_at name_in_quotes text_in_quotes command_of form_at form_behind group_at by_at by_behind conditions_behind distinct_at exists_at exists_behind clause_at aggregate_at aggregate_behind aggregate_within counted_at operand_at comparison_at null_test_behind test_at name_at in_parentheses items_within ended
+unfolding lexed tokens_within token_at word_at word sign_at digits_at name_in_quotes text_in_quotes command_of form_at form_after group_at by_at by_after conditions_after distinct_at exists_at exists_after clause_at aggregate_at aggregate_after aggregate_within counted_at operand_at comparison_at null_test_after test_at name_at in_parentheses items_within ended
 lists_of_two_lengths = unsaid (codes "group s show count(*) exists u (a, b) = (c)") _ refl refl refl
 
 nothing_in_exists : (c : Command) → Says (codes "group s show count(*) exists u () = ()") c → ⊥
-unfolding lexed tokens_within token_at word_at word sign_at digits_at name_in_quotes text_in_quotes command_of form_at form_behind group_at by_at by_behind conditions_behind distinct_at exists_at exists_behind clause_at aggregate_at aggregate_behind aggregate_within counted_at operand_at comparison_at null_test_behind test_at name_at in_parentheses items_within ended
+unfolding lexed tokens_within token_at word_at word sign_at digits_at name_in_quotes text_in_quotes command_of form_at form_after group_at by_at by_after conditions_after distinct_at exists_at exists_after clause_at aggregate_at aggregate_after aggregate_within counted_at operand_at comparison_at null_test_after test_at name_at in_parentheses items_within ended
 nothing_in_exists = unsaid (codes "group s show count(*) exists u () = ()") _ refl refl refl
 
 column_twice_behind_on : (c : Command) → Says (codes "distinct s on a, a") c → ⊥
-unfolding lexed tokens_within token_at word_at word sign_at digits_at name_in_quotes text_in_quotes command_of form_at form_behind group_at by_at by_behind conditions_behind distinct_at exists_at exists_behind clause_at aggregate_at aggregate_behind aggregate_within counted_at operand_at comparison_at null_test_behind test_at name_at in_parentheses items_within ended
+unfolding lexed tokens_within token_at word_at word sign_at digits_at name_in_quotes text_in_quotes command_of form_at form_after group_at by_at by_after conditions_after distinct_at exists_at exists_after clause_at aggregate_at aggregate_after aggregate_within counted_at operand_at comparison_at null_test_after test_at name_at in_parentheses items_within ended
 column_twice_behind_on = unsaid (codes "distinct s on a, a") _ refl refl refl
 
 no_columns_behind_on : (c : Command) → Says (codes "distinct s") c → ⊥
-unfolding lexed tokens_within token_at word_at word sign_at digits_at name_in_quotes text_in_quotes command_of form_at form_behind group_at by_at by_behind conditions_behind distinct_at exists_at exists_behind clause_at aggregate_at aggregate_behind aggregate_within counted_at operand_at comparison_at null_test_behind test_at name_at in_parentheses items_within ended
+unfolding lexed tokens_within token_at word_at word sign_at digits_at name_in_quotes text_in_quotes command_of form_at form_after group_at by_at by_after conditions_after distinct_at exists_at exists_after clause_at aggregate_at aggregate_after aggregate_within counted_at operand_at comparison_at null_test_after test_at name_at in_parentheses items_within ended
 no_columns_behind_on = unsaid (codes "distinct s") _ refl refl refl
 
 nothing_tested : (c : Command) → Says (codes "group s show count(*) where") c → ⊥
-unfolding lexed tokens_within token_at word_at word sign_at digits_at name_in_quotes text_in_quotes command_of form_at form_behind group_at by_at by_behind conditions_behind distinct_at exists_at exists_behind clause_at aggregate_at aggregate_behind aggregate_within counted_at operand_at comparison_at null_test_behind test_at name_at in_parentheses items_within ended
+unfolding lexed tokens_within token_at word_at word sign_at digits_at name_in_quotes text_in_quotes command_of form_at form_after group_at by_at by_after conditions_after distinct_at exists_at exists_after clause_at aggregate_at aggregate_after aggregate_within counted_at operand_at comparison_at null_test_after test_at name_at in_parentheses items_within ended
 nothing_tested = unsaid (codes "group s show count(*) where") _ refl refl refl
 
 one_side : (c : Command) → Says (codes "distinct s on a where a =") c → ⊥
-unfolding lexed tokens_within token_at word_at word sign_at digits_at name_in_quotes text_in_quotes command_of form_at form_behind group_at by_at by_behind conditions_behind distinct_at exists_at exists_behind clause_at aggregate_at aggregate_behind aggregate_within counted_at operand_at comparison_at null_test_behind test_at name_at in_parentheses items_within ended
+unfolding lexed tokens_within token_at word_at word sign_at digits_at name_in_quotes text_in_quotes command_of form_at form_after group_at by_at by_after conditions_after distinct_at exists_at exists_after clause_at aggregate_at aggregate_after aggregate_within counted_at operand_at comparison_at null_test_after test_at name_at in_parentheses items_within ended
 one_side = unsaid (codes "distinct s on a where a =") _ refl refl refl
 
 nothing_behind_and : (c : Command) → Says (codes "distinct s on a where a = 1 and") c → ⊥
-unfolding lexed tokens_within token_at word_at word sign_at digits_at name_in_quotes text_in_quotes command_of form_at form_behind group_at by_at by_behind conditions_behind distinct_at exists_at exists_behind clause_at aggregate_at aggregate_behind aggregate_within counted_at operand_at comparison_at null_test_behind test_at name_at in_parentheses items_within ended
+unfolding lexed tokens_within token_at word_at word sign_at digits_at name_in_quotes text_in_quotes command_of form_at form_after group_at by_at by_after conditions_after distinct_at exists_at exists_after clause_at aggregate_at aggregate_after aggregate_within counted_at operand_at comparison_at null_test_after test_at name_at in_parentheses items_within ended
 nothing_behind_and = unsaid (codes "distinct s on a where a = 1 and") _ refl refl refl
 
 is_a_value : (c : Command) → Says (codes "distinct s on a where a is 1") c → ⊥
-unfolding lexed tokens_within token_at word_at word sign_at digits_at name_in_quotes text_in_quotes command_of form_at form_behind group_at by_at by_behind conditions_behind distinct_at exists_at exists_behind clause_at aggregate_at aggregate_behind aggregate_within counted_at operand_at comparison_at null_test_behind test_at name_at in_parentheses items_within ended
+unfolding lexed tokens_within token_at word_at word sign_at digits_at name_in_quotes text_in_quotes command_of form_at form_after group_at by_at by_after conditions_after distinct_at exists_at exists_after clause_at aggregate_at aggregate_after aggregate_within counted_at operand_at comparison_at null_test_after test_at name_at in_parentheses items_within ended
 is_a_value = unsaid (codes "distinct s on a where a is 1") _ refl refl refl
 
 having_before_where : (c : Command) → Says (codes "group s show count(*) having a = 1 where a = 1") c → ⊥
-unfolding lexed tokens_within token_at word_at word sign_at digits_at name_in_quotes text_in_quotes command_of form_at form_behind group_at by_at by_behind conditions_behind distinct_at exists_at exists_behind clause_at aggregate_at aggregate_behind aggregate_within counted_at operand_at comparison_at null_test_behind test_at name_at in_parentheses items_within ended
+unfolding lexed tokens_within token_at word_at word sign_at digits_at name_in_quotes text_in_quotes command_of form_at form_after group_at by_at by_after conditions_after distinct_at exists_at exists_after clause_at aggregate_at aggregate_after aggregate_within counted_at operand_at comparison_at null_test_after test_at name_at in_parentheses items_within ended
 having_before_where = unsaid (codes "group s show count(*) having a = 1 where a = 1") _ refl refl refl
 
 not_alone : (c : Command) → Says (codes "group s show count(*) not") c → ⊥
-unfolding lexed tokens_within token_at word_at word sign_at digits_at name_in_quotes text_in_quotes command_of form_at form_behind group_at by_at by_behind conditions_behind distinct_at exists_at exists_behind clause_at aggregate_at aggregate_behind aggregate_within counted_at operand_at comparison_at null_test_behind test_at name_at in_parentheses items_within ended
+unfolding lexed tokens_within token_at word_at word sign_at digits_at name_in_quotes text_in_quotes command_of form_at form_after group_at by_at by_after conditions_after distinct_at exists_at exists_after clause_at aggregate_at aggregate_after aggregate_within counted_at operand_at comparison_at null_test_after test_at name_at in_parentheses items_within ended
 not_alone = unsaid (codes "group s show count(*) not") _ refl refl refl
 
 distinct_having : (c : Command) → Says (codes "distinct s on a having a = 1") c → ⊥
-unfolding lexed tokens_within token_at word_at word sign_at digits_at name_in_quotes text_in_quotes command_of form_at form_behind group_at by_at by_behind conditions_behind distinct_at exists_at exists_behind clause_at aggregate_at aggregate_behind aggregate_within counted_at operand_at comparison_at null_test_behind test_at name_at in_parentheses items_within ended
+unfolding lexed tokens_within token_at word_at word sign_at digits_at name_in_quotes text_in_quotes command_of form_at form_after group_at by_at by_after conditions_after distinct_at exists_at exists_after clause_at aggregate_at aggregate_after aggregate_within counted_at operand_at comparison_at null_test_after test_at name_at in_parentheses items_within ended
 distinct_having = unsaid (codes "distinct s on a having a = 1") _ refl refl refl
 
 -- tokens

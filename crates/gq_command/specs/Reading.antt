@@ -21,12 +21,12 @@ use Rattle.gq_row.specs.declared.value.Value.{Value}
 use Rattle.gq_row.specs.declared.schema.Column.{Column}
 
 -- the kind that begins with `text`, given the tokens after it
-unfoldable pub text_behind : List Token → Kind × List Token
-text_behind ts = elim (skip terminal.NoCase ts) [ None ↦ (kind.Text, ts) | Some after ↦ (kind.NoCase, after) ]
+unfoldable pub text_after : List Token → Kind × List Token
+text_after ts = elim (skip terminal.NoCase ts) [ None ↦ (kind.Text, ts) | Some after ↦ (kind.NoCase, after) ]
 
 unfoldable pub kind_at : List Token → Option (Kind × List Token)
 kind_at [] = None
-kind_at (Fixed u ∷ rest) = if same u terminal.Int then Some (kind.Int, rest) else (if same u terminal.Text then Some (text_behind rest) else None)
+kind_at (Fixed u ∷ rest) = if same u terminal.Int then Some (kind.Int, rest) else (if same u terminal.Text then Some (text_after rest) else None)
 kind_at (Name n ∷ rest) = None
 kind_at (Number z ∷ rest) = None
 kind_at (Text s ∷ rest) = None
@@ -62,8 +62,8 @@ create_at ts = do
   Some (Create table.0 columns.0 key.0, closed)
 
 -- what follows `exists`
-unfoldable pub exists_behind : Bool → List Token → Option (Exists × List Token)
-exists_behind negated ts = do
+unfoldable pub exists_after : Bool → List Token → Option (Exists × List Token)
+exists_after negated ts = do
   table ← name_at ts
   theirs ← in_parentheses names_at table.1
   equal ← skip terminal.Equal theirs.1
@@ -76,24 +76,24 @@ with_exists read = read >>= λ e. Some (Some e.0, e.1)
 -- `exists` or `not exists`, or none if neither comes first
 unfoldable pub exists_at : List Token → Option (Option Exists × List Token)
 exists_at ts = elim (skip terminal.Not ts) [
-  | None ↦ elim (skip terminal.Exists ts) [ None ↦ Some (None, ts) | Some after ↦ with_exists (exists_behind false after) ]
-  | Some after ↦ skip terminal.Exists after >>= λ rest. with_exists (exists_behind true rest)
+  | None ↦ elim (skip terminal.Exists ts) [ None ↦ Some (None, ts) | Some after ↦ with_exists (exists_after false after) ]
+  | Some after ↦ skip terminal.Exists after >>= λ rest. with_exists (exists_after true rest)
 ]
 
 -- the columns after `by`, with or without `rollup`
-unfoldable pub by_behind : List Token → Option (By × List Token)
-by_behind ts = elim (skip terminal.Rollup ts) [
+unfoldable pub by_after : List Token → Option (By × List Token)
+by_after ts = elim (skip terminal.Rollup ts) [
   | None ↦ names_at ts >>= λ names. Some (record { columns = names.0; rollup = false }, names.1)
   | Some after ↦ in_parentheses names_at after >>= λ names. Some (record { columns = names.0; rollup = true }, names.1)
 ]
 
 -- `by` and its columns, or none if `by` doesn't come first
 unfoldable pub by_at : List Token → Option (By × List Token)
-by_at ts = elim (skip terminal.By ts) [ None ↦ Some (record { columns = []; rollup = false }, ts) | Some after ↦ by_behind after ]
+by_at ts = elim (skip terminal.By ts) [ None ↦ Some (record { columns = []; rollup = false }, ts) | Some after ↦ by_after after ]
 
 -- the conditions after the aggregates, and with them the whole grouping
-unfoldable pub conditions_behind : Bytes → By → List Aggregate → List Token → Option (Command × List Token)
-conditions_behind table by shown ts = do
+unfoldable pub conditions_after : Bytes → By → List Aggregate → List Token → Option (Command × List Token)
+conditions_after table by shown ts = do
   tests ← clause_at terminal.Where tests_at ts
   exists ← exists_at tests.1
   having ← clause_at terminal.Having tests_at exists.1
@@ -105,7 +105,7 @@ group_at ts = do
   by ← by_at table.1
   show ← skip terminal.Show by.1
   shown ← aggregates_at show
-  conditions_behind table.0 by.0 shown.0 shown.1
+  conditions_after table.0 by.0 shown.0 shown.1
 
 unfoldable pub distinct_at : List Token → Option (Command × List Token)
 distinct_at ts = do
@@ -116,30 +116,30 @@ distinct_at ts = do
   Some (Distinct table.0 names.0 tests.0, tests.1)
 
 -- the form that begins with this word, given the tokens after it
-unfoldable pub form_behind : Terminal → List Token → Option (Command × List Token)
-form_behind terminal.Create ts = create_at ts
-form_behind terminal.Drop ts = do
+unfoldable pub form_after : Terminal → List Token → Option (Command × List Token)
+form_after terminal.Create ts = create_at ts
+form_after terminal.Drop ts = do
   table ← name_at ts
   Some (Drop table.0, table.1)
-form_behind terminal.Load ts = do
+form_after terminal.Load ts = do
   table ← name_at ts
   Some (Load table.0 payload.Open, table.1)
-form_behind terminal.Upsert ts = do
+form_after terminal.Upsert ts = do
   row ← row_at ts
   Some (Upsert row.0.0 row.0.1, row.1)
-form_behind terminal.Delete ts = do
+form_after terminal.Delete ts = do
   row ← row_at ts
   Some (Delete row.0.0 row.0.1, row.1)
-form_behind terminal.Show ts = do
+form_after terminal.Show ts = do
   table ← name_at ts
   Some (Show table.0, table.1)
-form_behind terminal.Group ts = group_at ts
-form_behind terminal.Distinct ts = distinct_at ts
-form_behind _ ts = None
+form_after terminal.Group ts = group_at ts
+form_after terminal.Distinct ts = distinct_at ts
+form_after _ ts = None
 
 unfoldable pub form_at : List Token → Option (Command × List Token)
 form_at [] = None
-form_at (Fixed first ∷ rest) = form_behind first rest
+form_at (Fixed first ∷ rest) = form_after first rest
 form_at (Name n ∷ rest) = None
 form_at (Number z ∷ rest) = None
 form_at (Text s ∷ rest) = None

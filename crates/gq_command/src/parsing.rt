@@ -8,12 +8,12 @@ ghost use Rattle.gq_clause.specs.declared.aggregate.Aggregate.{Aggregate as Aske
 ghost use Rattle.gq_command.specs.declared.command.By.{By as Columns};
 ghost use Rattle.gq_command.specs.declared.command.Command.TheVariants.{Group};
 ghost use Rattle.gq_token.specs.Results.{Gives};
-ghost use Rattle.gq_command.specs.Reading.{text_behind, kind_at, column_at, columns_at, key_at, row_at, create_at, exists_behind, exists_at, by_behind, by_at, conditions_behind, group_at, distinct_at, form_behind, form_at, ended, command_of};
+ghost use Rattle.gq_command.specs.Reading.{text_after, kind_at, column_at, columns_at, key_at, row_at, create_at, exists_after, exists_at, by_after, by_at, conditions_after, group_at, distinct_at, form_after, form_at, ended, command_of};
 ghost use Rattle.gq_token.specs.declared.parse_error.ParseError.TheVariants.{Memory};
 
 use crate::command::{By, Command, Exists, Payload};
 use gq_clause::{
-    Test, aggregates_of, enclosed_literals, enclosed_names, expect, name_of, names_of, tests_behind,
+    Test, aggregates_of, enclosed_literals, enclosed_names, expect, name_of, names_of, tests_after,
 };
 use gq_row::{Column, Kind, Row, Sequence, Text};
 use gq_token::{ParseError, Terminal, Token, Tokens};
@@ -21,9 +21,9 @@ use std::alloc::Global;
 use std::collections::BTreeSet;
 
 /// The kind that begins with `text`, given the tokens after it.
-#[tactic(auto, unfolding(crate::specs::Reading::text_behind))]
-fn text_behind(tokens: &mut Tokens) -> Kind
-    ensures { (result, tokens.new) ≡ text_behind tokens.old }
+#[tactic(auto, unfolding(crate::specs::Reading::text_after))]
+fn text_after(tokens: &mut Tokens) -> Kind
+    ensures { (result, tokens.new) ≡ text_after tokens.old }
 {
     if tokens.skip(Terminal::NoCase) {
         Kind::NoCase
@@ -39,7 +39,7 @@ fn kind_of(tokens: &mut Tokens) -> Result<Kind, ParseError>
     if tokens.skip(Terminal::Int) {
         Ok(Kind::Int)
     } else if tokens.skip(Terminal::Text) {
-        Ok(text_behind(tokens))
+        Ok(text_after(tokens))
     } else {
         Err(ParseError::Syntax)
     }
@@ -106,9 +106,9 @@ fn row_of(alloc: Global, tokens: &mut Tokens) -> Result<(Text, Row), ParseError>
 }
 
 /// What follows `exists`.
-#[tactic(auto, unfolding(crate::specs::Reading::exists_behind))]
-fn exists_behind(alloc: Global, negated: bool, tokens: &mut Tokens) -> Result<Exists, ParseError>
-    ensures { Gives (λ exists. (exists, tokens.new)) result (exists_behind negated tokens.old) }
+#[tactic(auto, unfolding(crate::specs::Reading::exists_after))]
+fn exists_after(alloc: Global, negated: bool, tokens: &mut Tokens) -> Result<Exists, ParseError>
+    ensures { Gives (λ exists. (exists, tokens.new)) result (exists_after negated tokens.old) }
 {
     let table = name_of(tokens)?;
     let theirs = enclosed_names(alloc, tokens)?;
@@ -129,18 +129,18 @@ fn exists_of(alloc: Global, tokens: &mut Tokens) -> Result<Option<Exists>, Parse
 {
     if tokens.skip(Terminal::Not) {
         expect(tokens, Terminal::Exists)?;
-        return Ok(Some(exists_behind(alloc, true, tokens)?));
+        return Ok(Some(exists_after(alloc, true, tokens)?));
     }
     if tokens.skip(Terminal::Exists) {
-        return Ok(Some(exists_behind(alloc, false, tokens)?));
+        return Ok(Some(exists_after(alloc, false, tokens)?));
     }
     Ok(None)
 }
 
 /// The columns after `by`, with or without `rollup`.
-#[tactic(auto, unfolding(crate::specs::Reading::by_behind))]
-fn by_behind(alloc: Global, tokens: &mut Tokens) -> Result<By, ParseError>
-    ensures { Gives (λ by. (by, tokens.new)) result (by_behind tokens.old) }
+#[tactic(auto, unfolding(crate::specs::Reading::by_after))]
+fn by_after(alloc: Global, tokens: &mut Tokens) -> Result<By, ParseError>
+    ensures { Gives (λ by. (by, tokens.new)) result (by_after tokens.old) }
 {
     let rollup = tokens.skip(Terminal::Rollup);
     let columns = if rollup {
@@ -160,7 +160,7 @@ fn by_of(alloc: Global, tokens: &mut Tokens) -> Result<By, ParseError>
     ensures { Gives (λ by. (by, tokens.new)) result (by_at tokens.old) }
 {
     if tokens.skip(Terminal::By) {
-        return by_behind(alloc, tokens);
+        return by_after(alloc, tokens);
     }
     Ok(By {
         columns: Sequence::new(Vec::new(alloc)),
@@ -177,14 +177,14 @@ struct Conditions {
 }
 
 /// The conditions after the aggregates.
-#[tactic(auto, unfolding(crate::specs::Reading::conditions_behind))]
+#[tactic(auto, unfolding(crate::specs::Reading::conditions_after))]
 fn conditions_of(alloc: Global, tokens: &mut Tokens) -> Result<Conditions, ParseError>
     ensures { (table : Bytes) (by : Columns) (shown : List Asked) →
-        Gives (λ found. (Group table by shown found.tests found.exists found.having, tokens.new)) result (conditions_behind table by shown tokens.old) }
+        Gives (λ found. (Group table by shown found.tests found.exists found.having, tokens.new)) result (conditions_after table by shown tokens.old) }
 {
-    let tests = tests_behind(alloc, Terminal::Where, tokens)?;
+    let tests = tests_after(alloc, Terminal::Where, tokens)?;
     let exists = exists_of(alloc, tokens)?;
-    let having = tests_behind(alloc, Terminal::Having, tokens)?;
+    let having = tests_after(alloc, Terminal::Having, tokens)?;
     Ok(Conditions {
         tests: Sequence::new(tests),
         exists,
@@ -222,7 +222,7 @@ fn distinct_of(alloc: Global, tokens: &mut Tokens) -> Result<Command, ParseError
     let table = name_of(tokens)?;
     expect(tokens, Terminal::On)?;
     let on = names_of(alloc, tokens)?;
-    let tests = tests_behind(alloc, Terminal::Where, tokens)?;
+    let tests = tests_after(alloc, Terminal::Where, tokens)?;
     Ok(Command::Distinct {
         table,
         on: Sequence::new(on),
@@ -231,9 +231,9 @@ fn distinct_of(alloc: Global, tokens: &mut Tokens) -> Result<Command, ParseError
 }
 
 /// The command that begins with this word, given the tokens after it.
-#[tactic(auto, unfolding(crate::specs::Reading::form_behind))]
-fn form_behind(alloc: Global, first: Terminal, tokens: &mut Tokens) -> Result<Command, ParseError>
-    ensures { Gives (λ command. (command, tokens.new)) result (form_behind first tokens.old) }
+#[tactic(auto, unfolding(crate::specs::Reading::form_after))]
+fn form_after(alloc: Global, first: Terminal, tokens: &mut Tokens) -> Result<Command, ParseError>
+    ensures { Gives (λ command. (command, tokens.new)) result (form_after first tokens.old) }
 {
     match first {
         Terminal::Create => create_of(alloc, tokens),
@@ -266,7 +266,7 @@ fn form_of(alloc: Global, tokens: &mut Tokens) -> Result<Command, ParseError>
     ensures { Gives (λ command. (command, tokens.new)) result (form_at tokens.old) }
 {
     match tokens.take() {
-        Some(Token::Fixed(first)) => form_behind(alloc, first, tokens),
+        Some(Token::Fixed(first)) => form_after(alloc, first, tokens),
         _ => Err(ParseError::Syntax),
     }
 }

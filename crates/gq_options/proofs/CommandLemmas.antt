@@ -80,12 +80,12 @@ takes-commands = record {
       (fails-on ((command-adds lines).turns nothing-waits)
       (fails-on (path-turns {path = path} nothing-waits plain)
       (fails-last (path-settles refl) refl)));
-  joined_behind = λ name lines path plain.
+  joined_after = λ name lines path plain.
       refuses name
       (fails-on (path-turns {path = path} nothing-waits plain)
       (fails-on ((command-adds lines).turns (path-settles refl))
       (fails-last nothing-waits refl)));
-  option_behind = λ name more. refl;
+  option_after = λ name more. refl;
   without_value = λ name. refl;
   short_without_value = λ name. refl;
 }

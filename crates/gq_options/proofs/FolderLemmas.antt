@@ -34,8 +34,8 @@ takes-one-folder = record {
   behind = λ name folder path plain path_plain. behind spill-waits name refl plain path_plain refl (asks refl refl);
   joined = λ name folder. word-alone (spill-puts folder) name (asks refl refl);
   joined_before = λ name folder path plain. word-before (spill-puts folder) name plain refl (asks refl refl);
-  joined_behind = λ name folder path plain. word-behind (spill-puts folder) name plain refl (asks refl refl);
-  option_behind = λ name more. refl;
+  joined_after = λ name folder path plain. word-behind (spill-puts folder) name plain refl (asks refl refl);
+  option_after = λ name more. refl;
   without_value = λ name. refl;
   before_dashes = λ name path. refl;
   twice = λ name one two. twice-refused spill-waits spill-waits (λ one two. refl) name one two refl;
@@ -51,6 +51,6 @@ folders-worked = record {
   folder = λ name. record { accepted = refl; asked_is = refl };
   empty = λ name. record { accepted = refl; asked_is = refl };
   dashed = λ name. record { accepted = refl; asked_is = refl };
-  flag_behind = λ name. refl;
+  flag_after = λ name. refl;
   all = λ name. record { accepted = refl; asked_is = refl };
 }

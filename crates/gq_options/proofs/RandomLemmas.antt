@@ -17,7 +17,7 @@ takes-random = record {
   behind = λ name path plain. behind seed-waits name refl refl plain refl (asks refl refl);
   joined = λ name. record { accepted = refl; asked_is = refl };
   joined_before = λ name path plain. word-before (seed-puts (codes "random")) name plain refl (asks refl refl);
-  joined_behind = λ name path plain. word-behind (seed-puts (codes "random")) name plain refl (asks refl refl);
+  joined_after = λ name path plain. word-behind (seed-puts (codes "random")) name plain refl (asks refl refl);
   capital = λ name. refl;
   longer = λ name. refl;
   all = λ name budget folder is_b.

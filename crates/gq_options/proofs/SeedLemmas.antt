@@ -106,7 +106,7 @@ takes-one-seed = record {
   behind = λ name seed path is plain. behind seed-waits name refl (seed-plain seed is) plain refl (asks-number seed is refl refl refl);
   joined = λ name seed is. word-alone (seed-puts seed) name (asks-number seed is refl refl refl);
   joined_before = λ name seed path is plain. word-before (seed-puts seed) name plain refl (asks-number seed is refl refl refl);
-  joined_behind = λ name seed path is plain. word-behind (seed-puts seed) name plain refl (asks-number seed is refl refl refl);
+  joined_after = λ name seed path is plain. word-behind (seed-puts seed) name plain refl (asks-number seed is refl refl refl);
   no_seed = λ name text is plain.
       refuses name
       (fails-on (seed-waits.turns nothing-waits)
@@ -124,7 +124,7 @@ takes-one-seed = record {
       (fails-on ((seed-puts text).turns nothing-waits refl)
       (fails-on (path-turns {path = path} nothing-waits plain)
       (names-no-seed text (path-settles refl) refl is)));
-  no_seed_behind = λ name text path is plain.
+  no_seed_after = λ name text path is plain.
       refuses name
       (fails-on (path-turns {path = path} nothing-waits plain)
       (fails-on ((seed-puts text).turns (path-settles refl) refl)

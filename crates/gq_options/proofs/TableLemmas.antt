@@ -62,12 +62,12 @@ takes-tables = record {
   behind = λ name file path plain path_plain. behind t-waits name refl plain path_plain refl (asks refl refl);
   joined = λ name file. word-alone (adds-puts (table-adds file)) name (asks refl refl);
   joined_before = λ name file path plain. word-before (adds-puts (table-adds file)) name plain refl (asks refl refl);
-  joined_behind = λ name file path plain. word-behind (adds-puts (table-adds file)) name plain refl (asks refl refl);
+  joined_after = λ name file path plain. word-behind (adds-puts (table-adds file)) name plain refl (asks refl refl);
   short_joined = λ name c file plain. word-alone (adds-puts (t-adds c file plain)) name (asks refl refl);
   short_equals = λ name file. word-alone (adds-puts (t-equals-adds file)) name (asks refl refl);
   two = λ name one two plain two_plain. both-values name t-waits table-settles refl plain two_plain (asks refl refl);
   many = names-many (λ file. codes "--table=" ++ file) table-adds refl (λ files. record DEFAULTS { tables = files }) asks-tables;
-  option_behind = λ name more. refl;
+  option_after = λ name more. refl;
   without_value = λ name. refl;
   short_without_value = λ name. refl;
 }
@@ -77,7 +77,7 @@ unfolding clap_on_literals
 tables-worked = record {
   files = λ name. record { accepted = refl; asked_is = refl };
   around = λ name. record { accepted = refl; asked_is = refl };
-  two_behind = λ name. refl;
-  flag_behind = λ name. refl;
+  two_after = λ name. refl;
+  flag_after = λ name. refl;
   help_example = λ name. record { accepted = refl; asked_is = refl };
 }

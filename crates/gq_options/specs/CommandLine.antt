@@ -250,12 +250,12 @@ pub record TakesOneSeed : Type 0 where
   pub behind : (name seed path : Text) → is_seed seed ≡ true → has_dash path ≡ false → Names (name ∷ path ∷ codes "--seed" ∷ seed ∷ []) (record DEFAULTS { script = Some path; seed = Number (number_of seed) })
   pub joined : (name seed : Text) → is_seed seed ≡ true → Names (name ∷ (codes "--seed=" ++ seed) ∷ []) (record DEFAULTS { seed = Number (number_of seed) })
   pub joined_before : (name seed path : Text) → is_seed seed ≡ true → has_dash path ≡ false → Names (name ∷ (codes "--seed=" ++ seed) ∷ path ∷ []) (record DEFAULTS { script = Some path; seed = Number (number_of seed) })
-  pub joined_behind : (name seed path : Text) → is_seed seed ≡ true → has_dash path ≡ false → Names (name ∷ path ∷ (codes "--seed=" ++ seed) ∷ []) (record DEFAULTS { script = Some path; seed = Number (number_of seed) })
+  pub joined_after : (name seed path : Text) → is_seed seed ≡ true → has_dash path ≡ false → Names (name ∷ path ∷ (codes "--seed=" ++ seed) ∷ []) (record DEFAULTS { script = Some path; seed = Number (number_of seed) })
   pub no_seed : (name text : Text) → names_seed text ≡ false → has_dash text ≡ false → faults_of (name ∷ codes "--seed" ∷ text ∷ []) ≡ ValueValidation ∷ []
   pub joined_no_seed : (name text : Text) (more : List Text) → names_seed text ≡ false → faults_of (name ∷ (codes "--seed=" ++ text) ∷ more) ≢ []
   pub no_seed_alone : (name text : Text) → names_seed text ≡ false → faults_of (name ∷ (codes "--seed=" ++ text) ∷ []) ≡ ValueValidation ∷ []
   pub no_seed_before : (name text path : Text) → names_seed text ≡ false → has_dash path ≡ false → faults_of (name ∷ (codes "--seed=" ++ text) ∷ path ∷ []) ≡ ValueValidation ∷ []
-  pub no_seed_behind : (name text path : Text) → names_seed text ≡ false → has_dash path ≡ false → faults_of (name ∷ path ∷ (codes "--seed=" ++ text) ∷ []) ≡ ValueValidation ∷ []
+  pub no_seed_after : (name text path : Text) → names_seed text ≡ false → has_dash path ≡ false → faults_of (name ∷ path ∷ (codes "--seed=" ++ text) ∷ []) ≡ ValueValidation ∷ []
   pub below_zero : (name : Text) (more : List Text) → faults_of (name ∷ codes "--seed" ∷ codes "-1" ∷ more) ≡ UnknownArgument ∷ []
   pub without_value : (name : Text) → faults_of (name ∷ codes "--seed" ∷ []) ≡ InvalidValue ∷ []
   pub twice : (name one two : Text) → has_dash one ≡ false → has_dash two ≡ false → faults_of (name ∷ codes "--seed" ∷ one ∷ codes "--seed" ∷ two ∷ []) ≡ ArgumentConflict ∷ []
@@ -267,7 +267,7 @@ pub record TakesRandom : Type 0 where
   pub behind : (name path : Text) → has_dash path ≡ false → Names (name ∷ path ∷ codes "--seed" ∷ codes "random" ∷ []) (record DEFAULTS { script = Some path; seed = Random })
   pub joined : (name : Text) → Names (name ∷ codes "--seed=random" ∷ []) (record DEFAULTS { seed = Random })
   pub joined_before : (name path : Text) → has_dash path ≡ false → Names (name ∷ codes "--seed=random" ∷ path ∷ []) (record DEFAULTS { script = Some path; seed = Random })
-  pub joined_behind : (name path : Text) → has_dash path ≡ false → Names (name ∷ path ∷ codes "--seed=random" ∷ []) (record DEFAULTS { script = Some path; seed = Random })
+  pub joined_after : (name path : Text) → has_dash path ≡ false → Names (name ∷ path ∷ codes "--seed=random" ∷ []) (record DEFAULTS { script = Some path; seed = Random })
   pub capital : (name : Text) → faults_of (name ∷ codes "--seed" ∷ codes "Random" ∷ []) ≡ ValueValidation ∷ []
   pub longer : (name : Text) → faults_of (name ∷ codes "--seed=random1" ∷ []) ≡ ValueValidation ∷ []
   -- with a budget, a folder and the flag for the report
@@ -280,7 +280,7 @@ pub record TakesOneBudget : Type 0 where
   pub behind : (name budget path : Text) → is_budget budget ≡ true → has_dash path ≡ false → Names (name ∷ path ∷ codes "--budget" ∷ budget ∷ []) (record DEFAULTS { script = Some path; budget = number_of budget })
   pub joined : (name budget : Text) → is_budget budget ≡ true → Names (name ∷ (codes "--budget=" ++ budget) ∷ []) (record DEFAULTS { budget = number_of budget })
   pub joined_before : (name budget path : Text) → is_budget budget ≡ true → has_dash path ≡ false → Names (name ∷ (codes "--budget=" ++ budget) ∷ path ∷ []) (record DEFAULTS { script = Some path; budget = number_of budget })
-  pub joined_behind : (name budget path : Text) → is_budget budget ≡ true → has_dash path ≡ false → Names (name ∷ path ∷ (codes "--budget=" ++ budget) ∷ []) (record DEFAULTS { script = Some path; budget = number_of budget })
+  pub joined_after : (name budget path : Text) → is_budget budget ≡ true → has_dash path ≡ false → Names (name ∷ path ∷ (codes "--budget=" ++ budget) ∷ []) (record DEFAULTS { script = Some path; budget = number_of budget })
   pub no_budget : (name text : Text) → is_budget text ≡ false → has_dash text ≡ false → faults_of (name ∷ codes "--budget" ∷ text ∷ []) ≡ ValueValidation ∷ []
   pub joined_no_budget : (name text : Text) (more : List Text) → is_budget text ≡ false → faults_of (name ∷ (codes "--budget=" ++ text) ∷ more) ≡ ValueValidation ∷ []
   pub below_zero : (name : Text) (more : List Text) → faults_of (name ∷ codes "--budget" ∷ codes "-1" ∷ more) ≡ UnknownArgument ∷ []
@@ -298,8 +298,8 @@ pub record TakesOneFolder : Type 0 where
   pub behind : (name folder path : Text) → has_dash folder ≡ false → has_dash path ≡ false → Names (name ∷ path ∷ codes "--spill" ∷ folder ∷ []) (record DEFAULTS { script = Some path; spill = Some folder })
   pub joined : (name folder : Text) → Names (name ∷ (codes "--spill=" ++ folder) ∷ []) (record DEFAULTS { spill = Some folder })
   pub joined_before : (name folder path : Text) → has_dash path ≡ false → Names (name ∷ (codes "--spill=" ++ folder) ∷ path ∷ []) (record DEFAULTS { script = Some path; spill = Some folder })
-  pub joined_behind : (name folder path : Text) → has_dash path ≡ false → Names (name ∷ path ∷ (codes "--spill=" ++ folder) ∷ []) (record DEFAULTS { script = Some path; spill = Some folder })
-  pub option_behind : (name : Text) (more : List Text) → faults_of (name ∷ codes "--spill" ∷ codes "-x" ∷ more) ≡ UnknownArgument ∷ []
+  pub joined_after : (name folder path : Text) → has_dash path ≡ false → Names (name ∷ path ∷ (codes "--spill=" ++ folder) ∷ []) (record DEFAULTS { script = Some path; spill = Some folder })
+  pub option_after : (name : Text) (more : List Text) → faults_of (name ∷ codes "--spill" ∷ codes "-x" ∷ more) ≡ UnknownArgument ∷ []
   pub without_value : (name : Text) → faults_of (name ∷ codes "--spill" ∷ []) ≡ InvalidValue ∷ []
   pub before_dashes : (name path : Text) → faults_of (name ∷ codes "--spill" ∷ codes "--" ∷ path ∷ []) ≡ InvalidValue ∷ []
   pub twice : (name one two : Text) → has_dash one ≡ false → has_dash two ≡ false → faults_of (name ∷ codes "--spill" ∷ one ∷ codes "--spill" ∷ two ∷ []) ≡ ArgumentConflict ∷ []
@@ -346,12 +346,12 @@ pub record TakesTables : Type 0 where
   pub behind : (name file path : Text) → has_dash file ≡ false → has_dash path ≡ false → Names (name ∷ path ∷ codes "-t" ∷ file ∷ []) (record DEFAULTS { script = Some path; tables = file ∷ [] })
   pub joined : (name file : Text) → Names (name ∷ (codes "--table=" ++ file) ∷ []) (record DEFAULTS { tables = file ∷ [] })
   pub joined_before : (name file path : Text) → has_dash path ≡ false → Names (name ∷ (codes "--table=" ++ file) ∷ path ∷ []) (record DEFAULTS { script = Some path; tables = file ∷ [] })
-  pub joined_behind : (name file path : Text) → has_dash path ≡ false → Names (name ∷ path ∷ (codes "--table=" ++ file) ∷ []) (record DEFAULTS { script = Some path; tables = file ∷ [] })
+  pub joined_after : (name file path : Text) → has_dash path ≡ false → Names (name ∷ path ∷ (codes "--table=" ++ file) ∷ []) (record DEFAULTS { script = Some path; tables = file ∷ [] })
   pub short_joined : (name : Text) (c : ℕ) (file : Text) → (c == 61) ≡ false → Names (name ∷ (codes "-t" ++ c ∷ file) ∷ []) (record DEFAULTS { tables = (c ∷ file) ∷ [] })
   pub short_equals : (name file : Text) → Names (name ∷ (codes "-t=" ++ file) ∷ []) (record DEFAULTS { tables = file ∷ [] })
   pub two : (name one two : Text) → has_dash one ≡ false → has_dash two ≡ false → Names (name ∷ codes "-t" ∷ one ∷ codes "-t" ∷ two ∷ []) (record DEFAULTS { tables = one ∷ two ∷ [] })
   pub many : (name : Text) (files : List Text) → Names (name ∷ map (λ file. codes "--table=" ++ file) files) (record DEFAULTS { tables = files })
-  pub option_behind : (name : Text) (more : List Text) → faults_of (name ∷ codes "-t" ∷ codes "-x" ∷ more) ≡ UnknownArgument ∷ []
+  pub option_after : (name : Text) (more : List Text) → faults_of (name ∷ codes "-t" ∷ codes "-x" ∷ more) ≡ UnknownArgument ∷ []
   pub without_value : (name : Text) → faults_of (name ∷ codes "--table" ∷ []) ≡ InvalidValue ∷ []
   pub short_without_value : (name : Text) → faults_of (name ∷ codes "-t" ∷ []) ≡ InvalidValue ∷ []
 
@@ -368,8 +368,8 @@ pub record TakesCommands : Type 0 where
   pub before : (name lines path : Text) → has_dash lines ≡ false → has_dash path ≡ false → faults_of (name ∷ codes "-c" ∷ lines ∷ path ∷ []) ≡ ArgumentConflict ∷ []
   pub behind : (name lines path : Text) → has_dash lines ≡ false → has_dash path ≡ false → faults_of (name ∷ path ∷ codes "-c" ∷ lines ∷ []) ≡ ArgumentConflict ∷ []
   pub joined_before : (name lines path : Text) → has_dash path ≡ false → faults_of (name ∷ (codes "--command=" ++ lines) ∷ path ∷ []) ≡ ArgumentConflict ∷ []
-  pub joined_behind : (name lines path : Text) → has_dash path ≡ false → faults_of (name ∷ path ∷ (codes "--command=" ++ lines) ∷ []) ≡ ArgumentConflict ∷ []
-  pub option_behind : (name : Text) (more : List Text) → faults_of (name ∷ codes "-c" ∷ codes "-x" ∷ more) ≡ UnknownArgument ∷ []
+  pub joined_after : (name lines path : Text) → has_dash path ≡ false → faults_of (name ∷ path ∷ (codes "--command=" ++ lines) ∷ []) ≡ ArgumentConflict ∷ []
+  pub option_after : (name : Text) (more : List Text) → faults_of (name ∷ codes "-c" ∷ codes "-x" ∷ more) ≡ UnknownArgument ∷ []
   pub without_value : (name : Text) → faults_of (name ∷ codes "--command" ∷ []) ≡ InvalidValue ∷ []
   pub short_without_value : (name : Text) → faults_of (name ∷ codes "-c" ∷ []) ≡ InvalidValue ∷ []
 
@@ -418,14 +418,14 @@ pub record FoldersWorked : Type 0 where
   pub folder : (name : Text) → Names (name ∷ codes "--spill" ∷ codes "runs" ∷ codes "a.gq" ∷ []) (record DEFAULTS { script = Some (codes "a.gq"); spill = Some (codes "runs") })
   pub empty : (name : Text) → Names (name ∷ codes "--spill=" ∷ []) (record DEFAULTS { spill = Some [] })
   pub dashed : (name : Text) → Names (name ∷ codes "--spill=-x" ∷ []) (record DEFAULTS { spill = Some (codes "-x") })
-  pub flag_behind : (name : Text) → faults_of (name ∷ codes "--spill" ∷ codes "--stats" ∷ []) ≡ InvalidValue ∷ []
+  pub flag_after : (name : Text) → faults_of (name ∷ codes "--spill" ∷ codes "--stats" ∷ []) ≡ InvalidValue ∷ []
   pub all : (name : Text) → Names (name ∷ codes "--stats" ∷ codes "--budget" ∷ codes "1" ∷ codes "--spill" ∷ codes "runs" ∷ codes "--seed" ∷ codes "7" ∷ codes "a.gq" ∷ []) (record DEFAULTS { script = Some (codes "a.gq"); seed = Number 7; budget = 1; spill = Some (codes "runs"); stats = true; check = false })
 
 pub record TablesWorked : Type 0 where
   pub files : (name : Text) → Names (name ∷ codes "-t" ∷ codes "a.csv" ∷ codes "-tb=c.csv" ∷ codes "--table" ∷ codes "d.csv" ∷ codes "a.gq" ∷ []) (record DEFAULTS { script = Some (codes "a.gq"); tables = codes "a.csv" ∷ codes "b=c.csv" ∷ codes "d.csv" ∷ [] })
   pub around : (name : Text) → Names (name ∷ codes "-t" ∷ codes "a.csv" ∷ codes "a.gq" ∷ codes "-t=b.csv" ∷ []) (record DEFAULTS { script = Some (codes "a.gq"); tables = codes "a.csv" ∷ codes "b.csv" ∷ [] })
-  pub two_behind : (name : Text) → faults_of (name ∷ codes "-t" ∷ codes "a.csv" ∷ codes "b.csv" ∷ codes "c.csv" ∷ []) ≡ UnknownArgument ∷ []
-  pub flag_behind : (name : Text) → faults_of (name ∷ codes "-t" ∷ codes "--ragged" ∷ []) ≡ InvalidValue ∷ []
+  pub two_after : (name : Text) → faults_of (name ∷ codes "-t" ∷ codes "a.csv" ∷ codes "b.csv" ∷ codes "c.csv" ∷ []) ≡ UnknownArgument ∷ []
+  pub flag_after : (name : Text) → faults_of (name ∷ codes "-t" ∷ codes "--ragged" ∷ []) ≡ InvalidValue ∷ []
   pub help_example : (name : Text) → Names (name ∷ codes "-t" ∷ codes "cities.csv" ∷ codes "-c" ∷ codes "group cities by country show count(*)" ∷ codes "-o" ∷ codes "csv" ∷ []) (record DEFAULTS { tables = codes "cities.csv" ∷ []; commands = codes "group cities by country show count(*)" ∷ []; output = Csv })
 
 pub record OutputsWorked : Type 0 where

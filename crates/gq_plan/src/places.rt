@@ -35,7 +35,7 @@ impl<'a> Scope<'a> {
     {
         match self {
             Scope::Rows(_) => None,
-            Scope::Groups(by, shown) => find_behind(by, shown, aggregate),
+            Scope::Groups(by, shown) => find_after(by, shown, aggregate),
         }
     }
 }
@@ -47,7 +47,7 @@ fn find_text(texts: &[Text], text: &Text) -> Option<usize>
 }
 
 // The position of an aggregate after the `by` columns.
-fn find_behind(by: &[Text], shown: &[Aggregate], aggregate: &Aggregate) -> Option<usize>
+fn find_after(by: &[Text], shown: &[Aggregate], aggregate: &Aggregate) -> Option<usize>
     ensures { result ≡ option_map (λ place. length by.now + place)
         (position (λ other. same_aggregate other aggregate.now) shown.now) }
 {

@@ -200,10 +200,10 @@ opening_tells (b ∷ bs) = by_blank (is_blank b) refl (opening_tells bs)
 
 -- the loop that takes a line
 
-pub record Taking (most : ℕ) (before now : Stream) (line : OpenLine) (behind_cr any : Bool) (raw : Bytes) : Type 0 where
+pub record Taking (most : ℕ) (before now : Stream) (line : OpenLine) (after_cr any : Bool) (raw : Bytes) : Type 0 where
   pub taken : Takes before now raw
   pub plain : list_all is_plain raw ≡ true
-  pub gathers : GathersRaw most line behind_cr raw
+  pub gathers : GathersRaw most line after_cr raw
   pub some : any ≡ nat_lt 0 (length raw)
 
 same_bytes : (k : Known) → Consumes k k []

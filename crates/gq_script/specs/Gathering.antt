@@ -48,9 +48,9 @@ pub record Gathers (most : ℕ) (line : OpenLine) (front : Bytes) : Type 0 where
   pub word : line.first_word ≡ word_of first.Blank (take most front)
 
 -- the line has gathered these bytes, but for a CR at their end, which is held back
-pub record GathersRaw (most : ℕ) (line : OpenLine) (behind_cr : Bool) (raw : Bytes) : Type 0 where
+pub record GathersRaw (most : ℕ) (line : OpenLine) (after_cr : Bool) (raw : Bytes) : Type 0 where
   pub front : Gathers most line (strip_last 13 raw)
-  pub cr : behind_cr ≡ ends_with_byte 13 raw
+  pub cr : after_cr ≡ ends_with_byte 13 raw
 
 -- the first line was taken, and counted
 pub record TookLine (b : Bounds) (old new : Stream) (line : OpenLine) : Type 0 where

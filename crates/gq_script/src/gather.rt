@@ -96,13 +96,13 @@ impl OpenLine {
             self.room -= 1;
             let word = self.first_word.after(byte);
             self.first_word = word;
-            self.keep_behind(before, byte);
+            self.keep_after(before, byte);
         }
     }
 
     /// Keeps a byte if the line is known to be neither blank nor a comment, after the dash that was
     /// held back until then.
-    fn keep_behind(&mut self, before: Opening, byte: u8)
+    fn keep_after(&mut self, before: Opening, byte: u8)
         ensures { KeepsBehind before self.old self.new byte }
     {
         match (before, self.opening) {
@@ -118,10 +118,10 @@ impl OpenLine {
     /// Adds the CR that was held back, and then the byte unless it is a CR, which may belong to the
     /// line's end. Returns whether a CR is held back.
     #[inline]
-    fn feed(&mut self, behind_cr: bool, byte: u8) -> bool
-        ensures { (most : ℕ) (raw : Bytes) → GathersRaw most self.old behind_cr raw → GathersRaw most self.new result (raw ++ byte ∷ []) }
+    fn feed(&mut self, after_cr: bool, byte: u8) -> bool
+        ensures { (most : ℕ) (raw : Bytes) → GathersRaw most self.old after_cr raw → GathersRaw most self.new result (raw ++ byte ∷ []) }
     {
-        if behind_cr {
+        if after_cr {
             self.add(b'\r');
         }
         if byte == b'\r' {
@@ -132,10 +132,10 @@ impl OpenLine {
     }
 
     /// Adds the CR that was held back, at the end of the script.
-    fn close(&mut self, behind_cr: bool)
-        ensures { (most : ℕ) (raw : Bytes) → GathersRaw most self.old behind_cr raw → Gathers most self.new raw }
+    fn close(&mut self, after_cr: bool)
+        ensures { (most : ℕ) (raw : Bytes) → GathersRaw most self.old after_cr raw → Gathers most self.new raw }
     {
-        if behind_cr {
+        if after_cr {
             self.add(b'\r');
         }
     }
@@ -186,19 +186,19 @@ fn gather_line<R: Read>(
 {
     let mut line = OpenLine::new(alloc, bounds.line);
     let mut any = false;
-    let mut behind_cr = false;
+    let mut after_cr = false;
     for _ in 0..u64::MAX {
         match source.next_byte(bounds.script)? {
             None => {
                 if !any {
                     return Ok(None);
                 }
-                line.close(behind_cr);
+                line.close(after_cr);
                 return Ok(Some(line));
             }
             Some(b'\n') => return Ok(Some(line)),
             Some(byte) => {
-                behind_cr = line.feed(behind_cr, byte);
+                after_cr = line.feed(after_cr, byte);
                 any = true;
             }
         }

@@ -14,7 +14,7 @@ use thiserror::Error;
 pub struct ReadFault;
 
 /// Reads at least four bytes, so that a byte-order mark is whole, unless the end comes first.
-fn read_front<R: Read>(reader: &mut R, buffer: &mut [u8]) -> Result<usize, ReadFault>
+fn read_into<R: Read>(reader: &mut R, buffer: &mut [u8]) -> Result<usize, ReadFault>
     requires { 4 ≤ length buffer.old }
     ensures within { IfOk result (λ n. n ≤ length buffer.new) }
     ensures bytes { IfOk result (λ n. Consumes (R.remaining reader.old) (R.remaining reader.new) (take n buffer.new)) }
@@ -46,21 +46,21 @@ fn mark_len(bytes: &[u8]) -> usize
 fn refill<R: Read>(
     reader: &mut R,
     buffer: &mut [u8],
-    behind_mark: bool,
+    after_mark: bool,
 ) -> Result<(usize, usize), ReadFault>
     requires { 4 ≤ length buffer.old }
     ensures within { IfOk result (λ x. (x.0 ≤ x.1) × (x.1 ≤ length buffer.new)) }
-    ensures bytes { IfOk result (λ x. Keeps (waiting behind_mark [] (R.remaining reader.old)) (waiting true (slice_range buffer.new x.0 x.1) (R.remaining reader.new))) }
+    ensures bytes { IfOk result (λ x. Keeps (waiting after_mark [] (R.remaining reader.old)) (waiting true (slice_range buffer.new x.0 x.1) (R.remaining reader.new))) }
     ensures end { IfOk result (λ x. x.0 ≡ x.1 → IsAtEnd (R.remaining reader.new)) }
-    ensures mark { IfOk result (λ x. IsMarkOf behind_mark x.0 (R.remaining reader.old)) }
+    ensures mark { IfOk result (λ x. IsMarkOf after_mark x.0 (R.remaining reader.old)) }
 {
-    if behind_mark {
+    if after_mark {
         match reader.read(buffer) {
             Ok(len) => Ok((0, len)),
             Err(_) => Err(ReadFault),
         }
     } else {
-        let len = read_front(reader, buffer)?;
+        let len = read_into(reader, buffer)?;
         Ok((mark_len(&buffer[..len]), len))
     }
 }
@@ -73,7 +73,7 @@ pub struct Source<R: Read> {
     buffer: [u8; 8192],
     start: usize,
     end: usize,
-    behind_mark: bool,
+    after_mark: bool,
     given: u64,
     lines: u64,
 }
@@ -84,9 +84,9 @@ impl<R: Read> Model for Source<R> {
 
     ghost Value = { Stream };
 
-    ghost view = { λ s. record { left = waiting s.behind_mark (slice_range s.buffer s.start s.end) (R.remaining s.reader); given = given_with_mark s.behind_mark s.given (R.remaining s.reader); lines = s.lines; ahead = slice_range s.buffer s.start s.end } };
+    ghost view = { λ s. record { left = waiting s.after_mark (slice_range s.buffer s.start s.end) (R.remaining s.reader); given = given_with_mark s.after_mark s.given (R.remaining s.reader); lines = s.lines; ahead = slice_range s.buffer s.start s.end } };
 
-    ghost invariant = { λ s. (s.start ≤ s.end) × (s.end ≤ length s.buffer) × (s.behind_mark ≡ false → (s.start ≡ s.end) × (s.given ≡ 0)) };
+    ghost invariant = { λ s. (s.start ≤ s.end) × (s.end ≤ length s.buffer) × (s.after_mark ≡ false → (s.start ≡ s.end) × (s.given ≡ 0)) };
 }
 
 impl<R: Read> Source<R> {
@@ -104,7 +104,7 @@ impl<R: Read> Source<R> {
             buffer: [0; 8192],
             start: 0,
             end: 0,
-            behind_mark: false,
+            after_mark: false,
             given: 0,
             lines: 0,
         }
@@ -140,12 +140,12 @@ impl<R: Read> Source<R> {
         ensures fault { OnErr result (0 < length self.old.ahead → most < self.old.given) }
     {
         if self.start == self.end {
-            let (start, end) = refill(&mut self.reader, &mut self.buffer, self.behind_mark)?;
+            let (start, end) = refill(&mut self.reader, &mut self.buffer, self.after_mark)?;
             // The bytes before the start are the mark.
             self.given += start as u64;
             self.start = start;
             self.end = end;
-            self.behind_mark = true;
+            self.after_mark = true;
         }
         if self.given > most {
             return Err(ReadFault);

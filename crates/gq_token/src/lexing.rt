@@ -248,7 +248,7 @@ fn begins_word(text: &str) -> bool
 }
 
 /// The text after its first byte, which is ASCII.
-fn behind_first(text: &str) -> &str
+fn after_first(text: &str) -> &str
     requires { (0 < length text.now) × (slice_index text.now 0 < 128) }
     ensures { result.now ≡ drop 1 text.now }
 {
@@ -268,13 +268,13 @@ fn token_of(alloc: Global, text: &str) -> Result<(Token, &str), ParseError>
     } else if first.is_ascii_digit() {
         number_of(false, text)
     } else if first == b'+' {
-        number_of(false, behind_first(text))
+        number_of(false, after_first(text))
     } else if first == b'-' {
-        number_of(true, behind_first(text))
+        number_of(true, after_first(text))
     } else if first == b'"' {
-        quoted_name(alloc, behind_first(text))
+        quoted_name(alloc, after_first(text))
     } else if first == b'\'' {
-        quoted_text(alloc, behind_first(text))
+        quoted_text(alloc, after_first(text))
     } else {
         sign_of(text)
     }

@@ -1,5 +1,5 @@
 use Rattle.gq_script.proofs.Front.{filled}
-use Rattle.gq_script.proofs.source.read_front.Goals as goal
+use Rattle.gq_script.proofs.source.read_into.Goals as goal
 
 pub loop-len-preserved : goal.loop-len-preserved
 loop-len-preserved g c =
