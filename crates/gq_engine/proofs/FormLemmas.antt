@@ -14,7 +14,7 @@ use Rattle.gq_reply.specs.declared.reply.Reply.TheVariants as reply
 use Rattle.gq_reply.specs.Refusals.{unnumbered}
 use Rattle.gq_query.specs.Answers.{rows_shown}
 use Rattle.gq_engine.specs.Databases.{Database, IsTableAt, table_at, with_table, without_table, names_differ}
-use Rattle.gq_engine.specs.Loading.{bytes_told, is_lost, rows_told}
+use Rattle.gq_engine.specs.Loading.{payload_bytes, is_lost, csv_rows}
 use Rattle.gq_engine.specs.Refusing.{put_all_within}
 use Rattle.gq_engine.specs.Steps.{drop_table, with_rows, load_table, show_table}
 use Rattle.gq_engine.proofs.MapLemmas.{without_at}
@@ -43,31 +43,31 @@ module _ (short : Short) (limits : Bounds) (db : Database) (name : List ℕ) whe
   load_none carried lost h = passes Memory (not (is_lost carried)) _ (ap not lost) ∙ misses NoTable (table_at db name) _ h
 
   module _ (table : PlainTable) (found : table_at db name ≡ Some table) where
-    pub load_untold : (carried : Payload) (why : Refused) → is_lost carried ≡ false → bytes_told carried ≡ Err why → load_table short limits db name carried ≡ Err why
+    pub load_untold : (carried : Payload) (why : Refused) → is_lost carried ≡ false → payload_bytes carried ≡ Err why → load_table short limits db name carried ≡ Err why
     load_untold carried why lost h =
-        passes Memory (not (is_lost carried)) _ (ap not lost) ∙ finds NoTable (table_at db name) table _ found ∙ stops (bytes_told carried) why _ h
+        passes Memory (not (is_lost carried)) _ (ap not lost) ∙ finds NoTable (table_at db name) table _ found ∙ stops (payload_bytes carried) why _ h
 
-    pub load_told : (carried : Payload) (bytes : Bytes) (why : Refused) → is_lost carried ≡ false → bytes_told carried ≡ Ok bytes → rows_told short limits table.schema bytes ≡ Err why → load_table short limits db name carried ≡ Err why
+    pub load_told : (carried : Payload) (bytes : Bytes) (why : Refused) → is_lost carried ≡ false → payload_bytes carried ≡ Ok bytes → csv_rows short limits table.schema bytes ≡ Err why → load_table short limits db name carried ≡ Err why
     load_told carried bytes why lost h k =
-        passes Memory (not (is_lost carried)) _ (ap not lost) ∙ finds NoTable (table_at db name) table _ found ∙ gives (bytes_told carried) bytes _ h ∙ stops (rows_told short limits table.schema bytes) why _ k
+        passes Memory (not (is_lost carried)) _ (ap not lost) ∙ finds NoTable (table_at db name) table _ found ∙ gives (payload_bytes carried) bytes _ h ∙ stops (csv_rows short limits table.schema bytes) why _ k
 
-    pub load_faulted : (carried : Payload) (bytes : Bytes) (why : Refused) → is_lost carried ≡ false → bytes_told carried ≡ Ok bytes → (why ≡ unnumbered Memory) ⊎ (rows_told short limits table.schema bytes ≡ Err why)
+    pub load_faulted : (carried : Payload) (bytes : Bytes) (why : Refused) → is_lost carried ≡ false → payload_bytes carried ≡ Ok bytes → (why ≡ unnumbered Memory) ⊎ (csv_rows short limits table.schema bytes ≡ Err why)
         → (why ≡ unnumbered Memory) ⊎ (load_table short limits db name carried ≡ Err why)
     load_faulted carried bytes why lost h (inl e) = inl e
     load_faulted carried bytes why lost h (inr e) = inr (load_told carried bytes why lost h e)
 
-    pub load_faulty : (bytes : Bytes) (why : Refused) → rows_told short limits table.schema bytes ≡ Err why → load_table short limits db name (payload.Bytes bytes) ≡ Err why
-    load_faulty bytes why h = finds NoTable (table_at db name) table _ found ∙ stops (rows_told short limits table.schema bytes) why _ h
+    pub load_faulty : (bytes : Bytes) (why : Refused) → csv_rows short limits table.schema bytes ≡ Err why → load_table short limits db name (payload.Bytes bytes) ≡ Err why
+    load_faulty bytes why h = finds NoTable (table_at db name) table _ found ∙ stops (csv_rows short limits table.schema bytes) why _ h
 
-    pub load_refused : (bytes : Bytes) (rows : List (List Value)) (why : Refused) → rows_told short limits table.schema bytes ≡ Ok rows → with_rows limits db name rows ≡ Err why
+    pub load_refused : (bytes : Bytes) (rows : List (List Value)) (why : Refused) → csv_rows short limits table.schema bytes ≡ Ok rows → with_rows limits db name rows ≡ Err why
         → load_table short limits db name (payload.Bytes bytes) ≡ Err why
     load_refused bytes rows why h k =
-        finds NoTable (table_at db name) table _ found ∙ gives (rows_told short limits table.schema bytes) rows _ h ∙ stops (with_rows limits db name rows) why _ k
+        finds NoTable (table_at db name) table _ found ∙ gives (csv_rows short limits table.schema bytes) rows _ h ∙ stops (with_rows limits db name rows) why _ k
 
-    pub load_puts : (bytes : Bytes) (rows : List (List Value)) (new : Database) → rows_told short limits table.schema bytes ≡ Ok rows → with_rows limits db name rows ≡ Ok new
+    pub load_puts : (bytes : Bytes) (rows : List (List Value)) (new : Database) → csv_rows short limits table.schema bytes ≡ Ok rows → with_rows limits db name rows ≡ Ok new
         → load_table short limits db name (payload.Bytes bytes) ≡ Ok (new, reply.Done (length rows))
     load_puts bytes rows new h k =
-        finds NoTable (table_at db name) table _ found ∙ gives (rows_told short limits table.schema bytes) rows _ h ∙ gives (with_rows limits db name rows) new _ k
+        finds NoTable (table_at db name) table _ found ∙ gives (csv_rows short limits table.schema bytes) rows _ h ∙ gives (with_rows limits db name rows) new _ k
 
 -- without the table at a place
 pub dropped_at : (db : Database) (name : List ℕ) (i : ℕ) → IsTableAt db name i → IsTrue (names_differ db) → without_table db name ≡ remove db i

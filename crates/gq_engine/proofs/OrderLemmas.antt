@@ -41,7 +41,7 @@ use Rattle.gq_engine.specs.Databases.{Database, table_at, with_table, without_ta
 use Rattle.gq_row.specs.Fitting.{fits_columns, is_null, stored_in}
 use Rattle.gq_reply.specs.Outcomes.{◌>>=◌, some_or, true_or}
 use Rattle.gq_reply.specs.Refusals.{unnumbered, of_refused, refused}
-use Rattle.gq_engine.specs.Loading.{is_lost, bytes_told, rows_told}
+use Rattle.gq_engine.specs.Loading.{is_lost, payload_bytes, csv_rows}
 use Rattle.gq_engine.specs.Refusing.{has_null_key, rows_with, put_within, put_all_within, fits_key, stored_key}
 use Rattle.gq_engine.specs.Runs.{Setting, LegalAnswer, AsListsAnswer, WantsMemory, StoreFailed, StoreLied, SameTables, ReachesGrouping, IsGrouped, AnsweredAlike, AnsweredAsLists}
 use Rattle.gq_engine.specs.Serving.{CarriedOut, Comes, ComesSurely}
@@ -321,9 +321,9 @@ module _ (limits : Bounds) (a b : Database) (k : IsKeyed a) (same : SameTables a
   load_alike name payload =
       then_alike Always Alikes (true_or Memory (not (is_lost payload))) (true_or Memory (not (is_lost payload))) _ _ (test_alike Memory _ _ refl)
       (λ _ _ _. then_alike AlikeTables Alikes (table_in a name) (table_in b name) _ _ (table_alike name)
-      (λ s t h. then_alike (λ (x y : Bytes). x ≡ y) Alikes (bytes_told payload) (bytes_told payload) _ _ (same_alike (bytes_told payload) (bytes_told payload) refl)
-      (λ x y e. then_alike (λ (xs ys : Rows). xs ≡ ys) Alikes (rows_told short.Refused limits s.schema x) (rows_told short.Refused limits t.schema y) _ _
-      (same_alike (rows_told short.Refused limits s.schema x) (rows_told short.Refused limits t.schema y) (ap (λ (g : PlainSchema). rows_told short.Refused limits g x) h.schema ∙ ap (rows_told short.Refused limits t.schema) e))
+      (λ s t h. then_alike (λ (x y : Bytes). x ≡ y) Alikes (payload_bytes payload) (payload_bytes payload) _ _ (same_alike (payload_bytes payload) (payload_bytes payload) refl)
+      (λ x y e. then_alike (λ (xs ys : Rows). xs ≡ ys) Alikes (csv_rows short.Refused limits s.schema x) (csv_rows short.Refused limits t.schema y) _ _
+      (same_alike (csv_rows short.Refused limits s.schema x) (csv_rows short.Refused limits t.schema y) (ap (λ (g : PlainSchema). csv_rows short.Refused limits g x) h.schema ∙ ap (csv_rows short.Refused limits t.schema) e))
       (λ xs ys f. put xs ys f))))
     where
       put : (xs ys : Rows) → xs ≡ ys → AlikeBy Alikes (with_rows limits a name xs >>= λ new. Ok (new, reply.Done (length xs))) (with_rows limits b name ys >>= λ new. Ok (new, reply.Done (length ys)))

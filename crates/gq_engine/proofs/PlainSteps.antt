@@ -32,7 +32,7 @@ use Rattle.gq_row.specs.Fitting.{fits_columns, is_null, stored_in}
 use Rattle.gq_reply.specs.Outcomes.{◌>>=◌, some_or, true_or}
 use Rattle.gq_reply.specs.Refusals.{of_refused, unnumbered}
 use Rattle.gq_engine.specs.Refusing.{has_null_key, rows_with, put_within, put_all_within, fits_key, stored_key}
-use Rattle.gq_engine.specs.Loading.{is_lost, bytes_told, fault_refusal, refused_by, rows_told}
+use Rattle.gq_engine.specs.Loading.{is_lost, payload_bytes, fault_refusal, refused_by, csv_rows}
 use Rattle.gq_engine.specs.Runs.{is_store_fault}
 use Rattle.gq_engine.specs.Steps.{table_in, outcome, create, drop_table, with_row, upsert, with_rows, load_table, delete_row, show_table, group, distinct, other_in, rows_planned}
 
@@ -65,7 +65,7 @@ put_refuses limits table row =
     (λ _. then_refuses never never (true_or NullKey (not (has_null_key table row))) _ (test_refuses NullKey _ refl)
     (λ _. then_refuses never never (true_or Limit (nat_le (length (rows_with table row)) limits.rows)) _ (test_refuses Limit _ refl) (λ _. refl)))
 
-payload_refuses : (payload : Payload) → Refuses never (bytes_told payload)
+payload_refuses : (payload : Payload) → Refuses never (payload_bytes payload)
 payload_refuses (payload.Bytes bytes) = refl
 payload_refuses payload.Open = refl
 payload_refuses payload.TooLong = refl
@@ -105,8 +105,8 @@ module _ (limits : Bounds) (db : Database) where
   load_refuses name payload =
       then_refuses never faulty (true_or Memory (not (is_lost payload))) _ (test_refuses Memory _ refl)
       (λ _. then_refuses never faulty (table_in db name) _ (some_refuses NoTable _ refl)
-      (λ table. then_refuses never faulty (bytes_told payload) _ (payload_refuses payload)
-      (λ bytes. then_refuses never faulty (rows_told short.Refused limits table.schema bytes) _ (rows_refuse (load short.Refused table.schema limits bytes))
+      (λ table. then_refuses never faulty (payload_bytes payload) _ (payload_refuses payload)
+      (λ bytes. then_refuses never faulty (csv_rows short.Refused limits table.schema bytes) _ (rows_refuse (load short.Refused table.schema limits bytes))
       (λ rows. then_refuses never faulty (with_rows limits db name rows) _
       (then_refuses never never (table_in db name) _ (some_refuses NoTable _ refl)
       (λ there. then_refuses never never (put_all_within limits there rows) _

@@ -28,7 +28,7 @@ use Rattle.gq_reply.proofs.StepLemmas.{gives, stops, finds, passes}
 use Rattle.gq_engine.specs.Databases.{Database, IsKeyed, IsTableAt, table_at, with_table}
 use Rattle.gq_engine.specs.declared.csv_fault.CsvFault.{CsvFault}
 use Rattle.gq_engine.specs.declared.csv_fault.CsvFault.TheVariants as csv_fault
-use Rattle.gq_engine.specs.Loading.{IsTold, bytes_told, csv_told, fault_refusal, is_lost, refused_by, refused_in, rows_told}
+use Rattle.gq_engine.specs.Loading.{IsTold, payload_bytes, csv_fault_of, fault_refusal, is_lost, refused_by, refused_in, csv_rows}
 use Rattle.gq_reply.specs.Outcomes.{◌>>=◌, true_or}
 use Rattle.gq_engine.specs.Refusing.{put_all_within}
 use Rattle.gq_engine.specs.Runs.{SameTables}
@@ -90,29 +90,29 @@ ended schema staged count left all h e = record {
 }
 
 -- what reading rows is refused for, the text is
-pub fault_told : (all : Option (Result Rows LoadRefusal)) (why : RowFault) → IsFaultOf all why → IsTold (option_map refused_by all) (csv_told why)
+pub fault_told : (all : Option (Result Rows LoadRefusal)) (why : RowFault) → IsFaultOf all why → IsTold (option_map refused_by all) (csv_fault_of why)
 fault_told all row_fault.Read h = tt
 fault_told all (row_fault.Refused why) (inl m) = inl (ap fault_refusal m)
 fault_told None (row_fault.Refused why) (inr h) = inr tt
 fault_told (Some read) (row_fault.Refused why) (inr h) = inr (ap refused_by h)
 
-pub failed : (schema : PlainSchema) (staged : PlainTable) (count : ℕ) (left all : Option (Result Rows LoadRefusal)) (why : RowFault) → SoFar schema staged count left all → IsFaultOf left why → IsTold (option_map refused_by all) (csv_told why)
+pub failed : (schema : PlainSchema) (staged : PlainTable) (count : ℕ) (left all : Option (Result Rows LoadRefusal)) (why : RowFault) → SoFar schema staged count left all → IsFaultOf left why → IsTold (option_map refused_by all) (csv_fault_of why)
 failed schema staged count left all why h e = fault_told all why (joined_bad h.front all left why h.told e)
 
 -- the rows of a text, by what its reader has yet to give
 pub staged_of : (short : Short) (limits : Bounds) (schema : PlainSchema) (text : Option Bytes) (all : Option (Result Rows LoadRefusal)) (staged : PlainTable) (count : ℕ)
-    → IfSome text (λ bytes. all ≡ Some (load short schema limits bytes)) → HasStaged (option_map refused_by all) schema staged count → HasStaged (option_map (rows_told short limits schema) text) schema staged count
+    → IfSome text (λ bytes. all ≡ Some (load short schema limits bytes)) → HasStaged (option_map refused_by all) schema staged count → HasStaged (option_map (csv_rows short limits schema) text) schema staged count
 staged_of short limits schema None all staged count e h = record { rows = h.rows; told = tt; counted = h.counted; same = h.same; put = h.put }
 staged_of short limits schema (Some bytes) all staged count e h = subst (λ o. HasStaged (option_map refused_by o) schema staged count) e h
 
 pub told_of : (short : Short) (limits : Bounds) (schema : PlainSchema) (text : Option Bytes) (all : Option (Result Rows LoadRefusal)) (why : CsvFault)
-    → IfSome text (λ bytes. all ≡ Some (load short schema limits bytes)) → IsTold (option_map refused_by all) why → IsTold (option_map (rows_told short limits schema) text) why
+    → IfSome text (λ bytes. all ≡ Some (load short schema limits bytes)) → IsTold (option_map refused_by all) why → IsTold (option_map (csv_rows short limits schema) text) why
 told_of short limits schema text all csv_fault.Read e h = tt
 told_of short limits schema text all (csv_fault.Refused why) e (inl m) = inl m
 told_of short limits schema None all (csv_fault.Refused why) e (inr h) = inr tt
 told_of short limits schema (Some bytes) all (csv_fault.Refused why) e (inr h) = inr (subst (λ o. IfSome (option_map refused_by o) (λ given. given ≡ Err why)) e h)
 
-pub begin_told : (short : Short) (limits : Bounds) (schema : PlainSchema) (text : Option Bytes) (why : RowFault) → IsFaultOf (option_map (load short schema limits) text) why → IsTold (option_map (rows_told short limits schema) text) (csv_told why)
+pub begin_told : (short : Short) (limits : Bounds) (schema : PlainSchema) (text : Option Bytes) (why : RowFault) → IsFaultOf (option_map (load short schema limits) text) why → IsTold (option_map (csv_rows short limits schema) text) (csv_fault_of why)
 begin_told short limits schema None why h = fault_told None why h
 begin_told short limits schema (Some bytes) why h = fault_told (Some (load short schema limits bytes)) why h
 
@@ -201,17 +201,17 @@ module _ (short : Short) (limits : Bounds) (db : Database) (name : List ℕ) (ta
         let g = as_all (Ok x) new changes in
         record { rows = h.rows; counted = h.counted; last = g.0; done = g.1; same = g.2 }
 
-  module _ (carried : Payload) (bytes : Bytes) (lost : is_lost carried ≡ false) (told : bytes_told carried ≡ Ok bytes) (staged : PlainTable) (count : ℕ) (h : HasStaged (Some (rows_told short limits table.schema bytes)) table.schema staged count) where
+  module _ (carried : Payload) (bytes : Bytes) (lost : is_lost carried ≡ false) (told : payload_bytes carried ≡ Ok bytes) (staged : PlainTable) (count : ℕ) (h : HasStaged (Some (csv_rows short limits table.schema bytes)) table.schema staged count) where
     load_as : load_table short limits db name carried ≡ (with_rows limits db name h.rows >>= λ new. Ok (new, reply.Done (length h.rows)))
     load_as =
         passes Memory (not (is_lost carried)) _ (ap not lost)
         ∙ finds NoTable (table_at db name) table _ found
-        ∙ gives (bytes_told carried) bytes _ told
-        ∙ gives (rows_told short limits table.schema bytes) h.rows _ h.told
+        ∙ gives (payload_bytes carried) bytes _ told
+        ∙ gives (csv_rows short limits table.schema bytes) h.rows _ h.told
 
     pub staged_done : {X : Type 0} (x : X) (new : Database) → Changes (with_rows limits db name staged.rows) (Ok x) db new → Comes (load_table short limits db name carried) (Ok (reply.Done count)) db new
     staged_done x new changes =
-        let g = as_all (Some (rows_told short limits table.schema bytes)) staged count h (Ok x) new changes in
+        let g = as_all (Some (csv_rows short limits table.schema bytes)) staged count h (Ok x) new changes in
         record {
           last = g.0;
           done = load_as ∙ gives (with_rows limits db name h.rows) g.0 _ g.1 ∙ ap (λ n. Ok (g.0, reply.Done n)) (sym h.counted);
@@ -221,7 +221,7 @@ module _ (short : Short) (limits : Bounds) (db : Database) (name : List ℕ) (ta
 
     pub staged_refused : (X : Type 0) (why : Refused) (new : Database) → Changes {X = X} (with_rows limits db name staged.rows) (Err why) db new → Comes (load_table short limits db name carried) (Err why) db new
     staged_refused X why new changes =
-        let g = as_all (Some (rows_told short limits table.schema bytes)) staged count h {X = X} (Err why) new changes in
+        let g = as_all (Some (csv_rows short limits table.schema bytes)) staged count h {X = X} (Err why) new changes in
         (g.0, left g.1)
       where
         left : (why ≡ unnumbered Memory) ⊎ (with_rows limits db name h.rows ≡ Err why) → (why ≡ unnumbered Memory) ⊎ (load_table short limits db name carried ≡ Err why)
@@ -236,7 +236,7 @@ module _ (short : Short) (limits : Bounds) (db : Database) (name : List ℕ) whe
   text_unfound (Some bytes) none = inr (load_none short limits db name (payload.Bytes bytes) refl none)
 
   module _ (table : PlainTable) (found : table_at db name ≡ Some table) where
-    pub text_told : (text : Option Bytes) (why : CsvFault) → IsTold (option_map (rows_told short limits table.schema) text) why → IsTold (option_map (λ bytes. load_table short limits db name (payload.Bytes bytes)) text) why
+    pub text_told : (text : Option Bytes) (why : CsvFault) → IsTold (option_map (csv_rows short limits table.schema) text) why → IsTold (option_map (λ bytes. load_table short limits db name (payload.Bytes bytes)) text) why
     text_told text csv_fault.Read h = tt
     text_told text (csv_fault.Refused why) (inl m) = inl m
     text_told None (csv_fault.Refused why) (inr h) = inr tt
@@ -253,7 +253,7 @@ module _ (short : Short) (limits : Bounds) (db : Database) (name : List ℕ) whe
         → IfSome text (λ bytes. HasLoaded (load_table short limits db name (payload.Bytes bytes)) (Ok count) db new)
     text_loaded own x new changes = by_text text own.staged
       where
-        by_text : (text : Option Bytes) → HasStaged (option_map (rows_told short limits own.table.schema) text) own.table.schema staged count → IfSome text (λ bytes. HasLoaded (load_table short limits db name (payload.Bytes bytes)) (Ok count) db new)
+        by_text : (text : Option Bytes) → HasStaged (option_map (csv_rows short limits own.table.schema) text) own.table.schema staged count → IfSome text (λ bytes. HasLoaded (load_table short limits db name (payload.Bytes bytes)) (Ok count) db new)
         by_text None h = tt
         by_text (Some bytes) h = staged_done short limits db name own.table own.found keyed (payload.Bytes bytes) bytes refl refl staged count h x new changes
 
@@ -261,7 +261,7 @@ module _ (short : Short) (limits : Bounds) (db : Database) (name : List ℕ) whe
         → IfSome text (λ bytes. HasLoaded (load_table short limits db name (payload.Bytes bytes)) (Err (csv_fault.Refused why)) db new)
     text_refused own X why new changes = by_text text own.staged
       where
-        by_text : (text : Option Bytes) → HasStaged (option_map (rows_told short limits own.table.schema) text) own.table.schema staged count → IfSome text (λ bytes. HasLoaded (load_table short limits db name (payload.Bytes bytes)) (Err (csv_fault.Refused why)) db new)
+        by_text : (text : Option Bytes) → HasStaged (option_map (csv_rows short limits own.table.schema) text) own.table.schema staged count → IfSome text (λ bytes. HasLoaded (load_table short limits db name (payload.Bytes bytes)) (Err (csv_fault.Refused why)) db new)
         by_text None h = tt
         by_text (Some bytes) h = staged_refused short limits db name own.table own.found keyed (payload.Bytes bytes) bytes refl refl staged count h X why new changes
 

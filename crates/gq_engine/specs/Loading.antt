@@ -27,11 +27,11 @@ is_lost payload.TooLong = false
 is_lost payload.NoMemory = true
 
 -- the bytes of a payload, or why there are none
-abbrev pub bytes_told : Payload → Result Bytes Refused
-bytes_told (payload.Bytes bytes) = Ok bytes
-bytes_told payload.Open = Err (unnumbered refusal.LoadOpen)
-bytes_told payload.TooLong = Err (unnumbered refusal.Limit)
-bytes_told payload.NoMemory = Err (unnumbered refusal.Memory)
+abbrev pub payload_bytes : Payload → Result Bytes Refused
+payload_bytes (payload.Bytes bytes) = Ok bytes
+payload_bytes payload.Open = Err (unnumbered refusal.LoadOpen)
+payload_bytes payload.TooLong = Err (unnumbered refusal.Limit)
+payload_bytes payload.NoMemory = Err (unnumbered refusal.Memory)
 
 -- a refusal that names a record of a payload
 abbrev pub numbered : Refusal → ℕ → Refused
@@ -52,13 +52,13 @@ abbrev pub refused_by : Result (List (List Value)) LoadRefusal → Result (List 
 refused_by (Ok rows) = Ok rows
 refused_by (Err fault) = Err (fault_refusal fault)
 
-abbrev pub rows_told : Short → Bounds → PlainSchema → Bytes → Result (List (List Value)) Refused
-rows_told short limits schema bytes = refused_by (load short schema limits bytes)
+abbrev pub csv_rows : Short → Bounds → PlainSchema → Bytes → Result (List (List Value)) Refused
+csv_rows short limits schema bytes = refused_by (load short schema limits bytes)
 
 -- the fault of a CSV text, by that of its rows
-abbrev pub csv_told : RowFault → CsvFault
-csv_told (row_fault.Refused why) = csv_fault.Refused (fault_refusal why)
-csv_told row_fault.Read = csv_fault.Read
+abbrev pub csv_fault_of : RowFault → CsvFault
+csv_fault_of (row_fault.Refused why) = csv_fault.Refused (fault_refusal why)
+csv_fault_of row_fault.Read = csv_fault.Read
 
 -- the refusal for it, if a read fails only when an allocation does
 abbrev pub refused_in : CsvFault → Refused

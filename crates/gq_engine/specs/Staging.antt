@@ -13,7 +13,7 @@ use Rattle.gq_reply.specs.declared.reply.Reply.TheVariants as reply
 use Rattle.gq_engine.specs.declared.csv_fault.CsvFault.{CsvFault}
 use Rattle.gq_engine.specs.declared.csv_fault.CsvFault.TheVariants as csv_fault
 use Rattle.gq_engine.specs.Databases.{Database, table_at}
-use Rattle.gq_engine.specs.Loading.{bytes_told, is_lost, rows_told}
+use Rattle.gq_engine.specs.Loading.{payload_bytes, is_lost, csv_rows}
 use Rattle.gq_engine.specs.Runs.{SameTables}
 use Rattle.gq_engine.specs.Serving.{Comes}
 use Rattle.gq_engine.specs.Steps.{Outcome, with_rows}
@@ -32,14 +32,14 @@ pub record IsStagedFor (limits : Bounds) (db : Database) (name : List ℕ) (payl
   pub bytes : Bytes
   pub found : table_at db name ≡ Some table
   pub carried : is_lost payload ≡ false
-  pub told : bytes_told payload ≡ Ok bytes
-  pub staged : HasStaged (Some (rows_told short.Refused limits table.schema bytes)) table.schema own count
+  pub told : payload_bytes payload ≡ Ok bytes
+  pub staged : HasStaged (Some (csv_rows short.Refused limits table.schema bytes)) table.schema own count
 
 -- the same of a CSV text, whose bytes may be known
 pub record IsStagedFrom (flag : Short) (limits : Bounds) (db : Database) (name : List ℕ) (text : Option Bytes) (own : PlainTable) (count : ℕ) : Type 0 where
   pub table : PlainTable
   pub found : table_at db name ≡ Some table
-  pub staged : HasStaged (option_map (rows_told flag limits table.schema) text) table.schema own count
+  pub staged : HasStaged (option_map (csv_rows flag limits table.schema) text) table.schema own count
 
 -- rows, of this number, were put into the table of a name, and that is all
 pub record HasPut (limits : Bounds) (old : Database) (name : List ℕ) (count : ℕ) (new : Database) : Type 0 where

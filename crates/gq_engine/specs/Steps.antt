@@ -34,7 +34,7 @@ use Rattle.gq_plan.specs.declared.plan.DistinctPlan.{DistinctPlan}
 use Rattle.gq_plan.specs.Headers.{group_header}
 use Rattle.gq_plan.specs.Plans.{distinct_plan, group_plan}
 use Rattle.gq_engine.specs.Databases.{Database, table_at, with_table, without_table}
-use Rattle.gq_engine.specs.Loading.{is_lost, bytes_told, rows_told}
+use Rattle.gq_engine.specs.Loading.{is_lost, payload_bytes, csv_rows}
 use Rattle.gq_reply.specs.Outcomes.{◌>>=◌, some_or, true_or}
 use Rattle.gq_reply.specs.Refusals.{of_refused, refused}
 use Rattle.gq_engine.specs.Refusing.{put_within, put_all_within, fits_key, stored_key}
@@ -85,8 +85,8 @@ abbrev pub load_table : Short → Bounds → Database → List ℕ → Payload �
 load_table short limits db name payload = do
   there ← true_or Memory (not (is_lost payload))
   table ← table_in db name
-  bytes ← bytes_told payload
-  rows ← rows_told short limits table.schema bytes
+  bytes ← payload_bytes payload
+  rows ← csv_rows short limits table.schema bytes
   new ← with_rows limits db name rows
   Ok (new, reply.Done (length rows))
 

@@ -1,6 +1,6 @@
 //! Why a CSV text was not loaded.
 ghost use Rattle.std.specs.Prelude.{◌≡◌};
-ghost use Rattle.gq_engine.specs.Loading.{csv_told, refused_in};
+ghost use Rattle.gq_engine.specs.Loading.{csv_fault_of, refused_in};
 
 use crate::payloads::refused_by;
 use gq_load::RowFault;
@@ -30,7 +30,7 @@ impl From<Refused> for CsvFault {
 
 // The fault of a text, by that of its rows.
 pub(crate) fn fault_of_text(fault: RowFault) -> CsvFault
-    ensures { result ≡ csv_told fault }
+    ensures { result ≡ csv_fault_of fault }
 {
     match fault {
         RowFault::Refused(why) => CsvFault::Refused(refused_by(why)),

@@ -7,7 +7,7 @@ ghost use Rattle.gq_table.specs.Refusing.{WhyNotPut};
 ghost use Rattle.gq_reply.specs.Refusals.{unnumbered};
 ghost use Rattle.gq_reply.specs.declared.refusal.Refusal.TheVariants.{Memory};
 ghost use Rattle.gq_command.specs.declared.command.Payload.TheVariants as payload;
-ghost use Rattle.gq_engine.specs.Loading.{IsTold, bytes_told, fault_refusal, is_lost, numbered, refused_by, rows_told};
+ghost use Rattle.gq_engine.specs.Loading.{IsTold, payload_bytes, fault_refusal, is_lost, numbered, refused_by, csv_rows};
 ghost use Rattle.gq_engine.specs.Staging.{HasStaged, IsStagedFor, IsStagedFrom};
 ghost use Rattle.gq_engine.specs.Steps.{load_table};
 
@@ -32,7 +32,7 @@ fn is_lost(payload: &Payload) -> bool
 
 // The bytes of a payload, or why there are none.
 fn bytes_of(payload: Payload) -> Result<Sequence<u8>, Refused>
-    ensures { result ≡ bytes_told payload }
+    ensures { result ≡ payload_bytes payload }
 {
     match payload {
         Payload::Bytes(bytes) => Ok(bytes),
@@ -106,10 +106,10 @@ fn stage<H: KeyHash<Key> + Copy, R: Read + Drop>(
     limits: &Limits,
 ) -> Result<(Table<H>, u64), CsvFault>
     ensures staged { IfOk result (λ staged. HasStaged (option_map
-        (rows_told short limits.now.bounds table.now.schema) (R.remaining text))
+        (csv_rows short limits.now.bounds table.now.schema) (R.remaining text))
         table.now.schema staged.0 staged.1) }
     ensures fault { IfErr result (λ fault. IsTold (option_map
-        (rows_told short limits.now.bounds table.now.schema) (R.remaining text)) fault) }
+        (csv_rows short limits.now.bounds table.now.schema) (R.remaining text)) fault) }
 {
     // It grows as keys come, as records may share theirs: rows that lie close are found faster.
     let Ok(mut staged) = table.new_like() else {

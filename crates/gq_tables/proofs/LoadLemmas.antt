@@ -29,7 +29,7 @@ use Rattle.gq_reply.specs.Outcomes.{◌>>=◌, some_or, true_or}
 use Rattle.gq_reply.specs.Refusals.{of_refused}
 use Rattle.gq_reply.specs.Replies.{is_refusal}
 use Rattle.gq_engine.specs.Databases.{Database, table_at, with_table, without_table}
-use Rattle.gq_engine.specs.Loading.{refused_by, rows_told}
+use Rattle.gq_engine.specs.Loading.{refused_by, csv_rows}
 use Rattle.gq_engine.specs.Refusing.{put_all_within}
 use Rattle.gq_engine.specs.Runs.{AnsweredAsLists, LegalAnswer, AsListsAnswer, WantsMemory, StoreFailed, StoreLied, SameTables, Setting}
 use Rattle.gq_engine.specs.Steps.{Outcome, create, load_table, settle, table_in, with_rows}
@@ -207,7 +207,7 @@ record Loaded (short : Short) (limits : Bounds) (db : Database) (name bytes : By
 loaded : (short : Short) (limits : Bounds) (db : Database) (name bytes : Bytes) (last : Database) (answer : Reply) → load_table short limits db name (payload.Bytes bytes) ≡ Ok (last, answer) → Loaded short limits db name bytes last
 loaded short limits db name bytes last answer h = by (table_in db name) refl h
   where
-    by_new : (t : PlainTable) → table_in db name ≡ Ok t → (rows : Rows) → rows_told short limits t.schema bytes ≡ Ok rows → (r : Result Database Refused) → with_rows limits db name rows ≡ r
+    by_new : (t : PlainTable) → table_in db name ≡ Ok t → (rows : Rows) → csv_rows short limits t.schema bytes ≡ Ok rows → (r : Result Database Refused) → with_rows limits db name rows ≡ r
         → (r >>= λ new. Ok (counted new rows)) ≡ Ok (last, answer) → Loaded short limits db name bytes last
     by_new t e rows f (Err w) g h = let none : ⊥ = cc in absurd none
     by_new t e rows f (Ok new) g h =
@@ -220,15 +220,15 @@ loaded short limits db name bytes last answer h = by (table_in db name) refl h
           put = all_put limits db name rows last (g ∙ ap Ok same);
         }
 
-    by_rows : (t : PlainTable) → table_in db name ≡ Ok t → (r : Result Rows Refused) → rows_told short limits t.schema bytes ≡ r
+    by_rows : (t : PlainTable) → table_in db name ≡ Ok t → (r : Result Rows Refused) → csv_rows short limits t.schema bytes ≡ r
         → (r >>= λ rows. with_rows limits db name rows >>= λ new. Ok (counted new rows)) ≡ Ok (last, answer) → Loaded short limits db name bytes last
     by_rows t e (Err w) f h = let none : ⊥ = cc in absurd none
     by_rows t e (Ok rows) f h = by_new t e rows f (with_rows limits db name rows) refl h
 
     by : (r : Result PlainTable Refused) → table_in db name ≡ r
-        → (r >>= λ table. rows_told short limits table.schema bytes >>= λ rows. with_rows limits db name rows >>= λ new. Ok (counted new rows)) ≡ Ok (last, answer) → Loaded short limits db name bytes last
+        → (r >>= λ table. csv_rows short limits table.schema bytes >>= λ rows. with_rows limits db name rows >>= λ new. Ok (counted new rows)) ≡ Ok (last, answer) → Loaded short limits db name bytes last
     by (Err w) e h = let none : ⊥ = cc in absurd none
-    by (Ok t) e h = by_rows t e (rows_told short limits t.schema bytes) refl h
+    by (Ok t) e h = by_rows t e (csv_rows short limits t.schema bytes) refl h
 
 same_table : (db : Database) (name : Bytes) (u v : PlainTable) → table_at db name ≡ Some u → table_at db name ≡ Some v → u ≡ v
 same_table db name u v e f = same_Some u v (sym e ∙ f)

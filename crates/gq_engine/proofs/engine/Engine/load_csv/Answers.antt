@@ -4,7 +4,7 @@ use Rattle.std.proofs.lemmas.Result.{err_from_is_err_and}
 use Rattle.gq_command.specs.declared.command.Payload.TheVariants as payload
 use Rattle.gq_engine.specs.declared.csv_fault.CsvFault.{CsvFault}
 use Rattle.gq_engine.specs.declared.csv_fault.CsvFault.TheVariants as csv_fault
-use Rattle.gq_engine.specs.Loading.{rows_told}
+use Rattle.gq_engine.specs.Loading.{csv_rows}
 use Rattle.gq_engine.specs.Staging.{HasLoaded}
 use Rattle.gq_engine.specs.Steps.{load_table}
 use Rattle.gq_engine.proofs.OrderLemmas.{same_tables}
@@ -46,4 +46,4 @@ pub returns-clause-put : goal.returns-clause-put
 returns-clause-put g c =
     let self = c.args.self.now in
     let own = c.in_ok-staged.ensures.staged in
-    staged_put c.args.short self.limits.bounds self.catalog c.args.name.now own.table own.found c.tables-keyed.ensures (option_map (rows_told c.args.short self.limits.bounds own.table.schema) (g.R.Read.remaining c.args.text)) c.in_ok-staged.staged c.in_ok-staged.count own.staged {X = Unit {0}} c.in_ok-load.field-0 c.load.new.self c.in_ok-load.ensures
+    staged_put c.args.short self.limits.bounds self.catalog c.args.name.now own.table own.found c.tables-keyed.ensures (option_map (csv_rows c.args.short self.limits.bounds own.table.schema) (g.R.Read.remaining c.args.text)) c.in_ok-staged.staged c.in_ok-staged.count own.staged {X = Unit {0}} c.in_ok-load.field-0 c.load.new.self c.in_ok-load.ensures
