@@ -1,5 +1,6 @@
 //! Texts of up to 22 bytes, stored inline.
-ghost use Rattle.std.specs.Prelude.{◌≡◌, ◌+◌, ◌≤◌, ◌++◌, [], length, take, drop, bytes_eq};
+ghost use Rattle.std.specs.Prelude.{◌≡◌, ◌+◌, ◌≤◌, ◌<◌, ◌++◌, [], IfSome, length, take, drop, bytes_eq};
+ghost use Rattle.sw_probe.specs.Hashes.{number_of};
 
 use std::marker::Model;
 use std::simd::prelude::*;
@@ -76,6 +77,20 @@ impl ShortText {
         ensures { result.now ≡ self.now }
     {
         unsafe { str::from_utf8_unchecked(&self.bytes[..self.len as usize]) }
+    }
+
+    /// The number that the bytes spell, big-endian, if there are one to seven.
+    #[inline(always)]
+    pub(crate) fn number(&self) -> Option<u64>
+        ensures few { IfSome result (λ n. length self.now < 8) }
+        ensures number { IfSome result (λ n. n ≡ number_of self.now) }
+    {
+        if self.len == 0 || self.len > 7 {
+            return None;
+        }
+        let b = &self.bytes;
+        let eight = u64::from_be_bytes([b[0], b[1], b[2], b[3], b[4], b[5], b[6], b[7]]);
+        Some(eight >> (8 * (8 - self.len)))
     }
 
     /// Whether two texts are equal: their lengths and all 22 bytes.

@@ -58,10 +58,20 @@ pub(crate) fn fold_row_words<F: WordStep>(
 fn fold_words_of_fold<F: WordStep>(value: &Value, start: u64, f: &F) -> u64
     ensures { result ≡ fold (F.next f.now) start (value_words (folded value.now)) }
 {
+    if let Value::Int(number) = value {
+        return f.step(start, number.cast_unsigned());
+    }
+    fold_words_of_other(value, start, f)
+}
+
+// As `fold_words_of_fold`. Not inlined, so that look-ups of numbers stay short.
+#[inline(never)]
+fn fold_words_of_other<F: WordStep>(value: &Value, start: u64, f: &F) -> u64
+    ensures { result ≡ fold (F.next f.now) start (value_words (folded value.now)) }
+{
     match value {
-        Value::Int(number) => f.step(start, number.cast_unsigned()),
         Value::NoCase(text) => fold_lowered_words(text, start, f),
-        Value::Null | Value::Text(_) => fold_value_words(value, start, f),
+        Value::Null | Value::Int(_) | Value::Text(_) => fold_value_words(value, start, f),
     }
 }
 
@@ -72,9 +82,18 @@ fn fold_value_words<F: WordStep>(value: &Value, start: u64, f: &F) -> u64
     match value {
         Value::Null => f.step(start, 0),
         Value::Int(n) => f.step(start, n.cast_unsigned()),
-        Value::Text(text) | Value::NoCase(text) => {
-            fold_byte_words(text.as_str().as_bytes(), &AsItIs, start, f)
-        }
+        Value::Text(text) | Value::NoCase(text) => fold_text_words(text, start, f),
+    }
+}
+
+// Hashes the words of a text.
+#[inline]
+fn fold_text_words<F: WordStep>(text: &Text, start: u64, f: &F) -> u64
+    ensures { result ≡ fold (F.next f.now) start (words_of text.now) }
+{
+    match text.number() {
+        Some(number) => f.step(f.step(start, text.len() as u64), number),
+        None => fold_byte_words(text.as_str().as_bytes(), &AsItIs, start, f),
     }
 }
 
