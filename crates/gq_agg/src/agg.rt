@@ -1,5 +1,5 @@
 //! Running aggregates.
-ghost use Rattle.std.specs.Prelude.{◌≡◌, ◌^◌, ◌<◌, ◌≤◌, false, IsTrue, List, [], ◌∷◌, ◌++◌, Some, None, OnOk, OnErr, IsOk, MatchResult};
+ghost use Rattle.std.specs.Prelude.{◌≡◌, ◌^◌, ◌<◌, ◌≤◌, false, IsTrue, List, [], ◌∷◌, ◌++◌, Some, None, IfOk, OnOk, OnErr, IsOk, MatchResult};
 ghost use Rattle.gq_row.specs.declared.value.Value.{Value as Cell};
 ghost use Rattle.gq_agg.specs.Aggregates.{aggregate, takes};
 ghost use Rattle.gq_agg.specs.Running.{tally, kind_of, is_copied};
@@ -52,6 +52,20 @@ impl Agg {
             adds: 0,
             state,
         }
+    }
+
+    /// An aggregate of one value. It allocates only for the minimum or maximum that is a text longer than 22
+    /// bytes.
+    #[inline(always)]
+    pub fn of(alloc: Global, kind: AggKind, value: &Value) -> Result<Agg, AllocError>
+        requires { IsTrue (takes kind value.now) }
+        ensures { IfOk result (λ agg. agg ≡ tally kind (value.now ∷ [])) }
+    {
+        Ok(Agg {
+            alloc,
+            adds: 1,
+            state: State::of(alloc, kind, value)?,
+        })
     }
 
     /// How many values were added, with nulls.

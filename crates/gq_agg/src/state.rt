@@ -1,10 +1,11 @@
 //! What an aggregate keeps of its values.
-ghost use Rattle.std.specs.Prelude.{◌≡◌, ◌+◌, ◌-◌, ◌^◌, ◌<◌, ◌+ℤ◌, ◌≤ℤ◌, ◌&&◌, pos, negsuc, false, IsTrue, OnOk, OnErr, IsOk};
+ghost use Rattle.std.specs.Prelude.{◌≡◌, ◌+◌, ◌-◌, ◌^◌, ◌<◌, ◌+ℤ◌, ◌≤ℤ◌, ◌&&◌, ◌∷◌, [], None, pos, negsuc, false, IsTrue, IfOk, OnOk, OnErr, IsOk};
 ghost use Rattle.gq_agg.specs.Aggregates.{is_text};
 ghost use Rattle.gq_agg.specs.Running.{counted, plus, sum_or_zero};
 ghost use Rattle.gq_agg.specs.Values.{number, is_less, is_greater, lesser, greater};
 
 use crate::agg::SumRange;
+use crate::kind::AggKind;
 use crate::sum::Sum;
 use gq_row::{Value, compare};
 use std::alloc::{AllocError, Global};
@@ -30,8 +31,24 @@ impl State {
     ghost use Rattle.std.specs.Prelude.{◌<◌, ◌≤◌, List, Some, None, length, MatchResult};
     ghost use Rattle.gq_row.specs.declared.value.Value.{Value as Cell};
     ghost use Rattle.gq_agg.specs.Aggregates.{aggregate, takes};
-    ghost use Rattle.gq_agg.specs.declared.kind.AggKind.{AggKind};
+    ghost use Rattle.gq_agg.specs.declared.kind.AggKind.{AggKind as Kind};
     ghost use Rattle.gq_agg.specs.Running.{IsBounded, kept, kind_of, is_copied, with_value};
+
+    // What is kept of one value.
+    #[inline(always)]
+    pub(crate) fn of(alloc: Global, kind: AggKind, value: &Value) -> Result<State, AllocError>
+        requires { IsTrue (takes kind value.now) }
+        ensures kept { IfOk result (λ state. state ≡ kept kind (value.now ∷ [])) }
+        ensures bounded { IfOk result (IsBounded 1) }
+    {
+        Ok(match kind {
+            AggKind::CountAll => State::Rows,
+            AggKind::Count => State::Values(if value.is_null() { 0 } else { 1 }),
+            AggKind::Sum => State::Total(sum_of(value)),
+            AggKind::Min => State::Least(value.copy(alloc)?),
+            AggKind::Max => State::Greatest(value.copy(alloc)?),
+        })
+    }
 
     // Adds a value, after `adds` others.
     #[inline(always)]
@@ -71,7 +88,7 @@ impl State {
     pub(crate) fn move_to(&mut self, adds: u64, over: &mut Value) -> Result<(), SumRange>
         requires few { adds ≤ 2 ^ 32 }
         requires bounded { IsBounded adds self.old }
-        ensures value { (kind : AggKind) (values : List Cell) → adds ≡ length values →
+        ensures value { (kind : Kind) (values : List Cell) → adds ≡ length values →
             self.old ≡ kept kind values →
             MatchResult result (λ _. aggregate kind values ≡ Some over.new)
             (λ _. aggregate kind values ≡ None) }
@@ -122,6 +139,19 @@ pub(crate) fn sum_value(sum: &mut Option<Sum>, value: &Value)
         Value::Int(n) => sum.get_or_insert(Sum::zero()).add(*n),
         Value::Null | Value::Text(_) | Value::NoCase(_) => {}
     }
+}
+
+// The sum of one value, unless it is null.
+#[inline(always)]
+fn sum_of(value: &Value) -> Option<Sum>
+    requires { is_text value.now ≡ false }
+    ensures sum { result ≡ plus None value.now }
+    ensures low { negsuc (2 ^ 63 - 1) ≤ℤ number value.now }
+    ensures high { number value.now ≤ℤ pos (2 ^ 63 - 1) }
+{
+    let mut sum = None;
+    sum_value(&mut sum, value);
+    sum
 }
 
 // Keeps the smaller of two values.

@@ -3,7 +3,7 @@ use Rattle.std.proofs.Common.{◌≡◌, ◌<◌, ℕ, zero, suc, ◌+◌, Bool,
 use Rattle.std.specs.Prelude.{IsTrue, nat_lt}
 use Rattle.std.specs.List.{list_all}
 use Rattle.std.proofs.lemmas.Bool.{and_parts, ltb-true}
-use Rattle.std.proofs.lemmas.List.{append_assoc, length-map, map-append, take_at, take_more}
+use Rattle.std.proofs.lemmas.List.{append_assoc, length-append, length-map, map-append, take_at, take_more, take-take}
 use Rattle.gq_row.specs.declared.value.Value.{Value}
 use Rattle.gq_row.specs.Rows.{cell}
 use Rattle.gq_agg.specs.declared.kind.AggKind.{AggKind}
@@ -79,8 +79,24 @@ tallies_more asked i d x others now new less so_far is push =
     ∙ ap (λ l. others ++ l) (sym (map-append (λ (a : AggKind × ℕ). tally a.0 []) (take i asked) (get_or asked i d ∷ [])))
     ∙ ap (λ l. others ++ tallies l []) (sym (take_more asked i d less))
 
+-- and of some rows
+pub row_tallies_more : (asked : List (AggKind × ℕ)) (rows : List (List Value)) (i : ℕ) (d : AggKind × ℕ) (others now new : List Running) → i < length asked
+    → now ≡ others ++ tallies (take i asked) rows → new ≡ now ++ tallies (get_or asked i d ∷ []) rows
+    → new ≡ others ++ tallies (take (i + 1) asked) rows
+row_tallies_more asked rows i d others now new less so_far push =
+    push
+    ∙ ap (λ l. l ++ tallies (get_or asked i d ∷ []) rows) so_far
+    ∙ append_assoc others (tallies (take i asked) rows) (tallies (get_or asked i d ∷ []) rows)
+    ∙ ap (λ l. others ++ l) (sym (map-append (λ (a : AggKind × ℕ). tally a.0 (column_of a.1 rows)) (take i asked) (get_or asked i d ∷ [])))
+    ∙ ap (λ l. others ++ tallies l rows) (sym (take_more asked i d less))
+
 pub others_stay : (others more now : List Running) → now ≡ others ++ more → take (length others) now ≡ others
 others_stay others more now is = ap (take (length others)) is ∙ take_at others more (length others) refl
+
+pub first_stay : (others more now new : List Running) → now ≡ others ++ more → take (length now) new ≡ now → take (length others) new ≡ others
+first_stay others more now new is kept =
+    let long : length now ≡ length others + length more = ap length is ∙ length-append others more in
+    sym (take-take (length others) (length now) new (omega (arith, long))) ∙ ap (take (length others)) kept ∙ others_stay others more now is
 
 -- ---- what a row that fits has
 

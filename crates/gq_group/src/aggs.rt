@@ -44,18 +44,58 @@ pub(crate) fn append_aggs(
     ensures err { OnErr result (running.new.items ≡ running.old.items) }
 {
     let start = running.len();
-    if start_aggs(alloc, asked, running).is_err()
-        || add_cells(&mut running[start..], asked, row).is_err()
-    {
+    if append_each(alloc, asked, row, running).is_err() {
         running.truncate(start);
         return Err(AllocError);
     }
     Ok(())
 }
 
+// Appends the aggregates of one row to those of other groups, which stay whatever the outcome.
+#[inline(always)]
+fn append_each(
+    alloc: Global,
+    asked: &[(AggKind, usize)],
+    row: &Row,
+    running: &mut Vec<Agg>,
+) -> Result<(), AllocError>
+    requires fits { IsTrue (list_all (fits_cell row.now) asked.now) }
+    ensures ok { OnOk result (running.new.items ≡
+        running.old.items ++ tallies asked.now (row.now ∷ [])) }
+    ensures others { take (length running.old.items) running.new.items ≡ running.old.items }
+{
+    for agg in asked {
+        append_agg(alloc, *agg, row, running)?;
+    }
+    Ok(())
+}
+
+// Appends the aggregate of the cell of a column, or of null if the row has no such column.
+#[inline(always)]
+fn append_agg(
+    alloc: Global,
+    asked: (AggKind, usize),
+    row: &Row,
+    running: &mut Vec<Agg>,
+) -> Result<(), AllocError>
+    requires fits { IsTrue (fits_cell row.now asked) }
+    ensures ok { OnOk result (running.new.items ≡
+        running.old.items ++ tallies (asked ∷ []) (row.now ∷ [])) }
+    ensures others { take (length running.old.items) running.new.items ≡ running.old.items }
+{
+    let (kind, column) = asked;
+    let agg = if column < row.len() {
+        Agg::of(alloc, kind, row.cell(column))?
+    } else {
+        Agg::of(alloc, kind, &Value::Null)?
+    };
+    running.push(agg)?;
+    Ok(())
+}
+
 // Writes the values of the aggregates that are asked for over `values`. Afterwards the running
 // aggregates are unspecified.
-#[inline]
+#[inline(always)]
 pub(crate) fn take_values(
     aggs: &mut [Agg],
     asked: &[(AggKind, usize)],

@@ -21,6 +21,17 @@ use std::marker::Model;
 use sw_index::{Absence, Found, Index};
 use sw_probe::KeyHash;
 
+// Where the group of a key may be. Only speed depends on it.
+#[derive(Clone, Copy)]
+pub(crate) enum Hint {
+    // Nothing is known: the hash suggests a group.
+    Unknown,
+    // Probably it has this number.
+    Likely(usize),
+    // Probably there is none.
+    Unlikely,
+}
+
 // Groups in the order in which they came, with `each` running aggregates each. All of these are in
 // one list in the order of the keys, so that a key's number says where its own begin, and a group
 // allocates nothing but its key.
@@ -119,17 +130,18 @@ impl<H: KeyHash<Key> + Copy> GroupMap<H> {
     }
 
     // The number of the group of a key with this hash, or the hash if the key has none. Tries the
-    // candidate first; without one, the group that the hash suggests.
+    // hinted group first.
     #[inline(always)]
-    pub(crate) fn find(&self, key: &KeyRef<'_>, hash: u64, candidate: Option<usize>) -> Found
+    pub(crate) fn find(&self, key: &KeyRef<'_>, hash: u64, hint: Hint) -> Found
         requires { hash ≡ H.hash_of self.now.hasher (class_of key.now) }
         ensures found { IsGroup self.now.pairs (class_of key.now) result }
         ensures absent { IsNoGroup (H.hash_of self.now.hasher) self.now.pairs
             (class_of key.now) result }
     {
-        let likely = match candidate {
-            Some(_) => candidate,
-            None => self.index.candidate(hash),
+        let likely = match hint {
+            Hint::Unknown => self.index.candidate(hash),
+            Hint::Likely(number) => Some(number),
+            Hint::Unlikely => None,
         };
         if let Some(number) = likely
             && self.index.is_at(number, key)
@@ -139,7 +151,7 @@ impl<H: KeyHash<Key> + Copy> GroupMap<H> {
         self.find_hashed(key, hash)
     }
 
-    // As `find`, without a candidate. Not inlined, so that `find` stays short.
+    // As `find`, without a hint. Not inlined, so that `find` stays short.
     #[inline(never)]
     fn find_hashed(&self, key: &KeyRef<'_>, hash: u64) -> Found
         requires { hash ≡ H.hash_of self.now.hasher (class_of key.now) }

@@ -1,8 +1,8 @@
 //! What is asked of the groups of rows.
-ghost use Rattle.std.specs.Prelude.{◌≡◌, ◌&&◌, ℕ, true, List, IfOk, length, nat_lt};
+ghost use Rattle.std.specs.Prelude.{◌≡◌, ◌≤◌, ◌&&◌, ℕ, true, List, IfOk, IsTrue, drop, length, nat_lt};
 ghost use Rattle.std.specs.List.{list_all};
 ghost use Rattle.gq_row.specs.declared.value.Value.{Value as Cell};
-ghost use Rattle.gq_group.specs.Fitting.{has_all_asked, has_asked, reaches as does_reach};
+ghost use Rattle.gq_group.specs.Fitting.{has_all_asked, has_asked, has_no_sum, is_sum, reaches as does_reach};
 ghost use Rattle.gq_group.specs.Groups.{counts_all as is_count, fits_cell as cell_fits, has_columns};
 ghost use Rattle.gq_group.specs.KeptAggs.{kept_spec, others};
 
@@ -19,20 +19,23 @@ pub struct GroupSpec {
     aggs: Vec<(AggKind, usize)>,
     // The largest column that is named, if any is.
     last: Option<usize>,
+    // How many aggregates there are up to the last sum: only sums refuse a value.
+    sums: usize,
 }
 
 impl Model for GroupSpec {
-    ghost use Rattle.std.specs.Prelude.{◌≡◌, ◌&&◌, List, length};
+    ghost use Rattle.std.specs.Prelude.{◌≡◌, ◌&&◌, ◌≤◌, List, IsTrue, length, drop};
     ghost use Rattle.gq_row.specs.declared.value.Value.{Value as Cell};
-    ghost use Rattle.gq_group.specs.Fitting.{has_all_asked, reaches};
+    ghost use Rattle.gq_group.specs.Fitting.{has_all_asked, has_no_sum, reaches};
     ghost use Rattle.gq_group.specs.Groups.{Spec, has_columns};
 
     ghost Value = { Spec };
 
     ghost view = { λ s. record { by = s.by.items; aggs = s.aggs.items } };
 
-    ghost invariant = { λ s. (row : List Cell) → reaches s.last (length row) ≡
-        (has_columns s.by.items row && has_all_asked s.aggs.items row) };
+    ghost invariant = { λ s. ((row : List Cell) → reaches s.last (length row) ≡
+        (has_columns s.by.items row && has_all_asked s.aggs.items row)) ×
+        (s.sums ≤ length s.aggs.items) × IsTrue (has_no_sum (drop s.sums s.aggs.items)) };
 }
 
 impl GroupSpec {
@@ -43,7 +46,13 @@ impl GroupSpec {
         ensures aggs { result.aggs ≡ aggs.items }
     {
         let last = last_asked(last_of(by.as_slice()), aggs.as_slice());
-        GroupSpec { by, aggs, last }
+        let sums = sums_end(aggs.as_slice());
+        GroupSpec {
+            by,
+            aggs,
+            last,
+            sums,
+        }
     }
 
     /// The columns to group by.
@@ -80,7 +89,7 @@ impl GroupSpec {
     pub fn fits(&self, row: &Row) -> bool
         ensures { result ≡ fits_spec self.now row.now }
     {
-        reaches(self.last, row.len()) && fit_cells(self.aggs(), row)
+        reaches(self.last, row.len()) && fit_cells(&self.aggs()[..self.sums], row)
     }
 }
 
@@ -108,6 +117,24 @@ fn last_asked(before: Option<usize>, aggs: &[(AggKind, usize)]) -> Option<usize>
         }
     }
     last
+}
+
+// How many aggregates there are up to the last sum.
+fn sums_end(aggs: &[(AggKind, usize)]) -> usize
+    ensures within { result ≤ length aggs.now }
+    ensures rest { IsTrue (has_no_sum (drop result aggs.now)) }
+{
+    let mut end = aggs.len();
+    while end > 0 && !is_sum(aggs[end - 1].0) {
+        end -= 1;
+    }
+    end
+}
+
+fn is_sum(kind: AggKind) -> bool
+    ensures { result ≡ is_sum kind }
+{
+    matches!(kind, AggKind::Sum)
 }
 
 // The larger of a column that may be missing and another.

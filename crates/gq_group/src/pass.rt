@@ -10,6 +10,7 @@ ghost use Rattle.gq_group.specs.Residents.{Resident};
 ghost use Rattle.gq_group.specs.Partitions.{among, Ours, AllHeld, AreEmpty};
 
 use crate::context::GroupContext;
+use crate::group_map::Hint;
 use crate::group_sink::GroupSink;
 use crate::group_spec::GroupSpec;
 use crate::grouping::push_all;
@@ -81,7 +82,7 @@ fn partition_of(depth: u32, hash: u64) -> usize
 fn place_row<H: KeyHash<Key> + Copy, S: RunStore>(
     pass: &Pass<'_, H>,
     ahead: &Ahead,
-    candidate: Option<usize>,
+    hint: Hint,
     store: &mut S,
     table: &mut ResidentTable<H>,
     partitions: &mut Vec<Partition>,
@@ -110,7 +111,7 @@ fn place_row<H: KeyHash<Key> + Copy, S: RunStore>(
         IfErr result (λ e. HasCause e (S.runs store.old) (S.runs store.new)) }
 {
     let alloc = pass.context.alloc;
-    let Ok(offered) = table.offer(alloc, pass.spec, ahead, candidate) else {
+    let Ok(offered) = table.offer(alloc, pass.spec, ahead, hint) else {
         return Err(Refusal::Memory);
     };
     let Offered::Left(hash) = offered else {
@@ -172,14 +173,7 @@ fn read_rows<H: KeyHash<Key> + Copy, S: RunStore, R: RowSource<S>>(
             break;
         };
         let ahead = block.row(place);
-        let placed = place_row(
-            pass,
-            ahead,
-            block.candidate(place),
-            store,
-            table,
-            partitions,
-        )?;
+        let placed = place_row(pass, ahead, block.hint(place), store, table, partitions)?;
         columns = width(rows_read, columns, &ahead.row);
         rows_read += 1;
         rows_written += placed.written;

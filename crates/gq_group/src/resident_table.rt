@@ -11,7 +11,7 @@ ghost use Rattle.gq_group.specs.Residents.{Resident, Offers, HasHash};
 
 use crate::budget::Budget;
 use crate::context::GroupContext;
-use crate::group_map::GroupMap;
+use crate::group_map::{GroupMap, Hint};
 use crate::group_spec::GroupSpec;
 use crate::row_block::Ahead;
 use gq_row::{Key, KeyRef, Row};
@@ -103,14 +103,14 @@ impl<H: KeyHash<Key> + Copy> ResidentTable<H> {
     }
 
     // Adds a row to the group of its key, or to a new one if the budget allows it, by one look-up that
-    // tries the candidate first.
+    // tries the hinted group first.
     #[inline(always)]
     pub(crate) fn offer(
         &mut self,
         alloc: Global,
         spec: &GroupSpec,
         ahead: &Ahead,
-        candidate: Option<usize>,
+        hint: Hint,
     ) -> Result<Offered, AllocError>
         requires ahead { IsHashed spec.now (H.hash_of self.old.groups.hasher) ahead.now }
         requires each { self.old.groups.each ≡ length spec.now.aggs }
@@ -129,7 +129,7 @@ impl<H: KeyHash<Key> + Copy> ResidentTable<H> {
         self.offered = self.offered.wrapping_add(1);
         let row = &ahead.row;
         let key = &KeyRef::new(row.cells(), spec.by());
-        match self.groups.find(key, ahead.hash, candidate) {
+        match self.groups.find(key, ahead.hash, hint) {
             Found::At(number) => {
                 self.groups.add(number, spec, row)?;
                 Ok(Offered::Taken)

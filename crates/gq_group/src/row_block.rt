@@ -10,6 +10,7 @@ ghost use Rattle.gq_spill.specs.Handing.{came};
 ghost use Rattle.gq_group.specs.Blocks.{IsHashed, AreHashed, Comes, ReadAhead, Then, left_of, row_at};
 ghost use Rattle.gq_group.specs.Groups.{all_fit};
 
+use crate::group_map::Hint;
 use crate::pass::Pass;
 use crate::refusal::Refusal;
 use crate::resident_table::ResidentTable;
@@ -36,8 +37,8 @@ pub(crate) struct RowBlock {
     // How many of them were read, and how many of these were taken.
     count: usize,
     taken: usize,
-    // The number of the group that each row probably belongs to, if they were looked for.
-    candidates: Vec<Option<usize>>,
+    // Where the group of each row may be.
+    hints: Vec<Hint>,
     ghost some: { 0 < length rows.items },
     ghost within: { count ≤ length rows.items },
 }
@@ -48,17 +49,19 @@ impl RowBlock {
         ensures { IfOk result (λ block. left_of block.taken block.count block.rows.items ≡ []) }
     {
         let mut rows = Vec::with_capacity(alloc, ROWS)?;
+        let mut hints = Vec::with_capacity(alloc, ROWS)?;
         'rows: for i in 0..ROWS {
             rows.push(Ahead {
                 row: Row::new(Vec::new(alloc)),
                 hash: 0,
             })?;
+            hints.push(Hint::Unknown)?;
         }
         Ok(RowBlock {
             rows,
             count: 0,
             taken: 0,
-            candidates: Vec::with_capacity(alloc, ROWS)?,
+            hints,
         })
     }
 
@@ -127,12 +130,11 @@ impl RowBlock {
         let count = read_ahead(pass, source, store, table, &mut self.rows)?;
         self.count = count;
         self.taken = 1;
-        self.candidates.clear();
         if count == 0 {
             return Ok(None);
         }
         if table.is_large() {
-            find_candidates(table, &self.rows[..count], &mut self.candidates);
+            find_hints(table, &self.rows[..count], &mut self.hints);
         }
         Ok(Some(0))
     }
@@ -146,12 +148,12 @@ impl RowBlock {
         &self.rows[place]
     }
 
-    // The number of the group that the row at a place probably belongs to. No contract covers it.
+    // Where the group of the row at a place may be. No contract covers it.
     #[inline(always)]
-    pub(crate) fn candidate(&self, place: usize) -> Option<usize> {
-        match self.candidates.get(place) {
-            Some(number) => *number,
-            None => None,
+    pub(crate) fn hint(&self, place: usize) -> Hint {
+        match self.hints.get(place) {
+            Some(hint) => *hint,
+            None => Hint::Unknown,
         }
     }
 }
@@ -215,12 +217,15 @@ fn read_ahead<H: KeyHash<Key> + Copy, S: RunStore, R: RowSource<S>>(
 }
 
 // Looks rows up by their hashes alone. No contract covers it.
-fn find_candidates<H: KeyHash<Key> + Copy>(
+fn find_hints<H: KeyHash<Key> + Copy>(
     table: &ResidentTable<H>,
     rows: &[Ahead],
-    candidates: &mut Vec<Option<usize>>,
+    hints: &mut [Hint],
 ) {
-    for ahead in rows {
-        let _ = candidates.push(table.candidate(ahead.hash));
+    for (ahead, hint) in rows.iter().zip(hints) {
+        *hint = match table.candidate(ahead.hash) {
+            Some(number) => Hint::Likely(number),
+            None => Hint::Unlikely,
+        };
     }
 }

@@ -8,5 +8,5 @@ use Rattle.gq_group.proofs.group_map.GroupMap.find.Goals as goal
 pub returns-clause-found : goal.returns-clause-found
 returns-clause-found g c =
     let own = c.self.inside in
-    subst (λ (v : MapView _). IsGroup v.pairs (class_of c.args.key.now) (At c.in-Some-likely.number)) c.self.view_is
-    (found_group own.each own.running.items own.index.keys c.args.key.now (At c.in-Some-likely.number) c.self.invariant.different (c.is_at.ensures.0 c.if-is_at.true))
+    subst (λ (v : MapView _). IsGroup v.pairs (class_of c.args.key.now) (At c.in-Some.number)) c.self.view_is
+    (found_group own.each own.running.items own.index.keys c.args.key.now (At c.in-Some.number) c.self.invariant.different (c.is_at.ensures.0 c.if-is_at.true))
