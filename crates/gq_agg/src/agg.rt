@@ -1,6 +1,7 @@
 //! Running aggregates.
 ghost use Rattle.std.specs.Prelude.{◌≡◌, ◌^◌, ◌<◌, ◌≤◌, false, IsTrue, List, [], ◌∷◌, ◌++◌, Some, None, IfOk, OnOk, OnErr, IsOk, MatchResult};
 ghost use Rattle.gq_row.specs.declared.value.Value.{Value as Cell};
+ghost use Rattle.gq_row.specs.Written.{IsInPlace};
 ghost use Rattle.gq_agg.specs.Aggregates.{aggregate, takes};
 ghost use Rattle.gq_agg.specs.Running.{tally, kind_of, is_copied};
 
@@ -59,7 +60,8 @@ impl Agg {
     #[inline(always)]
     pub fn of(alloc: Global, kind: AggKind, value: &Value) -> Result<Agg, AllocError>
         requires { IsTrue (takes kind value.now) }
-        ensures { IfOk result (λ agg. agg ≡ tally kind (value.now ∷ [])) }
+        ensures added { IfOk result (λ agg. agg ≡ tally kind (value.now ∷ [])) }
+        ensures in_place { IsInPlace value.now → IsOk result }
     {
         Ok(Agg {
             alloc,

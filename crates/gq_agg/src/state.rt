@@ -30,6 +30,7 @@ pub enum State {
 impl State {
     ghost use Rattle.std.specs.Prelude.{◌<◌, ◌≤◌, List, Some, None, length, MatchResult};
     ghost use Rattle.gq_row.specs.declared.value.Value.{Value as Cell};
+    ghost use Rattle.gq_row.specs.Written.{IsInPlace};
     ghost use Rattle.gq_agg.specs.Aggregates.{aggregate, takes};
     ghost use Rattle.gq_agg.specs.declared.kind.AggKind.{AggKind as Kind};
     ghost use Rattle.gq_agg.specs.Running.{IsBounded, kept, kind_of, is_copied, with_value};
@@ -40,6 +41,7 @@ impl State {
         requires { IsTrue (takes kind value.now) }
         ensures kept { IfOk result (λ state. state ≡ kept kind (value.now ∷ [])) }
         ensures bounded { IfOk result (IsBounded 1) }
+        ensures in_place { IsInPlace value.now → IsOk result }
     {
         Ok(match kind {
             AggKind::CountAll => State::Rows,
