@@ -19,6 +19,7 @@ has_asked row agg = counts_all agg.0 || nat_lt agg.1 (length row)
 abbrev pub has_all_asked : List (AggKind × ℕ) → List Value → Bool
 has_all_asked aggs row = list_all (has_asked row) aggs
 
+-- whether an aggregate is a sum; only sums refuse a value
 abbrev pub is_sum : AggKind → Bool
 is_sum CountAll = false
 is_sum Count = false

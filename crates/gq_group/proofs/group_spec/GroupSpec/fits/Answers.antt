@@ -1,7 +1,6 @@
-use Rattle.std.proofs.Common.{◌≡◌, ◌&&◌, ◌∙◌, Bool, true, false, List, take, sym, ap, rules}
+use Rattle.std.proofs.Common.{◌≡◌, ◌&&◌, ◌∙◌, true, false, take, sym, ap, rules}
 use Rattle.std.specs.List.{list_all}
 use Rattle.std.proofs.lemmas.Bool.{and_parts}
-use Rattle.gq_row.specs.declared.value.Value.{Value}
 use Rattle.gq_group.specs.Fitting.{has_all_asked}
 use Rattle.gq_group.specs.Groups.{Spec, fits_cell, fits_spec, has_columns}
 use Rattle.gq_group.proofs.FittingLemmas.{first_asked, lacks_column, sums_decide}
