@@ -1,13 +1,12 @@
 -- Records of rows: what is read is a record of it, and no record begins another.
-use Rattle.std.proofs.Common.{◌≡◌, ◌≢◌, ℕ, ℤ, ◌+◌, ◌-◌, ◌^◌, ◌<◌, ◌≤◌, List, [], ◌∷◌, ◌++◌, length, get_or, take, drop, All, refl, sym, ap, subst, ◌∙◌, arith}
+use Rattle.std.proofs.Common.{◌≡◌, ◌≢◌, ℕ, ℤ, ◌+◌, ◌^◌, ◌<◌, ◌≤◌, List, [], ◌∷◌, ◌++◌, length, get_or, take, drop, All, refl, sym, ap, subst, ◌∙◌, arith}
 use Rattle.std.specs.Prelude.{FitsSigned}
 use Rattle.std.specs.Int.{w32, w64, to_be_bytes, from_be_bytes, cast_unsigned, cast_signed}
-use Rattle.std.proofs.lemmas.List.{take_at, drop_at, take-append-drop, get_or-take, append_assoc, append-nil, length-append, take_more, take-take, drop_all}
+use Rattle.std.proofs.lemmas.List.{take_at, drop_at, take-append-drop, get_or-take, append_assoc, append-nil, length-append, take_more}
 use Rattle.std.proofs.lemmas.List.Concat.{flat_map-append}
 use Rattle.std.proofs.lemmas.List.Elements.{All-head, All-tail, All-push}
 use Rattle.std.proofs.lemmas.Int.{to_z-of_z, of_z-to_z, ints}
 use Rattle.std.proofs.lemmas.Nat.{be_bytes_4, be_bytes_8, from_be_bytes-to_be_bytes_4, from_be_bytes-to_be_bytes_8}
-use borrow.Rule.Slice.PartMut.{put_mid}
 use Rattle.byteorder.specs.Endian.{big_number}
 use Rattle.gq_row.specs.declared.value.Value.{Value}
 use Rattle.gq_row.specs.declared.value.Value.TheVariants.{Null, Int, Text, NoCase}
@@ -214,38 +213,10 @@ body_longer n row =
     let parts : body_of row ≡ body_of (take n row) ++ body_of (drop n row) = ap body_of (sym (take-append-drop n row)) ∙ flat_map-append value_bytes (take n row) (drop n row) in
     omega (arith, simp length-append at (ap length parts))
 
-pub body_more : (n : ℕ) (row : List Value) (v : Value) → n < length row → v ≡ get_or row n v → length (body_of (take (n + 1) row)) ≡ length (body_of (take n row)) + length (value_bytes v)
-body_more n row v lt is =
+pub body_push : (n : ℕ) (row : List Value) (v : Value) → n < length row → v ≡ get_or row n v → body_of (take (n + 1) row) ≡ body_of (take n row) ++ value_bytes v
+body_push n row v lt is =
     let more : take (n + 1) row ≡ take n row ++ v ∷ [] = take_more row n v lt ∙ ap (λ (x : Value). take n row ++ x ∷ []) (sym is) in
-    let parts : body_of (take (n + 1) row) ≡ body_of (take n row) ++ (value_bytes v ++ []) = ap body_of more ∙ flat_map-append value_bytes (take n row) (v ∷ []) in
-    ap length (parts ∙ ap (λ (l : List ℕ). body_of (take n row) ++ l) (append-nil (value_bytes v))) ∙ length-append (body_of (take n row)) (value_bytes v)
+    ap body_of more ∙ flat_map-append value_bytes (take n row) (v ∷ []) ∙ ap (λ (l : List ℕ). body_of (take n row) ++ l) (append-nil (value_bytes v))
 
--- a body whose length was written over the four bytes before it
-pub framed : (old wait now lent written : List ℕ) (row : List Value) (start len size : ℕ) → start ≡ length old → length wait ≡ 4 → now ≡ (old ++ wait) ++ body_of row → lent ≡ now
-    → size ≡ length (body_of row) → written ≡ to_be_bytes w32 size ++ drop 4 (take (start + 4 - start) (drop start lent)) → len ≡ length now
-    → take len (put_mid start (start + 4 - start) lent written ++ drop (length (put_mid start (start + 4 - start) lent written)) now) ≡ old ++ record_of row
-unfolding record_of
-framed old wait now lent written row start len size first four is same sized wrote all =
-    let body : List ℕ = body_of row in
-    let front : List ℕ = to_be_bytes w32 (length body) in
-    let part : start + 4 - start ≡ 4 = omega arith in
-    let lent_is : lent ≡ old ++ (wait ++ body) = same ∙ is ∙ append_assoc old wait body in
-    let before : take start lent ≡ old = ap (take start) lent_is ∙ take_at old (wait ++ body) start (sym first) in
-    let behind : drop start lent ≡ wait ++ body = ap (drop start) lent_is ∙ drop_at old (wait ++ body) start (sym first) in
-    let none : drop 4 (take (start + 4 - start) (drop start lent)) ≡ []
-    = (λ i. drop 4 (take (part i) (behind i))) ∙ ap (drop 4) (take_at wait body 4 four) ∙ drop_all 4 wait (omega (arith, four)) in
-    let written_is : written ≡ front = wrote ∙ (λ i. to_be_bytes w32 (sized i) ++ none i) ∙ append-nil front in
-    let rest : drop (start + 4 - start) (drop start lent) ≡ body = (λ i. drop (part i) (behind i)) ∙ drop_at wait body 4 four in
-    let whole : put_mid start (start + 4 - start) lent written ≡ old ++ (front ++ body) = λ i. before i ++ (written_is i ++ rest i) in
-    let long : length (put_mid start (start + 4 - start) lent written) ≡ len
-    = let a = ap length whole ∙ length-append old (front ++ body) in
-    let b = length-append front body in
-    let c = all ∙ ap length is ∙ length-append (old ++ wait) body in
-    omega (arith, a, b, c, length-append old wait, four) in
-    take_at (put_mid start (start + 4 - start) lent written) (drop (length (put_mid start (start + 4 - start) lent written)) now) len long ∙ whole
-
--- what a later call keeps an earlier one kept
-pub keeps_then : (old mid new more : List ℕ) → mid ≡ old ++ more → take (length mid) new ≡ mid → take (length old) new ≡ old
-keeps_then old mid new more e keep =
-    let le : length old ≤ length mid = omega (arith, ap length e ∙ length-append old more) in
-    sym (take-take (length old) (length mid) new le) ∙ ap (take (length old)) (keep ∙ e) ∙ take_at old more (length old) refl
+pub body_more : (n : ℕ) (row : List Value) (v : Value) → n < length row → v ≡ get_or row n v → length (body_of (take (n + 1) row)) ≡ length (body_of (take n row)) + length (value_bytes v)
+body_more n row v lt is = ap length (body_push n row v lt is) ∙ length-append (body_of (take n row)) (value_bytes v)

@@ -10,10 +10,11 @@
 //! # The contract above this crate
 //!
 //! [`encode_row`] appends the record of a row, as `specs/Records.antt` defines it, or on error leaves the bytes
-//! unchanged. [`decode_row`] returns a row only if the bytes begin with its record, and `None` only if they
-//! begin with no row's; so does [`decode_row_over`], which overwrites a row. A row has a record if its body
-//! takes fewer than 2^32 bytes, as [`is_storable`] says. A text without case has its own tag, and is written as
-//! it is spelled, not as its fold. By a law no record begins with another, and none is of two rows.
+//! unchanged; [`encode_row_over`] writes it over the first bytes. [`decode_row`] returns a row only if the bytes
+//! begin with its record, and `None` only if they begin with no row's; so does [`decode_row_over`], which
+//! overwrites a row. A row has a record if its body takes fewer than 2^32 bytes, as [`is_storable`] says. A text
+//! without case has its own tag, and is written as it is spelled, not as its fold. By a law no record begins
+//! with another, and none is of two rows.
 #![tactic(auto)]
 
 mod decoding;
@@ -22,4 +23,4 @@ mod kinds;
 pub mod laws;
 
 pub use decoding::{decode_row, decode_row_over, take_length};
-pub use encoding::{encode_row, is_storable};
+pub use encoding::{encode_row, encode_row_over, is_storable};

@@ -9,7 +9,7 @@ ghost use Rattle.gq_spill.specs.Writing.{Wrote, begun, with_row, refusing};
 use crate::run_mark::RunMark;
 use crate::spill_refusal::SpillRefusal;
 use crate::store::{RunId, RunStore};
-use gq_record::encode_row;
+use gq_record::encode_row_over;
 use gq_row::Row;
 use std::alloc::Global;
 use std::marker::Model;
@@ -20,7 +20,7 @@ use std::marker::Model;
 pub struct RunWriter {
     mark: RunMark,
     refused: Option<SpillRefusal>,
-    // The record of the row that is being written.
+    // Begins with the record of the row that is being written.
     buffer: Vec<u8>,
 }
 
@@ -73,18 +73,17 @@ impl RunWriter {
         ensures faults { ReportsFaults result (S.runs store.old) (S.runs store.new) }
         ensures sound { IsErrOf result SpillRefusal.Damaged → ⊥ }
     {
-        self.buffer.clear();
-        if encode_row(row, &mut self.buffer).is_err() {
+        let Ok(len) = encode_row_over(row, &mut self.buffer) else {
             return Err(SpillRefusal::Memory);
-        }
+        };
         // A mark has counts of 64 bits.
-        let Some(bytes) = self.mark.bytes.checked_add(self.buffer.len() as u64) else {
+        let Some(bytes) = self.mark.bytes.checked_add(len as u64) else {
             return Err(SpillRefusal::Memory);
         };
         let Some(records) = self.mark.records.checked_add(1) else {
             return Err(SpillRefusal::Memory);
         };
-        match store.append(self.mark.id, &self.buffer) {
+        match store.append(self.mark.id, &self.buffer[..len]) {
             Ok(()) => {
                 self.mark.bytes = bytes;
                 self.mark.records = records;
