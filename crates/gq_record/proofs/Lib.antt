@@ -1,3 +1,4 @@
+pub mod AsciiLemmas
 pub mod PutLemmas
 pub mod RecordLemmas
 mod Vectors

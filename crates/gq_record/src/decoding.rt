@@ -1,16 +1,18 @@
 //! Decoding records.
-ghost use Rattle.std.specs.Prelude.{◌≡◌, ◌≤◌, ◌<◌, ℕ, ◌^◌, false, true, All, List, ◌++◌, length, take, IfOk, IfSome, IfNone, FitsSigned};
+ghost use Rattle.std.specs.Prelude.{◌≡◌, ◌≤◌, ◌<◌, ℕ, ℤ, ◌^◌, false, true, All, List, ◌∷◌, ◌++◌, length, take, IfOk, IfSome, IfNone, IsUtf8, FitsSigned};
 ghost use Rattle.std.specs.Int.{to_be_bytes, w32, w64};
 ghost use Rattle.gq_row.specs.declared.value.Value.{Value as Cell};
 ghost use Rattle.gq_record.specs.Records.{IsStorable, IsCell, IsText, record_of, body_of, value_bytes, with_length, number_bytes};
 
+use crate::ascii::is_ascii;
 use crate::kinds::{INT, NO_CASE, NULL, TEXT};
 use byteorder::{BigEndian, ByteOrder};
 use gq_row::{Row, Value};
 use std::alloc::{AllocError, Global};
-use std::mem;
+use std::{mem, str};
 
 /// The length that the bytes begin with, and the bytes after it; `None` if there are fewer than four.
+#[inline]
 pub fn take_length(bytes: &[u8]) -> Option<(u32, &[u8])>
     ensures found { IfSome result (λ x. bytes.now ≡ to_be_bytes w32 x.0 ++ x.1.now) }
     ensures small { IfSome result (λ x. x.0 < 2 ^ 32) }
@@ -24,19 +26,37 @@ pub fn take_length(bytes: &[u8]) -> Option<(u32, &[u8])>
 }
 
 // The number that the bytes begin with, and the bytes after it.
-fn take_number(bytes: &[u8]) -> Option<(i64, &[u8])>
-    ensures found { IfSome result (λ x. (bytes.now ≡ number_bytes x.0 ++ x.1.now) ×
-        FitsSigned w64 x.0) }
-    ensures none { IfNone result (length bytes.now < 8) }
+#[inline(always)]
+fn split_number(bytes: &[u8]) -> (i64, &[u8])
+    requires { 8 ≤ length bytes.now }
+    ensures number { bytes.now ≡ number_bytes result.0 ++ result.1.now }
+    ensures fits { FitsSigned w64 result.0 }
 {
-    if bytes.len() < 8 {
+    let (head, rest) = bytes.split_at(8);
+    (BigEndian::read_i64(head), rest)
+}
+
+// The number of the value that the bytes begin with, and the bytes after it; `None` if that value is no number.
+// One test of the length suffices for the tag and the number.
+#[inline(always)]
+fn take_number(bytes: &[u8]) -> Option<(i64, &[u8])>
+    ensures found { IfSome result (λ x. (bytes.now ≡ INT ∷ (number_bytes x.0 ++ x.1.now)) ×
+        FitsSigned w64 x.0) }
+    ensures none { IfNone result ((value : ℤ) (rest : List ℕ) →
+        bytes.now ≡ INT ∷ (number_bytes value ++ rest) → ⊥) }
+{
+    if bytes.len() < 9 {
         return None;
     }
-    let (head, rest) = bytes.split_at(8);
-    Some((BigEndian::read_i64(head), rest))
+    let (tag, rest) = bytes.split_first()?;
+    if *tag != INT {
+        return None;
+    }
+    Some(split_number(rest))
 }
 
 // The bytes after the length that these begin with, as many as it says, and the bytes after those.
+#[inline(always)]
 fn take_block(bytes: &[u8]) -> Option<(&[u8], &[u8])>
     ensures found { IfSome result (λ x. (bytes.now ≡ with_length x.0.now ++ x.1.now) ×
         (length x.0.now < 2 ^ 32)) }
@@ -51,7 +71,29 @@ fn take_block(bytes: &[u8]) -> Option<(&[u8], &[u8])>
     Some(rest.split_at(len))
 }
 
+// Whether the bytes are UTF-8. Cold, since most texts are ASCII.
+#[cold]
+fn is_utf8(bytes: &[u8]) -> bool
+    ensures yes { result ≡ true → IsUtf8 bytes.now }
+    ensures no { result ≡ false → IsUtf8 bytes.now → ⊥ }
+{
+    str::from_utf8(bytes).is_ok()
+}
+
+// The bytes as a text, if they are UTF-8.
+#[inline(always)]
+fn utf8_of(bytes: &[u8]) -> Option<&str>
+    ensures some { IfSome result (λ text. (text.now ≡ bytes.now) × IsUtf8 bytes.now) }
+    ensures none { IfNone result (IsUtf8 bytes.now → ⊥) }
+{
+    if !is_ascii(bytes) && !is_utf8(bytes) {
+        return None;
+    }
+    Some(unsafe { str::from_utf8_unchecked(bytes) })
+}
+
 // The text that the bytes begin with, and the bytes after it.
+#[inline(always)]
 fn take_text(bytes: &[u8]) -> Option<(&str, &[u8])>
     ensures found { IfSome result (λ x. (bytes.now ≡ with_length x.0.now ++ x.1.now) ×
         IsText x.0.now) }
@@ -59,10 +101,10 @@ fn take_text(bytes: &[u8]) -> Option<(&str, &[u8])>
         bytes.now ≡ with_length text ++ rest → ⊥) }
 {
     let (block, rest) = take_block(bytes)?;
-    match str::from_utf8(block) {
-        Ok(text) => Some((text, rest)),
-        Err(_) => None,
-    }
+    let Some(text) = utf8_of(block) else {
+        return None;
+    };
+    Some((text, rest))
 }
 
 // Overwrites `over` with the value that the bytes begin with, and returns the bytes after it.
@@ -78,19 +120,16 @@ fn take_value<'a>(
     ensures none { IfOk result (λ o. IfNone o ((value : Cell) (rest : List ℕ) → IsCell value →
         bytes.now ≡ value_bytes value ++ rest → ⊥)) }
 {
+    if let Some((n, rest)) = take_number(bytes) {
+        over.write_number(n);
+        return Ok(Some(rest));
+    }
     let Some((tag, rest)) = bytes.split_first() else {
         return Ok(None);
     };
     match *tag {
         NULL => {
             *over = Value::Null;
-            Ok(Some(rest))
-        }
-        INT => {
-            let Some((n, rest)) = take_number(rest) else {
-                return Ok(None);
-            };
-            over.write_number(n);
             Ok(Some(rest))
         }
         TEXT => {

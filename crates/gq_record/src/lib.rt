@@ -17,6 +17,7 @@
 //! with another, and none is of two rows.
 #![tactic(auto)]
 
+mod ascii;
 mod decoding;
 mod encoding;
 mod kinds;
