@@ -57,18 +57,20 @@ unfolding record_of
 length-record_of row = omega arith
 
 -- a row's bytes are used up
-used : (t : RunTail) (new : List ℕ) (runs : Runs) (rest : List ℕ) (row : List Value) (place : ℕ) → t.ahead ≡ record_of row ++ new → place ≡ t.at + length (record_of row) → Unread t runs rest
-    → (behind : List ℕ) × (rest ≡ record_of row ++ behind) × Unread (record { id = t.id; at = place; end = t.end; ahead = new }) runs behind
-used t new runs rest row place e moved u =
-    let whole : rest ≡ record_of row ++ (new ++ u.behind) = u.begun ∙ ap (λ (s : List ℕ). s ++ u.behind) e ∙ append_assoc (record_of row) new u.behind in (
+pub used : (t s : RunTail) (runs : Runs) (rest : List ℕ) (row : List Value) → s.id ≡ t.id → s.end ≡ t.end → t.ahead ≡ record_of row ++ s.ahead → s.at ≡ t.at + length (record_of row) → Unread t runs rest
+    → (behind : List ℕ) × (rest ≡ record_of row ++ behind) × Unread s runs behind
+used t s runs rest row same_id same_end e moved u =
+    let new = s.ahead in
+    let whole : rest ≡ record_of row ++ (new ++ u.behind) = u.begun ∙ ap (λ (l : List ℕ). l ++ u.behind) e ∙ append_assoc (record_of row) new u.behind in
+    let content = u.content ∙ ap (λ (l : List ℕ). Some (u.front ++ l)) whole ∙ ap (λ (l : List ℕ). Some l) (sym (append_assoc u.front (record_of row) (new ++ u.behind))) in (
       new ++ u.behind,
       whole,
       record {
         front = u.front ++ record_of row;
         behind = u.behind;
-        content = u.content ∙ ap (λ (s : List ℕ). Some (u.front ++ s)) whole ∙ ap (λ (s : List ℕ). Some s) (sym (append_assoc u.front (record_of row) (new ++ u.behind)));
+        content = ap (λ (id : RunId). runs.content id.number) same_id ∙ content;
         place = length-append u.front (record_of row) ∙ omega (arith, u.place);
-        ends = omega (arith, u.ends, ap length whole ∙ length-append (record_of row) (new ++ u.behind));
+        ends = omega (arith, u.ends, same_end, ap length whole ∙ length-append (record_of row) (new ++ u.behind));
         begun = refl;
       },
     )
@@ -77,9 +79,7 @@ used t new runs rest row place e moved u =
 pub used_row : {T E : Type 0} (r : Result T E) (row : List Value) (U : List ℕ → Type 0) (t s : RunTail) (runs : Runs) → s.id ≡ t.id → s.end ≡ t.end → ((rest : List ℕ) → U rest → Unread t runs rest)
     → OnOk r ((t.ahead ≡ record_of row ++ s.ahead) × (s.at ≡ t.at + length (record_of row)) × IsStorable row)
     → OnOk r ((rest : List ℕ) → U rest → (behind : List ℕ) × (rest ≡ record_of row ++ behind) × Unread s runs behind)
-used_row (Ok x) row U t s runs same_id same_end go p = λ rest u.
-    let found = used t s.ahead runs rest row s.at p.0 p.1 (go rest u) in
-    (found.0, found.1, subst (λ (i : RunId). Unread (record { id = i; at = s.at; end = s.end; ahead = s.ahead }) runs found.0) (sym same_id) (subst (λ (e : ℕ). Unread (record { id = t.id; at = s.at; end = e; ahead = s.ahead }) runs found.0) (sym same_end) found.2))
+used_row (Ok x) row U t s runs same_id same_end go p = λ rest u. used t s runs rest row same_id same_end p.0 p.1 (go rest u)
 used_row (Err e) row U t s runs same_id same_end go p = tt
 
 -- a refusal passed on

@@ -1,5 +1,5 @@
 //! The rest of a run.
-ghost use Rattle.std.specs.Prelude.{◌≡◌, ◌++◌, ◌+◌, ◌<◌, ◌≤◌, ◌^◌, List, ℕ, length, OnOk, IsErrOf, IsTrue};
+ghost use Rattle.std.specs.Prelude.{◌≡◌, ◌++◌, ◌+◌, ◌<◌, ◌≤◌, ◌^◌, List, ℕ, length, OnOk, OnErr, IsErrOf, IsTrue};
 ghost use Rattle.gq_row.specs.declared.value.Value.{Value as Cell};
 ghost use Rattle.gq_record.specs.Records.{IsStorable, record_of};
 ghost use Rattle.gq_spill.specs.Reading.{Unread};
@@ -69,6 +69,7 @@ impl RunTail {
         ensures sound { IsErrOf result SpillRefusal.Damaged → (row : List Cell) (behind : List ℕ) →
             IsStorable row → self.old.ahead ≡ record_of row ++ behind → ⊥ }
         ensures own { IsErrOf result SpillRefusal.StoreFault → ⊥ }
+        ensures err { OnErr result (self.new ≡ self.old) }
         ensures same { (self.new.id ≡ self.old.id) × (self.new.end ≡ self.old.end) }
         ensures within { self.new.at + length self.new.ahead ≤ self.new.end }
     {
@@ -83,8 +84,9 @@ impl RunTail {
         }
     }
 
-    /// Reads the next row, over `row`. The number of columns is a hint.
-    pub fn take<S: RunStore>(
+    // Reads ahead until the next row is there, and reads it. Cold, since a piece has many rows.
+    #[cold]
+    fn fetch_row<S: RunStore>(
         &mut self,
         alloc: Global,
         store: &mut S,
@@ -115,5 +117,36 @@ impl RunTail {
             return Err(why);
         }
         self.use_row(alloc, columns, row)
+    }
+
+    /// Reads the next row, over `row`. The number of columns is a hint.
+    #[inline]
+    pub fn take<S: RunStore>(
+        &mut self,
+        alloc: Global,
+        store: &mut S,
+        columns: usize,
+        row: &mut Row,
+    ) -> Result<(), SpillRefusal>
+        requires live { IsTrue ((S.runs store.old).live self.old.id.number) }
+        requires within { self.old.at + length self.old.ahead ≤ self.old.end }
+        ensures row { IsTrue (S.runs store.old).honest → OnOk result ((rest : List ℕ) →
+            Unread self.old (S.runs store.old) rest → (behind : List ℕ) ×
+            (rest ≡ record_of row.new ++ behind) × Unread self.new (S.runs store.new) behind) }
+        ensures storable { OnOk result (IsStorable row.new) }
+        ensures sound { IsTrue (S.runs store.old).honest → IsErrOf result SpillRefusal.Damaged →
+            (row : List Cell) (behind : List ℕ) → IsStorable row →
+            Unread self.old (S.runs store.old) (record_of row ++ behind) → ⊥ }
+        ensures same { (self.new.id ≡ self.old.id) × (self.new.end ≡ self.old.end) }
+        ensures within { self.new.at + length self.new.ahead ≤ self.new.end }
+        ensures store { OnlyReads (S.runs store.old) (S.runs store.new) }
+        ensures faults { ReportsFaults result (S.runs store.old) (S.runs store.new) }
+    {
+        match self.use_row(alloc, columns, row) {
+            Ok(()) => Ok(()),
+            // No whole record was read ahead.
+            Err(SpillRefusal::Damaged) => self.fetch_row(alloc, store, columns, row),
+            Err(why) => Err(why),
+        }
     }
 }
