@@ -1,5 +1,5 @@
 //! Encoding rows as records.
-ghost use Rattle.std.specs.Prelude.{◌≡◌, ◌↔◌, take, drop, ◌+◌, ◌++◌, ◌∷◌, [], ◌<◌, ◌≤◌, ◌^◌, All, length, OnOk, OnErr, IfOk, IsTrue, IfSome, IfNone};
+ghost use Rattle.std.specs.Prelude.{◌≡◌, ◌↔◌, take, drop, ◌+◌, ◌++◌, ◌∷◌, [], ◌<◌, ◌≤◌, ◌^◌, true, All, length, OnOk, OnErr, IfOk, IsTrue, IfSome, IfNone};
 ghost use Rattle.std.specs.Int.{to_be_bytes, w32};
 ghost use Rattle.gq_record.specs.Records.{IsStorable, IsCell, record_of, body_of, value_bytes, with_length, number_bytes};
 ghost use Rattle.gq_record.specs.Putting.{IsPut};
@@ -214,7 +214,8 @@ fn value_len(value: &Value) -> Option<u64>
     }
 }
 
-// The length of a row's body, or `None` if the row has no record.
+// The length of a row's body, or `None` if the row has no record. Cold, since most rows are small.
+#[cold]
 fn body_len(row: &Row) -> Option<u64>
     ensures some { IfSome result (λ len. (len ≡ length (body_of row.now)) × IsStorable row.now) }
     ensures none { IfNone result (IsStorable row.now → ⊥) }
@@ -232,11 +233,45 @@ fn body_len(row: &Row) -> Option<u64>
     Some(total)
 }
 
+// Whether a value takes fewer than 2^17 bytes, as each does but a long text.
+#[inline(always)]
+#[tactic(auto, unfolding(crate::specs::Records::value_bytes))]
+fn is_small(value: &Value) -> bool
+    ensures { result ≡ true → IsCell value.now × (length (value_bytes value.now) < 2 ^ 17) }
+{
+    match value {
+        Value::Null => true,
+        Value::Int(n) => {
+            // A value of the type is one of 64 bits.
+            let _n = *n;
+            true
+        }
+        Value::Text(text) | Value::NoCase(text) => text.as_str().len() < 1 << 16,
+    }
+}
+
+// Whether a row has few values, all of them small, and so a record. This is only a shortcut, without a sum.
+#[inline]
+fn is_small_row(row: &Row) -> bool
+    ensures { result ≡ true → IsStorable row.now }
+{
+    if row.len() >= 1 << 15 {
+        return false;
+    }
+    for value in row.cells() {
+        if !is_small(value) {
+            return false;
+        }
+    }
+    true
+}
+
 /// Whether a row has a record: whether its body takes fewer than 2^32 bytes.
+#[inline]
 pub fn is_storable(row: &Row) -> bool
     ensures { IsTrue result ↔ IsStorable row.now }
 {
-    body_len(row).is_some()
+    is_small_row(row) || body_len(row).is_some()
 }
 
 // Writes the record of a row at a position, and returns the position after it. The length is written last, over
