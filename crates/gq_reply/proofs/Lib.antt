@@ -1,4 +1,6 @@
 pub mod BareLemmas
+pub mod DigitLemmas
+pub mod PlainLemmas
 pub mod StepLemmas
 pub mod Texts
 mod Vectors

@@ -11,7 +11,7 @@ use Rattle.gq_reply.specs.Replies.{cell_text, record_text}
 abbrev pub is_plain : List ℕ → Bool
 is_plain field = not (length field == 0) && not (needs_quotes default_writer field)
 
--- whether a value's field is plain and written without the CSV writer: null, each number but the minimum, and each text that isn't empty and needs no quotes
+-- whether a value at an end of a row lets the row be written without the CSV writer: null, each number but the minimum, and each text that isn't empty and needs no quotes
 abbrev pub is_bare : Value → Bool
 is_bare Null = true
 is_bare (Int n) = not (int_eq n (negsuc (2 ^ 63 - 1)))

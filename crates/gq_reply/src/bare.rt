@@ -2,18 +2,23 @@
 //!
 //! The rows of a sorted answer are anywhere among its cells, so reading a row waits for memory.
 //! Here the ends of a block of rows are read before its first row is written: such short reads
-//! don't wait for one another.
-ghost use Rattle.std.specs.Prelude.{◌≡◌, ◌≤◌, ◌<◌, ◌+◌, ◌%◌, ◌++◌, ◌∷◌, ◌==◌, [], List, ℕ, IfOk, OnOk, false, true, length, take};
+//! don't wait for one another. The bytes are collected in a buffer, which moves to the text once
+//! for many rows.
+ghost use Rattle.std.specs.Prelude.{◌≡◌, ◌≤◌, ◌<◌, ◌+◌, ◌++◌, ◌∷◌, ◌==◌, [], List, ℕ, IfOk, IfSome, codes, false, true, length, take};
 ghost use Rattle.std.specs.Fmt.{decimal, signed_decimal};
 ghost use Rattle.csv.specs.Writing.{default_writer, field_text, needs_byte, needs_quotes};
+ghost use Rattle.gq_row.specs.Rows.{cell};
 ghost use Rattle.gq_cells.specs.Cells.{value_of};
 ghost use Rattle.gq_reply.specs.Bare.{AreBare, IsBare, is_bare, is_plain, records, row_record};
 ghost use Rattle.gq_reply.specs.Replies.{cell_text};
 
+use crate::digits::write_number;
+use crate::plain::{MOST, copy_plain, is_plain, needs_byte};
 use gq_cells::{CellRef, RowRef, Rows};
-use gq_row::Text;
-use itoa::Buffer;
 use std::alloc::AllocError;
+
+/// The size of the buffer. It is cleared for each reply, so a small one must not pay for much.
+pub(crate) const CAPACITY: usize = 2048;
 
 // How many rows are looked at before the first of them is written.
 const AHEAD: usize = 64;
@@ -31,46 +36,51 @@ pub(crate) fn block_end(start: usize, rows: usize) -> usize
     }
 }
 
-// Whether each row from `start` up to `end` has a cell, and only fields that need no quotes.
-pub(crate) fn are_bare(rows: &Rows, start: usize, end: usize) -> bool
+// False only if a row from `start` up to `end` isn't bare, by its ends. Reading them all first saves
+// time: texts may be out of line, so rows that begin with one are checked at their last values first.
+pub(crate) fn ends_may_be_bare(rows: &Rows, start: usize, end: usize) -> bool
     requires { end ≤ length rows.now }
-    ensures bare { result ≡ true → AreBare rows.now start end }
-    ensures not_bare { result ≡ false → AreBare rows.now start end → ⊥ }
+    ensures { result ≡ false → AreBare rows.now start end → ⊥ }
 {
-    if !begins_with_number(rows, start, end) && !may_be_bare(rows, start, end, false) {
-        return false;
+    if begins_with_number(rows, start, end) {
+        return may_be_bare(rows, start, end, Ends::Both);
     }
-    if !may_be_bare(rows, start, end, true) {
-        return false;
-    }
+    may_be_bare(rows, start, end, Ends::Last) && may_be_bare(rows, start, end, Ends::First)
+}
+
+// Which values of a row are checked.
+#[derive(Clone, Copy)]
+enum Ends {
+    First,
+    Last,
+    Both,
+}
+
+#[inline(always)]
+fn may_be_bare(rows: &Rows, start: usize, end: usize, ends: Ends) -> bool
+    requires { end ≤ length rows.now }
+    ensures { result ≡ false → AreBare rows.now start end → ⊥ }
+{
     for i in start..end {
-        if !is_bare_row(&rows.row(i)) {
+        if !row_may_be_bare(&rows.row(i), ends) {
             return false;
         }
     }
     true
 }
 
-// False only if a row isn't bare, by its last value and with `both_ends` by its first. It saves
-// time: texts may be out of line, so rows that begin with one are checked at their ends first.
 #[inline(always)]
-fn may_be_bare(rows: &Rows, start: usize, end: usize, both_ends: bool) -> bool
-    requires { end ≤ length rows.now }
-    ensures { result ≡ false → AreBare rows.now start end → ⊥ }
+fn row_may_be_bare(row: &RowRef<'_>, ends: Ends) -> bool
+    ensures { result ≡ false → IsBare row.now → ⊥ }
 {
-    for i in start..end {
-        let row = rows.row(i);
-        let Some(last) = row.len().checked_sub(1) else {
-            return false;
-        };
-        if both_ends && !cell_may_be_bare(row.cell(0)) {
-            return false;
-        }
-        if !cell_may_be_bare(row.cell(last)) {
-            return false;
-        }
+    let Some(last) = row.len().checked_sub(1) else {
+        return false;
+    };
+    match ends {
+        Ends::First => cell_may_be_bare(row.cell(0)),
+        Ends::Last => cell_may_be_bare(row.cell(last)),
+        Ends::Both => cell_may_be_bare(row.cell(0)) && cell_may_be_bare(row.cell(last)),
     }
-    true
 }
 
 // Whether the first of these rows begins with a number; then most others do, too.
@@ -109,170 +119,140 @@ fn ends_plainly(field: &[u8]) -> bool
     }
 }
 
-#[inline]
-fn is_bare_row(row: &RowRef<'_>) -> bool
-    ensures bare { result ≡ true → IsBare row.now }
-    ensures not_bare { result ≡ false → IsBare row.now → ⊥ }
-{
-    for column in 0..row.len() {
-        if !is_bare(row.cell(column)) {
-            return false;
-        }
-    }
-    !row.is_empty()
-}
-
-#[inline]
-fn is_bare(cell: CellRef<'_>) -> bool
-    ensures { result ≡ is_bare (value_of cell.entry) }
-{
-    match cell {
-        CellRef::Null => true,
-        CellRef::Int(n) => n != i64::MIN,
-        CellRef::Text(text) | CellRef::NoCase(text) => is_plain(text.as_str().as_bytes()),
-    }
-}
-
-// Whether a field has bytes, and none of them needs quotes.
-#[inline]
-fn is_plain(field: &[u8]) -> bool
-    ensures { result ≡ is_plain field.now }
-{
-    !field.is_empty() && !needs_quotes(field)
-}
-
-#[inline]
-fn needs_quotes(field: &[u8]) -> bool
-    ensures { result ≡ needs_quotes default_writer field.now }
-{
-    field.iter().any(|byte| needs_byte(*byte))
-}
-
-// Whether a byte needs quotes. Letters and digits are above all of these, and take one comparison.
-#[inline]
-fn needs_byte(byte: u8) -> bool
-    ensures { result ≡ needs_byte default_writer byte }
-{
-    byte <= b',' && matches!(byte, b',' | b'"' | b'\n' | b'\r')
-}
-
-// Writes the records of the rows from `start` up to `end`.
+/// Writes the records of the rows from `start` on, up to `end` or to one that isn't bare or no
+/// longer fits in the buffer. Returns the position after the last that is written.
 pub(crate) fn write_block(
     text: &mut Vec<u8>,
+    buffer: &mut [u8; CAPACITY],
     rows: &Rows,
     start: usize,
     end: usize,
-) -> Result<(), AllocError>
+) -> Result<usize, AllocError>
     requires order { start ≤ end }
     requires within { end ≤ length rows.now }
-    requires bare { AreBare rows.now start end }
-    ensures { (front : List ℕ) → text.old.items ≡ front ++ records (take start rows.now)
-        → OnOk result (text.new.items ≡ front ++ records (take end rows.now)) }
+    ensures within { IfOk result (λ next. (start ≤ next) × (next ≤ end)) }
+    ensures written { (front : List ℕ) → text.old.items ≡ front ++ records (take start rows.now)
+        → IfOk result (λ next. text.new.items ≡ front ++ records (take next rows.now)) }
 {
-    for i in start..end {
-        write_row(text, &rows.row(i))?;
+    let mut at = 0;
+    let mut next = start;
+    while next < end {
+        let Some(after) = write_row(buffer, at, &rows.row(next)) else {
+            break;
+        };
+        at = after;
+        next += 1;
     }
-    Ok(())
+    text.extend_from_slice(&buffer[..at])?;
+    Ok(next)
 }
 
-// Writes the record of a row.
-#[inline]
-fn write_row(text: &mut Vec<u8>, row: &RowRef<'_>) -> Result<(), AllocError>
-    requires { IsBare row.now }
-    ensures { OnOk result (text.new.items ≡ text.old.items ++ row_record row.now) }
-{
-    let last = row.len() - 1;
-    for column in 0..last {
-        write_cell(text, row.cell(column), b',')?;
-    }
-    write_cell(text, row.cell(last), b'\n')
-}
-
-// Writes the field of a cell, and the byte after it.
+// Writes the record of a row at a position of the buffer, and returns the position after it.
 #[inline(always)]
-fn write_cell(text: &mut Vec<u8>, cell: CellRef<'_>, end: u8) -> Result<(), AllocError>
-    requires { is_bare (value_of cell) ≡ true }
-    ensures field { OnOk result (text.new.items ≡
-        text.old.items ++ field_text default_writer (cell_text (value_of cell.entry)) ++ end ∷ []) }
-    ensures shown { OnOk result ((length (field_text default_writer (cell_text (value_of cell.entry))) == 0) ≡ false) }
+fn write_row(buffer: &mut [u8; CAPACITY], at: usize, row: &RowRef<'_>) -> Option<usize>
+    requires { at ≤ CAPACITY }
+    ensures kept { take at buffer.new ≡ take at buffer.old }
+    ensures within { IfSome result (λ next. next ≤ CAPACITY) }
+    ensures written { IfSome result (λ next. take next buffer.new ≡ take at buffer.old ++ row_record row.now) }
+{
+    if row.is_empty() {
+        return None;
+    }
+    let mut next = at;
+    for column in 0..row.len() {
+        next = write_cell(buffer, next, row, column)?;
+    }
+    // The comma after the last field becomes the end of the line.
+    buffer[next - 1] = b'\n';
+    Some(next)
+}
+
+// Writes the field of the cell in a column, and a comma. Returns none if the cell isn't bare, or
+// doesn't fit; then bytes from `at` on may be overwritten.
+#[inline(always)]
+fn write_cell(
+    buffer: &mut [u8; CAPACITY],
+    at: usize,
+    row: &RowRef<'_>,
+    column: usize,
+) -> Option<usize>
+    requires at { at ≤ CAPACITY }
+    requires column { column < length row.now }
+    ensures kept { take at buffer.new ≡ take at buffer.old }
+    ensures within { IfSome result (λ next. (at < next) × (next ≤ CAPACITY)) }
+    ensures field { IfSome result (λ next. take next buffer.new ≡
+        take at buffer.old ++ field_text default_writer (cell_text (cell row.now column)) ++ 44 ∷ []) }
+    ensures shown { IfSome result (λ _. (length (field_text default_writer (cell_text (cell row.now column))) == 0) ≡ false) }
+{
+    // Tested before the cell is read, so that each kind of cell goes straight to its own code.
+    if at >= CAPACITY - MOST {
+        return None;
+    }
+    let next = write_field(buffer, at, row.cell(column))?;
+    buffer[next] = b',';
+    Some(next + 1)
+}
+
+// Writes the field of a cell. Leaves room for the byte after it.
+#[inline(always)]
+fn write_field(buffer: &mut [u8; CAPACITY], at: usize, cell: CellRef<'_>) -> Option<usize>
+    requires { at + MOST < CAPACITY }
+    ensures kept { take at buffer.new ≡ take at buffer.old }
+    ensures within { IfSome result (λ next. (at ≤ next) × (next < CAPACITY)) }
+    ensures written { IfSome result (λ next. take next buffer.new ≡ take at buffer.old ++ cell_text (value_of cell.entry)) }
+    ensures plain { IfSome result (λ _. is_plain (cell_text (value_of cell.entry)) ≡ true) }
 {
     match cell {
-        CellRef::Null => text.extend_from_slice(&[b'\\', b'N', end]),
-        CellRef::Int(n) => write_number(text, n, end),
-        CellRef::Text(field) | CellRef::NoCase(field) => write_text(text, field, end),
+        CellRef::Null => Some(write_null(buffer, at)),
+        CellRef::Int(n) => Some(write_number(buffer, at, n)),
+        CellRef::Text(field) | CellRef::NoCase(field) => {
+            write_text(buffer, at, field.as_str().as_bytes())
+        }
     }
 }
 
-fn write_text(text: &mut Vec<u8>, field: &Text, end: u8) -> Result<(), AllocError>
-    ensures { OnOk result (text.new.items ≡ text.old.items ++ field.now ++ end ∷ []) }
-{
-    text.extend_from_slice(field.as_str().as_bytes())?;
-    text.push(end)?;
-    Ok(())
-}
-
-// Writes a number. Counts, sums and keys mostly have few digits, which are written faster without
-// the buffer for the longest number.
 #[inline(always)]
-fn write_number(text: &mut Vec<u8>, n: i64, end: u8) -> Result<(), AllocError>
-    ensures { OnOk result (text.new.items ≡ text.old.items ++ signed_decimal n ++ end ∷ []) }
+fn write_null(buffer: &mut [u8], at: usize) -> usize
+    requires { at + 2 ≤ length buffer.old }
+    ensures written { take result buffer.new ≡ take at buffer.old ++ codes "\\N" }
+    ensures end { result ≡ at + 2 }
 {
-    match n {
-        0..=999 => write_small(text, n as u16, end),
-        1_000..=999_999 => write_thousands(text, n as u32, end),
-        _ => write_long(text, n, end),
-    }
+    buffer[at] = b'\\';
+    buffer[at + 1] = b'N';
+    at + 2
 }
 
-// Writes up to three digits. The length of each array is a constant, so no call copies it.
+// Writes a plain field. Leaves room for the byte after it.
 #[inline(always)]
-fn write_small(text: &mut Vec<u8>, n: u16, end: u8) -> Result<(), AllocError>
-    requires { n < 1000 }
-    ensures { OnOk result (text.new.items ≡ text.old.items ++ decimal n ++ end ∷ []) }
+fn write_text(buffer: &mut [u8], at: usize, field: &[u8]) -> Option<usize>
+    requires { at + MOST < length buffer.old }
+    ensures kept { take at buffer.new ≡ take at buffer.old }
+    ensures within { IfSome result (λ next. (at ≤ next) × (next < length buffer.old)) }
+    ensures written { IfSome result (λ next. take next buffer.new ≡ take at buffer.old ++ field.now) }
+    ensures plain { IfSome result (λ _. is_plain field.now ≡ true) }
 {
-    let ones = last_digit(n);
-    if n < 10 {
-        return text.extend_from_slice(&[ones, end]);
+    if field.len() > MOST {
+        return write_long_text(buffer, at, field);
     }
-    let tens = last_digit(n / 10);
-    if n < 100 {
-        return text.extend_from_slice(&[tens, ones, end]);
+    if !copy_plain(&mut buffer[at..], field) {
+        return None;
     }
-    text.extend_from_slice(&[last_digit(n / 100), tens, ones, end])
+    Some(at + field.len())
 }
 
-// Writes four to six digits. Arrays of two and of four bytes are stored at once, arrays of three
-// are not.
-#[inline(always)]
-fn write_thousands(text: &mut Vec<u8>, n: u32, end: u8) -> Result<(), AllocError>
-    requires low { 1000 ≤ n }
-    requires high { n < 1000000 }
-    ensures { OnOk result (text.new.items ≡ text.old.items ++ decimal n ++ end ∷ []) }
-{
-    let behind = (n % 1000) as u16;
-    let hundreds = last_digit(behind / 100);
-    let tens = last_digit(behind / 10);
-    let ones = last_digit(behind);
-    write_small(text, (n / 1000) as u16, hundreds)?;
-    text.extend_from_slice(&[tens, ones])?;
-    text.push(end)?;
-    Ok(())
-}
-
-#[inline]
-fn last_digit(n: u16) -> u8
-    ensures { result ≡ 48 + n % 10 }
-{
-    b'0' + (n % 10) as u8
-}
-
-// Not inlined, so that the loop over the cells reserves no space for the buffer.
+// Writes a plain field of any length.
 #[inline(never)]
-fn write_long(text: &mut Vec<u8>, n: i64, end: u8) -> Result<(), AllocError>
-    ensures { OnOk result (text.new.items ≡ text.old.items ++ signed_decimal n ++ end ∷ []) }
+fn write_long_text(buffer: &mut [u8], at: usize, field: &[u8]) -> Option<usize>
+    requires { at ≤ length buffer.old }
+    ensures kept { take at buffer.new ≡ take at buffer.old }
+    ensures within { IfSome result (λ next. (at ≤ next) × (next < length buffer.old)) }
+    ensures written { IfSome result (λ next. take next buffer.new ≡ take at buffer.old ++ field.now) }
+    ensures plain { IfSome result (λ _. is_plain field.now ≡ true) }
 {
-    let mut digits = Buffer::new();
-    text.extend_from_slice(digits.format(n).as_bytes())?;
-    text.push(end)?;
-    Ok(())
+    if field.len() >= buffer.len() - at || !is_plain(field) {
+        return None;
+    }
+    let next = at + field.len();
+    buffer[at..next].copy_from_slice(field);
+    Some(next)
 }

@@ -14,6 +14,8 @@
 #![tactic(auto)]
 
 mod bare;
+mod digits;
+mod plain;
 mod refusal;
 mod reply;
 mod reply_line;

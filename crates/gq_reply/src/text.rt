@@ -6,7 +6,7 @@ ghost use Rattle.gq_reply.specs.Bare.{records};
 ghost use Rattle.gq_reply.specs.Records.{HasWritten};
 ghost use Rattle.gq_reply.specs.Replies.{text, cell_text, record_text, records_text};
 
-use crate::bare::{are_bare, block_end, write_block};
+use crate::bare::{CAPACITY, block_end, ends_may_be_bare, write_block};
 use crate::reply::Reply;
 use crate::reply_line::{accepted_line, line_of};
 use csv::{ByteRecord, Writer, WriterBuilder};
@@ -60,10 +60,11 @@ fn with_table(
     ensures { IfOk result (λ bytes. bytes.items ≡ front.items ++ record_text header.now ++ records rows.now) }
 {
     let mut text = with_header(alloc, front, header)?;
+    let mut buffer = [0; CAPACITY];
     let mut written = 0;
     while written < rows.len() {
         let end = block_end(written, rows.len());
-        text = with_rows(alloc, text, rows, written, end)?;
+        text = with_rows(alloc, text, &mut buffer, rows, written, end)?;
         written = end;
     }
     Ok(text)
@@ -88,6 +89,7 @@ fn with_header(
 fn with_rows(
     alloc: Global,
     text: Vec<u8>,
+    buffer: &mut [u8; CAPACITY],
     rows: &Rows,
     from: usize,
     to: usize,
@@ -97,11 +99,18 @@ fn with_rows(
     ensures { (front : List ℕ) → text.items ≡ front ++ records (take from rows.now)
         → IfOk result (λ bytes. bytes.items ≡ front ++ records (take to rows.now)) }
 {
-    if !are_bare(rows, from, to) {
+    if !ends_may_be_bare(rows, from, to) {
         return with_records(alloc, text, rows, from, to);
     }
     let mut text = text;
-    write_block(&mut text, rows, from, to)?;
+    let mut written = from;
+    while written < to {
+        let next = write_block(&mut text, buffer, rows, written, to)?;
+        if next == written {
+            return with_records(alloc, text, rows, written, to);
+        }
+        written = next;
+    }
     Ok(text)
 }
 

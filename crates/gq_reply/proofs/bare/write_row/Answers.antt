@@ -1,39 +1,34 @@
-use Rattle.std.proofs.Common.{◌≡◌, ◌<◌, ◌+◌, ◌-◌, ◌==◌, ◌∷◌, ◌++◌, ◌∙◌, [], sym, length, ap, arith, drop, map}
-use Rattle.std.specs.Cmp.{second_so}
-use Rattle.std.specs.List.{list_all}
-use Rattle.std.proofs.lemmas.List.{drop_more}
-use Rattle.csv.specs.Writing.{default_writer, field_text, row_body}
-use Rattle.csv.proofs.WriteFacts.{on_ok_both}
-use Rattle.gq_row.specs.declared.value.Value.TheVariants.{Null}
+use Rattle.std.proofs.Common.{◌≡◌, ◌<◌, ◌+◌, ◌-◌, ◌==◌, ◌++◌, ◌∙◌, length, ap, sym, arith, append-nil, take}
+use Rattle.std.proofs.lemmas.List.{drop_all}
+use Rattle.csv.specs.Writing.{default_writer, field_text}
 use Rattle.gq_row.specs.Rows.{cell}
-use Rattle.gq_reply.specs.Bare.{is_bare}
 use Rattle.gq_reply.specs.Replies.{cell_text}
-use Rattle.gq_reply.proofs.BareLemmas.{last_field, one_more_field}
+use Rattle.gq_reply.proofs.BareLemmas.{fields_ended, one_more_field, row_ended}
+use Rattle.gq_reply.proofs.PlainLemmas.{kept_on}
 use Rattle.gq_reply.proofs.bare.write_row.Goals as goal
 
 pub loop-column-preserved : goal.loop-column-preserved
 loop-column-preserved c =
     let row = c.args.row.now in
-    let i = c.loop-column.column in
-    let more : i + 1 < length row = omega (arith, c.loop-column-test.true, c.len-last.ensures) in
-    let split : drop i row ≡ cell row i ∷ drop (i + 1) row = drop_more row i Null (omega (arith, more)) in
+    let l = c.loop-column in
+    let text = take l.next l.buffer in
+    let next = take c.in_ok-next.next c.write_cell.new.buffer in
+    let more : l.column < length row = omega (arith, c.loop-column-test.true, c.len-column-end.ensures, l.auto.column-end) in
     record {
-      written = one_more_field row i c.loop-column.text.items c.write_cell.new.text.items (c.args.text.now.items ++ row_body default_writer (map cell_text row)) more c.loop-column.invariant.written
-          (c.in_ok-write_cell.ensures.field ∙ ap (λ v. c.loop-column.text.items ++ field_text default_writer (cell_text v) ++ 44 ∷ []) c.cell.ensures);
-      bare = second_so (is_bare (cell row i)) (list_all is_bare (drop (i + 1) row)) (ap (list_all is_bare) (sym split) ∙ c.loop-column.invariant.bare);
+      low = omega (arith, c.in_ok-next.ensures.within.0, l.invariant.low);
+      high = c.in_ok-next.ensures.within.1;
+      kept = kept_on c.args.buffer.now l.buffer c.write_cell.new.buffer c.args.at l.next (omega (arith, l.invariant.low)) l.invariant.kept c.write_cell.ensures.kept;
+      written = one_more_field row l.column text next (take c.args.at c.args.buffer.now ++ fields_ended row) more l.invariant.written c.in_ok-next.ensures.field;
+      shown = λ i e. let is : l.column ≡ i = omega (arith, e) in ap (λ k. length (field_text default_writer (cell_text (cell row k))) == 0) (sym is) ∙ c.in_ok-next.ensures.shown;
     }
 
-pub returns : goal.returns
-returns c =
+pub returns-clause-written : goal.returns-clause-written
+returns-clause-written c =
     let row = c.args.row.now in
-    let i = c.len-last.result - 1 in
-    let before = c.args.text.now.items in
-    let next = c.write_cell-2.new.text.items in
-    let at : c.loop-column.column ≡ i = omega (arith, c.loop-column-test.false, c.loop-column.auto.column-end) in
-    let long : length row ≡ i + 1 = omega (arith, c.len-last.ensures, c.requires.0) in
-    let text = c.loop-column.text.items in
-    let written = ap (λ k. text ++ row_body default_writer (map cell_text (drop k row))) (sym at) ∙ c.loop-column.invariant.written in
-    on_ok_both c.write_cell-2.result
-    (λ field shown. last_field row i text before next long (ap (λ v. length (field_text default_writer (cell_text v)) == 0) (sym c.cell-2.ensures) ∙ shown) written
-    (field ∙ ap (λ v. text ++ field_text default_writer (cell_text v) ++ 10 ∷ []) c.cell-2.ensures))
-    c.write_cell-2.ensures.field c.write_cell-2.ensures.shown
+    let l = c.loop-column in
+    let i = length row - 1 in
+    let all : l.column ≡ length row = omega (arith, c.loop-column-test.false, c.len-column-end.ensures, l.auto.column-end) in
+    let long : length row ≡ i + 1 = grind (arith, c.is_empty.ensures, c.if-is_empty.false) in
+    let text = take l.next l.buffer in
+    let written = sym (append-nil text) ∙ ap (λ r. text ++ fields_ended r) (sym (drop_all l.column row (omega (arith, all)))) ∙ l.invariant.written in
+    row_ended row l.buffer (take c.args.at c.args.buffer.now) i l.next long (omega (arith, l.invariant.high)) (l.invariant.shown i (all ∙ long)) written
