@@ -219,7 +219,7 @@ within_more most a b c p q ends front t w e = record {
 pub no_lines : GoesOn []
 no_lines ys = prefixed_none (payload_of (raw_lines ys))
 
-one_line : (line plain : Bytes) → line ≡ plain ++ 10 ∷ [] → list_all is_plain plain ≡ true → eqb (get_or line 0 0) 92 ≡ false → GoesOn line
+pub one_line : (line plain : Bytes) → line ≡ plain ++ 10 ∷ [] → list_all is_plain plain ≡ true → eqb (get_or line 0 0) 92 ≡ false → GoesOn line
 one_line line plain is fine first ys =
     let other : mark_of mark.Start (plain ++ 10 ∷ []) ≡ mark.Other = opens_other plain (sym (ap (λ (l : Bytes). eqb (get_or l 0 0) 92) is) ∙ first) in
     let no_mark : is_end_mark (content line) ≡ false = ap (λ (l : Bytes). is_end_mark (content l)) is ∙ sym (closes_ended plain fine) ∙ ap is_closing other in
@@ -227,7 +227,7 @@ one_line line plain is fine first ys =
     ap (λ (l : Bytes). raw_lines (l ++ ys)) is ∙ ap raw_lines (append_assoc plain (10 ∷ []) ys) ∙ raw_ended plain ys fine ∙ ap (λ (l : Bytes). l ∷ raw_lines ys) (sym is) in
     ap payload_of cut ∙ line_passed line (raw_lines ys) no_mark
 
-both_on : (front line : Bytes) → GoesOn front → GoesOn line → GoesOn (front ++ line)
+pub both_on : (front line : Bytes) → GoesOn front → GoesOn line → GoesOn (front ++ line)
 both_on front line f l ys =
     ap (λ (v : Bytes). payload_of (raw_lines v)) (append_assoc front line ys) ∙ f (line ++ ys) ∙ ap (prefixed front) (l ys) ∙ twice front line (payload_of (raw_lines ys))
 
@@ -244,14 +244,14 @@ one_line_more bytes len n f p first =
 pub no_count : HasLines 0 []
 no_count ys = omega arith
 
-one_count : (line plain : Bytes) → line ≡ plain ++ 10 ∷ [] → list_all is_plain plain ≡ true → HasLines 1 line
+pub one_count : (line plain : Bytes) → line ≡ plain ++ 10 ∷ [] → list_all is_plain plain ≡ true → HasLines 1 line
 one_count line plain is fine ys =
     let cut : raw_lines (line ++ ys) ≡ line ∷ raw_lines ys =
     ap (λ (l : Bytes). raw_lines (l ++ ys)) is ∙ ap raw_lines (append_assoc plain (10 ∷ []) ys) ∙ raw_ended plain ys fine ∙ ap (λ (l : Bytes). l ∷ raw_lines ys) (sym is) in
     let more : length (raw_lines (line ++ ys)) ≡ suc (length (raw_lines ys)) = ap length cut in
     omega arith
 
-both_count : (n m : ℕ) (front line : Bytes) → HasLines n front → HasLines m line → HasLines (n + m) (front ++ line)
+pub both_count : (n m : ℕ) (front line : Bytes) → HasLines n front → HasLines m line → HasLines (n + m) (front ++ line)
 both_count n m front line f l ys =
     let all : length (raw_lines ((front ++ line) ++ ys)) ≡ length (raw_lines (front ++ (line ++ ys))) = ap (λ (v : Bytes). length (raw_lines v)) (append_assoc front line ys) in
     let first : length (raw_lines (front ++ (line ++ ys))) ≡ n + length (raw_lines (line ++ ys)) = f (line ++ ys) in

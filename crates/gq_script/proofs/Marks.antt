@@ -40,7 +40,7 @@ was_not_other m bs e = by_test (is_other m) refl
         absurd cc
     by_test false f = f
 
-both_are : (a b : Bool) → a && b ≡ true → (a ≡ true) × (b ≡ true)
+pub both_are : (a b : Bool) → a && b ≡ true → (a ≡ true) × (b ≡ true)
 both_are true b h = (refl, h)
 both_are false b h = absurd cc
 

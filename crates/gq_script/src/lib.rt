@@ -14,6 +14,7 @@
 
 mod first_word;
 mod gather;
+mod lines;
 mod payload;
 mod source;
 

@@ -4,9 +4,10 @@ ghost use Rattle.gq_token.specs.Texts.{Bytes};
 ghost use Rattle.gq_script.specs.Script.{with_lines};
 ghost use Rattle.gq_script.specs.Payloads.{mark_after, mark_of, is_other, is_closing, held, Holds, GoesOn, HasLines, IsPiece, TookLines, TookPayloadLine, TookPayload, Unclosed};
 
+use crate::lines::line_ends;
 use crate::source::{ReadFault, Source};
 use gq_row::Bounds;
-use memchr::memchr;
+use memchr::{memchr, memrchr};
 use std::alloc::Global;
 use std::io::Read;
 
@@ -187,6 +188,22 @@ fn gather_payload_line<R: Read>(
 /// The length and the number of the whole lines at the start of these bytes, up to the first that
 /// begins with `\`. None of them ends a payload.
 fn lines_len(bytes: &[u8]) -> (usize, u64)
+    ensures within { result.0 ≤ length bytes.now }
+    ensures lines { GoesOn (take result.0 bytes.now) }
+    ensures count { HasLines result.1 (take result.0 bytes.now) }
+    ensures few { result.1 ≤ result.0 }
+{
+    if memchr(b'\\', bytes).is_some() {
+        return escaped_lines_len(bytes);
+    }
+    match memrchr(b'\n', bytes) {
+        None => (0, 0),
+        Some(last) => (last + 1, line_ends(&bytes[..last]) as u64 + 1),
+    }
+}
+
+/// The same, line by line.
+fn escaped_lines_len(bytes: &[u8]) -> (usize, u64)
     ensures within { result.0 ≤ length bytes.now }
     ensures lines { GoesOn (take result.0 bytes.now) }
     ensures count { HasLines result.1 (take result.0 bytes.now) }

@@ -1,6 +1,6 @@
 use Rattle.std.proofs.Common.{◌≤◌, ◌-◌, length, take}
 use Rattle.gq_script.specs.Payloads.{GoesOn, HasLines}
-use Rattle.gq_script.proofs.payload.lines_len.Given as goal
+use Rattle.gq_script.proofs.payload.escaped_lines_len.Given as goal
 
 abbrev pub invariant-loop-len : goal.invariant-loop-len
 invariant-loop-len l = record {
