@@ -3,7 +3,7 @@ use Rattle.std.proofs.Common.{◌≡◌, ◌<◌, ◌≤◌, ◌+◌, ◌-◌, �
 use Rattle.std.specs.List.{swap}
 use Rattle.std.proofs.Math.Seq.{drop-append-add}
 use Rattle.std.proofs.lemmas.Grind.{common_steps}
-use Rattle.std.proofs.lemmas.List.{drop-drop, drop-map, drop-set-lt, get_or-drop, length-append, map-append, take-map, take_all}
+use Rattle.std.proofs.lemmas.List.{drop-drop, drop-map, drop-set-lt, get_or-drop, length-append, map-append, take-map}
 use Rattle.std.proofs.lemmas.List.Elements.{All-nil, All-cons, All-append, All-push, All-head, All-tail}
 use Rattle.gq_cells.specs.declared.rows.Span.{Span}
 use Rattle.gq_row.specs.declared.value.Value.{Value}
@@ -129,19 +129,3 @@ pub left_there : {X : Type 0} (xs ys : List X) (i : ℕ) (d : X) → drop i xs �
 left_there xs ys i d h =
     let here : i + 0 ≡ i = omega arith in
     ap (λ k. slice_index_or xs k d) (sym here) ∙ sym (get_or-drop i xs 0 d) ∙ ap (λ l. slice_index_or l 0 d) h ∙ get_or-drop i ys 0 d ∙ ap (λ k. slice_index_or ys k d) here
-
--- ---- one element more, which is then overwritten
-
-last_set : {X : Type 0} (xs ys : List X) (v : X) → length ys ≡ 1 → slice_set (xs ++ ys) (length xs) v ≡ xs ++ v ∷ []
-last_set [] [] v h = absurd (omega (arith, h))
-last_set [] (y ∷ []) v h = refl
-last_set [] (y ∷ z ∷ ys) v h = absurd (omega (arith, h))
-last_set (x ∷ xs) ys v h = ap (λ l. x ∷ l) (last_set xs ys v h)
-
-pub set_after : {X : Type 0} (xs ys now : List X) (place : ℕ) (v : X) → place ≡ length xs → now ≡ take (place + 1) xs ++ ys → length now ≡ place + 1
-    → slice_set now place v ≡ xs ++ v ∷ []
-set_after xs ys now place v at are long =
-    let all : take (place + 1) xs ≡ xs = take_all (place + 1) xs (omega (arith, at)) in
-    let whole : now ≡ xs ++ ys = are ∙ ap (λ l. l ++ ys) all in
-    let one : length ys ≡ 1 = omega (arith, at, long, ap length whole, length-append xs ys) in
-    (λ i. slice_set (whole i) (at i) v) ∙ last_set xs ys v one

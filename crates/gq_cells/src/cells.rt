@@ -176,12 +176,14 @@ impl Cells {
         ensures pushed { OnOk result (self.new ≡ self.old ++ value.old ∷ []) }
         ensures unchanged { OnErr result (self.new ≡ self.old) }
     {
-        match &mut self.stored {
-            Stored::Numbers(numbers) => {
-                if let Value::Int(n) = value {
-                    return push_number(numbers, *n);
-                }
+        // Most columns have only numbers, so these are tried first.
+        if let Value::Int(n) = value {
+            if let Stored::Numbers(numbers) = &mut self.stored {
+                return push_number(numbers, *n);
             }
+        }
+        match &mut self.stored {
+            Stored::Numbers(_) => {}
             Stored::Nullable(numbers) => {
                 if let Some(number) = number_of(value) {
                     return push_nullable(numbers, number);
@@ -436,14 +438,12 @@ fn push_nullable(numbers: &mut Vec<Option<i64>>, number: Option<i64>) -> Result<
     Ok(())
 }
 
-#[inline]
+#[inline(always)]
 pub(crate) fn push_value(values: &mut Vec<Value>, value: &mut Value) -> Result<(), AllocError>
     ensures pushed { OnOk result (values.new.items ≡ values.old.items ++ value.old ∷ []) }
     ensures unchanged { OnErr result (values.new.items ≡ values.old.items) }
 {
-    let place = values.len();
-    values.resize_with(place + 1, || Value::Null)?;
-    mem::swap(&mut values[place], value);
+    values.push(mem::replace(value, Value::Null))?;
     Ok(())
 }
 
