@@ -4,6 +4,7 @@ use Rattle.std.proofs.Math.Nat.{div-div-eq-div-mul, div-one, two-pow-succ, zero-
 use Rattle.std.proofs.lemmas.Nat.{shr-shr}
 use Rattle.std.proofs.lemmas.List.{drop-drop, drop-take, length-take-le}
 use Rattle.std.proofs.lemmas.Simd.{leading_from_mask_l, trailing_mask_l}
+use Rattle.std.specs.Prelude.{Option, Some, None, IfSome, IfNone}
 use Rattle.std.specs.List.{position_or_len}
 use Rattle.std.specs.Simd.Lanes.{mask_l}
 use lib.Count.{count_trailing_zeros}
@@ -86,3 +87,13 @@ block_covered text at bits k e le is = record {
   few = omega arith;
   bits = is ∙ ap (λ n. mask_l (map is_special (take n (drop at text)))) e;
 }
+
+-- ---- positions within a text
+
+pub some_at : (r : Option ℕ) (len p q : ℕ) → IfSome r (λ end. (end ≡ p) × (end < len)) → p ≡ q → IfSome r (λ end. (end < len) × (end ≡ q))
+some_at None len p q h e = tt
+some_at (Some end) len p q h e = (h.1, h.0 ∙ e)
+
+pub none_at : (r : Option ℕ) (len p q : ℕ) → IfNone r (len ≤ p) → p ≡ q → IfNone r (len ≤ q)
+none_at None len p q h e = omega (arith, h, e)
+none_at (Some end) len p q h e = tt

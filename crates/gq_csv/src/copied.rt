@@ -101,6 +101,7 @@ impl CopiedRecord {
 }
 
 /// Reads the next record into `copied`, and returns whether there was one.
+#[cold]
 pub(crate) fn copy_record<R: Read>(
     input: &mut Input<R>,
     copied: &mut CopiedRecord,

@@ -33,11 +33,7 @@ pub(crate) fn scan_record(
     spans.clear();
     let mut rest = *mask;
     let mut start = 0;
-    'fields: while start < text.len() {
-        let end = next_special(text, start, &mut rest);
-        if end >= text.len() {
-            break;
-        }
+    'fields: while let Some(end) = next_special(text, start, &mut rest) {
         let special = text[end];
         if special == b'"' {
             return Ok(Scan::Quoted);

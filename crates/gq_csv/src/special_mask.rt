@@ -1,5 +1,5 @@
 //! The special bytes of a text, found many at once.
-ghost use Rattle.std.specs.Prelude.{◌≡◌, ◌+◌, ◌≤◌, ◌<◌, drop, length};
+ghost use Rattle.std.specs.Prelude.{◌≡◌, ◌+◌, ◌≤◌, ◌<◌, IfNone, IfSome, drop, length};
 ghost use Rattle.std.specs.List.{position_or_len};
 ghost use Rattle.gq_csv.specs.Bytes.{is_special};
 ghost use Rattle.gq_csv.specs.Masks.{Covers};
@@ -56,26 +56,37 @@ impl SpecialMask {
     }
 }
 
-/// The position of the first special byte from `from` on, or the text's length. `mask` covers bytes from
-/// `from` on, and afterwards those that follow the special byte.
+/// The position of the first special byte from `from` on, if there is one. `mask` covers bytes from `from`
+/// on, and afterwards those that follow the special byte.
 #[inline(always)]
-pub(crate) fn next_special(text: &[u8], from: usize, mask: &mut SpecialMask) -> usize
+pub(crate) fn next_special(text: &[u8], from: usize, mask: &mut SpecialMask) -> Option<usize>
     requires within { from ≤ length text.now }
     requires covers { Covers (drop from text.now) mask.old }
-    ensures found { result ≡ from + position_or_len is_special (drop from text.now) }
-    ensures covers { result < length text.now → Covers (drop (result + 1) text.now) mask.new }
+    ensures found { IfSome result (λ end. (end < length text.now)
+        × (end ≡ from + position_or_len is_special (drop from text.now))) }
+    ensures none { IfNone result (length text.now ≤ from + position_or_len is_special (drop from text.now)) }
+    ensures covers { IfSome result (λ end. Covers (drop (end + 1) text.now) mask.new) }
 {
     let mut at = from;
     'blocks: while mask.bits == 0 {
         at += mask.len;
         if text.len() - at < MASK_LANES {
             *mask = SpecialMask::none();
-            return find_bytewise(text, at);
+            return some_within(find_bytewise(text, at), text.len());
         }
         *mask = SpecialMask {
             bits: special_bits(&text[at..at + MASK_LANES]),
             len: MASK_LANES,
         };
     }
-    at + mask.take_first()
+    Some(at + mask.take_first())
+}
+
+// A position, if it is less than a length.
+#[inline(always)]
+fn some_within(position: usize, len: usize) -> Option<usize>
+    ensures found { IfSome result (λ end. (end ≡ position) × (end < len)) }
+    ensures none { IfNone result (len ≤ position) }
+{
+    if position < len { Some(position) } else { None }
 }

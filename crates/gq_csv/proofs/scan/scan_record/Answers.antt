@@ -6,26 +6,23 @@ fields-init c = record { read = rw c.clear.ensures.items (no_fields c.args.text.
 
 pub returns-then-special-ne44-clause-scanned : goal.returns-then-special-ne44-clause-scanned
 returns-then-special-ne44-clause-scanned c =
-    rw c.in_ok-push.ensures.items (last_field c.args.text.now c.fields.spans.items c.fields.start c.next_special-end.result c.fields.invariant.read c.next_special-end.ensures.found c.if-end-text.false c.if-special-eq34.false c.if-special-ne44.true)
+    rw c.in_ok-push.ensures.items (last_field c.args.text.now c.fields.spans.items c.fields.start c.in-Some.end c.fields.invariant.read c.in-Some.ensures.found.1 c.in-Some.ensures.found.0 c.if-special-eq34.false c.if-special-ne44.true)
 
 pub returns-then-special-ne44-clause-mask : goal.returns-then-special-ne44-clause-mask
-returns-then-special-ne44-clause-mask c = c.next_special-end.ensures.covers c.if-end-text.false
+returns-then-special-ne44-clause-mask c = c.in-Some.ensures.covers
 
 pub returns-then-special-eq34-clause-mask : goal.returns-then-special-eq34-clause-mask
 returns-then-special-eq34-clause-mask c = c.fields.invariant.whole
 
-pub returns-after-fields-clause-mask : goal.returns-after-fields-clause-mask
-returns-after-fields-clause-mask c = c.fields.invariant.whole
+pub returns-clause-mask : goal.returns-clause-mask
+returns-clause-mask c = c.fields.invariant.whole
 
-pub returns-then-end-text-clause-mask : goal.returns-then-end-text-clause-mask
-returns-then-end-text-clause-mask c = c.fields.invariant.whole
-
-pub next_special-end-requires-clause-covers : goal.next_special-end-requires-clause-covers
-next_special-end-requires-clause-covers c = c.fields.invariant.covers
+pub next_special-requires-clause-covers : goal.next_special-requires-clause-covers
+next_special-requires-clause-covers c = c.fields.invariant.covers
 
 pub fields-preserved : goal.fields-preserved
 fields-preserved c = record {
-  read = rw c.in_ok-push.ensures.items (one_field c.args.text.now c.fields.spans.items c.fields.start c.next_special-end.result c.fields.invariant.read c.next_special-end.ensures.found c.if-end-text.false c.if-special-eq34.false c.if-special-ne44.false);
-  covers = c.next_special-end.ensures.covers c.if-end-text.false;
+  read = rw c.in_ok-push.ensures.items (one_field c.args.text.now c.fields.spans.items c.fields.start c.in-Some.end c.fields.invariant.read c.in-Some.ensures.found.1 c.in-Some.ensures.found.0 c.if-special-eq34.false c.if-special-ne44.false);
+  covers = c.in-Some.ensures.covers;
   whole = c.fields.invariant.whole;
 }
