@@ -1,4 +1,4 @@
--- Bytes that are all ASCII, eight at a time.
+-- Bytes that are all ASCII, several at a time.
 use Rattle.std.proofs.Common.{◌≡◌, ◌∙◌, ◌+◌, ◌*◌, ◌%◌, ◌^◌, ◌≤◌, ◌&&◌, ℕ, zero, suc, Bool, true, false, cond, not, eqb, nat_lt, List, [], ◌∷◌, map, length, take, drop, replicate, w8, inl, inr, refl, sym, ap, arith}
 use Rattle.std.specs.Prelude.{nat_le}
 use Rattle.std.specs.List.{list_all}
@@ -31,10 +31,10 @@ none_large : (xs : List ℕ) → eqb (mask_l (map (λ x. nat_le 128 x) xs)) 0 �
 none_large [] = refl
 none_large (x ∷ xs) = no_bit (nat_le 128 x) (mask_l (map (λ x. nat_le 128 x) xs)) (list_all is_small xs) (none_large xs) ∙ ap (λ b. b && list_all is_small xs) (small_is x)
 
-pub lanes_small : (xs : List ℕ) → length xs ≡ 8 → eqb (mask_l (map (top 7) (zip2 (λ a b. cond (nat_le a b) 255 0) (replicate 8 128) xs)) % 2 ^ 64) 0 ≡ list_all is_small xs
-lanes_small xs eight =
-    ap (λ ms. eqb (mask_l ms % 2 ^ 64) 0) (tops_compared w8 nat_le (replicate 8 128) xs ∙ zip2_splat_left nat_le 128 8 xs eight)
-    ∙ ap (λ m. eqb m 0) (mask_l-mod (map (λ x. nat_le 128 x) xs) 64 (omega (arith, length-map xs (λ x. nat_le 128 x), eight))) ∙ none_large xs
+pub lanes_small : (n : ℕ) (xs : List ℕ) → length xs ≡ n → n ≤ 64 → eqb (mask_l (map (top 7) (zip2 (λ a b. cond (nat_le a b) 255 0) (replicate n 128) xs)) % 2 ^ 64) 0 ≡ list_all is_small xs
+lanes_small n xs long few =
+    ap (λ ms. eqb (mask_l ms % 2 ^ 64) 0) (tops_compared w8 nat_le (replicate n 128) xs ∙ zip2_splat_left nat_le 128 n xs long)
+    ∙ ap (λ m. eqb m 0) (mask_l-mod (map (λ x. nat_le 128 x) xs) 64 (omega (arith, length-map xs (λ x. nat_le 128 x), long, few))) ∙ none_large xs
 
 -- ---- all bytes
 
@@ -42,20 +42,20 @@ module _ (bs : List ℕ) where
   split : (i : ℕ) → list_all is_small bs ≡ (list_all is_small (take i bs) && list_all is_small (drop i bs))
   split i = ap (list_all is_small) (sym (take-append-drop i bs)) ∙ list_all-append is_small (take i bs) (drop i bs)
 
-  pub some_large : (i : ℕ) → list_all is_small (take i bs) ≡ true → list_all is_small (take 8 (drop i bs)) ≡ false → false ≡ list_all is_small bs
-  some_large i front here =
-      let behind : list_all is_small (drop i bs) ≡ false = ap (list_all is_small) (sym (take-append-drop 8 (drop i bs))) ∙ list_all-append is_small (take 8 (drop i bs)) (drop 8 (drop i bs)) ∙ ap (λ b. b && list_all is_small (drop 8 (drop i bs))) here in
+  pub some_large : (n i : ℕ) → list_all is_small (take i bs) ≡ true → list_all is_small (take n (drop i bs)) ≡ false → false ≡ list_all is_small bs
+  some_large n i front here =
+      let behind : list_all is_small (drop i bs) ≡ false = ap (list_all is_small) (sym (take-append-drop n (drop i bs))) ∙ list_all-append is_small (take n (drop i bs)) (drop n (drop i bs)) ∙ ap (λ b. b && list_all is_small (drop n (drop i bs))) here in
       sym (split i ∙ (λ k. front k && behind k))
 
-  pub eight_more : (i : ℕ) → list_all is_small (take i bs) ≡ true → list_all is_small (take 8 (drop i bs)) ≡ true → list_all is_small (take (i + 8) bs) ≡ true
-  eight_more i front here = ap (list_all is_small) (take-add i 8 bs) ∙ list_all-append is_small (take i bs) (take 8 (drop i bs)) ∙ (λ k. front k && here k)
+  pub more_small : (n i : ℕ) → list_all is_small (take i bs) ≡ true → list_all is_small (take n (drop i bs)) ≡ true → list_all is_small (take (i + n) bs) ≡ true
+  more_small n i front here = ap (list_all is_small) (take-add i n bs) ∙ list_all-append is_small (take i bs) (take n (drop i bs)) ∙ (λ k. front k && here k)
 
-  pub last_eight : (i last : ℕ) → last ≤ i → last + 8 ≡ length bs → list_all is_small (take i bs) ≡ true → list_all is_small (take 8 (drop last bs)) ≡ list_all is_small bs
-  last_eight i last until end front =
+  pub last_small : (n i last : ℕ) → last ≤ i → last + n ≡ length bs → list_all is_small (take i bs) ≡ true → list_all is_small (take n (drop last bs)) ≡ list_all is_small bs
+  last_small n i last until end front =
       let parts = and_parts (list_all is_small (take last (take i bs))) (list_all is_small (drop last (take i bs)))
       (sym (list_all-append is_small (take last (take i bs)) (drop last (take i bs))) ∙ ap (list_all is_small) (take-append-drop last (take i bs)) ∙ front) in
       let before : list_all is_small (take last bs) ≡ true = ap (list_all is_small) (sym (take-take last i bs until)) ∙ parts.0 in
-      let behind : take 8 (drop last bs) ≡ drop last bs = take_all 8 (drop last bs) (omega (arith, length-drop last bs)) in
+      let behind : take n (drop last bs) ≡ drop last bs = take_all n (drop last bs) (omega (arith, length-drop last bs)) in
       ap (list_all is_small) behind ∙ sym (split last ∙ ap (λ b. b && list_all is_small (drop last bs)) before)
 
 -- ASCII is UTF-8

@@ -1,5 +1,5 @@
 -- Values moved to their places come to the row in the order of columns.
-use Rattle.std.proofs.Common.{◌≡◌, ◌≢◌, ◌∙◌, ◌+◌, ◌<◌, ◌≤◌, ℕ, Bool, true, false, cond, List, [], ◌∷◌, length, map, drop, get_or, set, Result, Ok, Err, eqb, All, refl, sym, ap, suc, arith}
+use Rattle.std.proofs.Common.{◌≡◌, ◌≢◌, ◌∙◌, ◌+◌, ◌<◌, ◌≤◌, ℕ, Bool, true, false, cond, List, [], ◌∷◌, length, map, drop, get_or, set, Result, Ok, Err, eqb, All, refl, sym, ap, zero, suc, arith}
 use Rattle.std.specs.Prelude.{nat_eq, ◌||◌}
 use Rattle.std.specs.List.{list_any}
 use Rattle.std.proofs.lemmas.Bool.Decides.{nat_tests}
@@ -114,6 +114,19 @@ pub one_more : (most number : ℕ) (columns : List Column) (places : List ℕ) (
 unfolding values_of
 one_more most number columns places fields row i value h k e =
     rw (drop_more places i 0 h, drop_more fields i [] k, e) (filled_first (values_of most number (map (kind_at columns) (drop (i + 1) places)) (drop (i + 1) fields)) (get_or places i 0) (drop (i + 1) places) value row)
+
+pub one_written : (most number : ℕ) (columns : List Column) (places : List ℕ) (fields : List (List ℕ)) (row now : List Value) (i : ℕ) (value : Value) (all : Result (List Value) LoadRefusal) → now ≡ set row (get_or places i 0) value
+    → i < length places → i < length fields → value_of most number (kind_at columns (get_or places i 0)) (get_or fields i []) ≡ Ok value
+    → length row ≡ length columns → finished most number columns (drop i places) (drop i fields) row ≡ all
+    → (length now ≡ length columns) × (finished most number columns (drop (i + 1) places) (drop (i + 1) fields) now ≡ all)
+one_written most number columns places fields row now i value all is h k e size so_far =
+    rw is (length-set row (get_or places i 0) value ∙ size, sym (one_more most number columns places fields row i value h k e) ∙ so_far)
+
+pub set_twice : (row : List Value) (place : ℕ) (a b : Value) → set (set row place a) place b ≡ set row place b
+set_twice [] zero a b = refl
+set_twice [] (suc place) a b = refl
+set_twice (value ∷ row) zero a b = refl
+set_twice (value ∷ row) (suc place) a b = ap (λ l. value ∷ l) (set_twice row place a b)
 
 pub one_bad : (most number : ℕ) (columns : List Column) (places : List ℕ) (fields : List (List ℕ)) (row : List Value) (i : ℕ) (fault : LoadRefusal) → i < length places → i < length fields
     → value_of most number (kind_at columns (get_or places i 0)) (get_or fields i []) ≡ Err fault

@@ -1,5 +1,5 @@
 //! Fields of data records as values.
-ghost use Rattle.std.specs.Prelude.{◌≡◌, IsUtf8, MatchOption, bytes_eq};
+ghost use Rattle.std.specs.Prelude.{◌≡◌, ◌≤◌, ℕ, true, false, IsUtf8, IfSome, MatchOption, Ok, bytes_eq, length};
 ghost use Rattle.gq_row.specs.declared.value.Value.TheVariants as variant;
 ghost use Rattle.gq_load.specs.Answers.{Gives};
 ghost use Rattle.gq_load.specs.Fields.{is_null_field, int_or_null, int_value, null_field, text_value, value_of};
@@ -15,10 +15,54 @@ use std::str;
 /// The field that is null in every column.
 pub(crate) const NULL: &[u8] = b"\\N";
 
+/// Writes the value of a field in a column of a kind over another value, if it is a few digits or an ASCII
+/// text, as most are; else what `value` holds is unspecified. Returns whether it did.
+#[tactic(auto, unfolding(crate::specs::Fields::value_of), using(crate::proofs::Spelling::spelled_not_null))]
+#[inline(always)]
+pub(crate) fn write_plain(
+    alloc: Global,
+    longest: usize,
+    kind: Kind,
+    field: &[u8],
+    value: &mut Value,
+) -> bool
+    ensures { result ≡ true → (number : ℕ) → value_of longest number kind field.now ≡ Ok value.new }
+{
+    match kind {
+        Kind::Int => match plain_number(field) {
+            Some(n) => {
+                value.write_number(n);
+                true
+            }
+            None => false,
+        },
+        Kind::Text => match plain_text(longest, field) {
+            Some(text) => value.write_text(alloc, text).is_ok(),
+            None => false,
+        },
+        Kind::NoCase => match plain_text(longest, field) {
+            Some(text) => value.write_without_case(alloc, text).is_ok(),
+            None => false,
+        },
+    }
+}
+
+// The text of a field that is ASCII, not too long, and not null.
+#[inline(always)]
+fn plain_text(longest: usize, field: &[u8]) -> Option<&str>
+    ensures { IfSome result (λ text. (text.now ≡ field.now) × (bytes_eq field.now null_field ≡ false)
+        × ((number : ℕ) → text_value longest number field.now ≡ Ok (variant.Text field.now))) }
+{
+    if is_null_mark(field) || field.len() > longest || !is_ascii(field) {
+        return None;
+    }
+    Some(unsafe { str::from_utf8_unchecked(field) })
+}
+
 /// Writes the value of a field in a column of a kind over another value; a text reuses the memory of a
 /// text of the same kind. A text has at most `longest` bytes; `number` is that of the record.
 #[tactic(auto, unfolding(crate::specs::Fields::value_of))]
-#[inline(always)]
+#[cold]
 pub(crate) fn write_value(
     alloc: Global,
     longest: usize,
@@ -29,42 +73,15 @@ pub(crate) fn write_value(
 ) -> Result<(), LoadRefusal>
     ensures { Gives (λ _. value.new) result (value_of longest number kind field.now) }
 {
-    match kind {
-        Kind::Int => write_int(number, field, value),
-        Kind::Text | Kind::NoCase if is_null_mark(field) => {
-            *value = Value::Null;
-            Ok(())
-        }
-        Kind::Text => Ok(value.write_text(alloc, text_of(longest, number, field)?)?),
-        Kind::NoCase => Ok(value.write_without_case(alloc, text_of(longest, number, field)?)?),
-    }
-}
-
-// Writes the value of a field in a column of numbers. Most are a few digits.
-#[tactic(auto, using(crate::proofs::Spelling::spelled_not_null))]
-#[inline(always)]
-fn write_int(number: u64, field: &[u8], value: &mut Value) -> Result<(), LoadRefusal>
-    ensures { Gives (λ _. value.new) result (int_or_null number field.now) }
-{
-    match plain_number(field) {
-        Some(n) => {
-            value.write_number(n);
-            Ok(())
-        }
-        None => write_other_int(number, field, value),
-    }
-}
-
-// Writes the value of any field in a column of numbers.
-#[cold]
-fn write_other_int(number: u64, field: &[u8], value: &mut Value) -> Result<(), LoadRefusal>
-    ensures { Gives (λ _. value.new) result (int_or_null number field.now) }
-{
-    if is_null(Kind::Int, field) {
+    if is_null(kind, field) {
         *value = Value::Null;
         return Ok(());
     }
-    value.write_number(number_of(number, field)?);
+    match kind {
+        Kind::Int => value.write_number(number_of(number, field)?),
+        Kind::Text => value.write_text(alloc, text_of(longest, number, field)?)?,
+        Kind::NoCase => value.write_without_case(alloc, text_of(longest, number, field)?)?,
+    }
     Ok(())
 }
 

@@ -4,7 +4,7 @@ ghost use Rattle.gq_load.specs.Answers.{Gives};
 ghost use Rattle.gq_load.specs.Fields.{null_field};
 ghost use Rattle.gq_load.specs.Payloads.{cells_of, completed, row_of};
 
-use crate::field::{NULL, write_value};
+use crate::field::{NULL, write_plain, write_value};
 use crate::load_refusal::LoadRefusal;
 use crate::row_format::RowFormat;
 use crate::short_records::Short;
@@ -56,6 +56,7 @@ fn is_whole(short: Short, count: usize, byte_record: &Record<'_>) -> bool
 
 /// Overwrites `cells` with the values of a record's fields, each in its column's place; null if the record has
 /// no such field. A header names all columns, so each cell is overwritten.
+#[inline(always)]
 fn write_cells(
     alloc: Global,
     format: &RowFormat<'_>,
@@ -76,19 +77,17 @@ fn write_cells(
     let longest = format.limits.bounds.text;
     for i in 0..places.len() {
         let place = places[i];
-        write_value(
-            alloc,
-            longest,
-            number,
-            columns[place].kind,
-            field_or_null(byte_record, i),
-            &mut cells[place],
-        )?;
+        let kind = columns[place].kind;
+        let field = field_or_null(byte_record, i);
+        if !write_plain(alloc, longest, kind, field, &mut cells[place]) {
+            write_value(alloc, longest, number, kind, field, &mut cells[place])?;
+        }
     }
     Ok(())
 }
 
 /// A field of a record; the null field if the record has no such field.
+#[inline(always)]
 fn field_or_null<'a>(byte_record: &'a Record<'_>, i: usize) -> &'a [u8]
     ensures { result.now ≡ slice_index_or byte_record.now i null_field }
 {

@@ -171,6 +171,7 @@ fn next_row<R: Read>(
 }
 
 // Reads all records after the first `number` for their first fault.
+#[cold]
 fn check_rest<R: Read>(
     alloc: Global,
     format: &RowFormat<'_>,

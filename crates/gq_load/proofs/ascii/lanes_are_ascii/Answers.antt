@@ -1,7 +1,7 @@
-use Rattle.std.proofs.Common.{take, drop}
+use Rattle.std.proofs.Common.{take, drop, arith}
 use Rattle.std.proofs.lemmas.Simd.{length-chunk}
 use Rattle.gq_load.proofs.AsciiLemmas.{lanes_small}
 use Rattle.gq_load.proofs.ascii.lanes_are_ascii.Goals as goal
 
 pub returns : goal.returns
-returns c = lanes_small (take 8 (drop c.args.at c.args.bytes.now)) (length-chunk c.args.at 8 c.args.bytes.now c.requires)
+returns c = lanes_small 8 (take 8 (drop c.args.at c.args.bytes.now)) (length-chunk c.args.at 8 c.args.bytes.now c.requires) (omega arith)

@@ -1,13 +1,13 @@
 use Rattle.std.proofs.Common.{◌≡◌, ◌∙◌, ◌<◌, ◌≤◌, [], All, length, get_or, Ok, true, sym, arith}
-use Rattle.std.proofs.lemmas.List.{length-set}
 use Rattle.std.proofs.lemmas.Result.{err_from_is_err_and}
 use Rattle.gq_load.specs.Fields.{value_of}
 use Rattle.gq_load.specs.Headers.{are_all}
 use Rattle.gq_load.specs.declared.short_records.Short.TheVariants.{Completed}
 use Rattle.gq_load.specs.Payloads.{cells_of, completed, kind_at}
 use Rattle.gq_load.proofs.Completing.{field_at_place, size}
-use Rattle.gq_load.proofs.Filling.{once_all, one_more, one_bad, no_more, from_any, kind_is}
+use Rattle.gq_load.proofs.Filling.{once_all, one_bad, one_written, set_twice, no_more, from_any, kind_is}
 use Rattle.gq_load.proofs.Onward.{carried}
+use Rattle.gq_load.proofs.row.write_cells.Goals.{then-not-write_plain+in_ok-write_value, else-not-write_plain}
 use Rattle.gq_load.proofs.row.write_cells.Goals as goal
 
 pub returns-in_err-write_value : goal.returns-in_err-write_value
@@ -25,9 +25,9 @@ returns-in_err-write_value c =
     let place = get_or places c.loop-i.i 0 in
     let h : c.loop-i.i < length places = omega (arith, c.loop-i-test.true) in
     let k : c.loop-i.i < length fields = omega (arith, h, many) in
-    let at : c.field_or_null.result.now ≡ get_or fields c.loop-i.i [] = c.field_or_null.ensures ∙ field_at_place (length places) c.loop-i.i given h in
+    let at : c.field_or_null-field.result.now ≡ get_or fields c.loop-i.i [] = c.field_or_null-field.ensures ∙ field_at_place (length places) c.loop-i.i given h in
     let kind = kind_is columns place c.index-columns-place.result (within c.loop-i.i 0 h) in
-    rw (p.1, p.2, ← c.places-places.ensures.value, ← c.columns-columns.ensures) (carried e (value_of text c.args.number (get_or columns place c.index-columns-place.result).kind c.field_or_null.result.now) (cells_of text c.args.number columns places fields)
+    rw (p.1, p.2, ← c.places-places.ensures.value, ← c.columns-columns.ensures) (carried e (value_of text c.args.number (get_or columns place c.index-columns-place.result).kind c.field_or_null-field.result.now) (cells_of text c.args.number columns places fields)
     (λ bad. sym c.loop-i.invariant.finishes ∙ one_bad text c.args.number columns places fields c.loop-i.cells c.loop-i.i e h k (rw (kind, ← at) bad))
     c.in_err-write_value.ensures)
 
@@ -59,14 +59,22 @@ loop-i-preserved c =
     let place = get_or places c.loop-i.i 0 in
     let h : c.loop-i.i < length places = omega (arith, c.loop-i-test.true) in
     let k : c.loop-i.i < length fields = omega (arith, h, many) in
-    let at : c.field_or_null.result.now ≡ get_or fields c.loop-i.i [] = c.field_or_null.ensures ∙ field_at_place (length places) c.loop-i.i given h in
+    let at : c.field_or_null-field.result.now ≡ get_or fields c.loop-i.i [] = c.field_or_null-field.ensures ∙ field_at_place (length places) c.loop-i.i given h in
     let kind = kind_is columns place c.index-columns-place.result (within c.loop-i.i 0 h) in
-    let value = c.write_value.new.value in
-    let good : value_of text c.args.number (kind_at columns place) (get_or fields c.loop-i.i []) ≡ Ok value = rw (kind, ← at) c.in_ok-write_value.ensures in
-    record {
-      size = length-set c.loop-i.cells place value ∙ c.loop-i.invariant.size;
-      finishes = sym (one_more text c.args.number columns places fields c.loop-i.cells c.loop-i.i value h k good) ∙ c.loop-i.invariant.finishes;
-    }
+    let all = cells_of text c.args.number columns places fields in
+    elim c.if-not-write_plain.branch [
+      | then-not-write_plain+in_ok-write_value w ↦
+          let value = w.write_value.new.value in
+          let now = w.cells-is ∙ set_twice c.loop-i.cells place c.write_plain.new.value value in
+          let good : value_of text c.args.number (kind_at columns place) (get_or fields c.loop-i.i []) ≡ Ok value = rw (kind, ← at) w.in_ok-write_value.ensures in
+          let done = one_written text c.args.number columns places fields c.loop-i.cells c.if-not-write_plain.cells c.loop-i.i value all now h k good c.loop-i.invariant.size c.loop-i.invariant.finishes in
+          record { size = done.0; finishes = done.1 }
+      | else-not-write_plain w ↦
+          let value = c.write_plain.new.value in
+          let good : value_of text c.args.number (kind_at columns place) (get_or fields c.loop-i.i []) ≡ Ok value = rw (kind, ← at) (c.write_plain.ensures w.if-not-write_plain.false c.args.number) in
+          let done = one_written text c.args.number columns places fields c.loop-i.cells c.if-not-write_plain.cells c.loop-i.i value all w.cells-is h k good c.loop-i.invariant.size c.loop-i.invariant.finishes in
+          record { size = done.0; finishes = done.1 }
+    ]
 
 pub returns : goal.returns
 returns c =
