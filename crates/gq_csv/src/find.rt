@@ -1,5 +1,5 @@
 //! Where the plain bytes of a text end.
-ghost use Rattle.std.specs.Prelude.{◌≡◌, ◌+◌, ◌≤◌, drop, length};
+ghost use Rattle.std.specs.Prelude.{◌≡◌, ◌+◌, ◌≤◌, false, drop, length};
 ghost use Rattle.std.specs.List.{position_or_len, prefix_len};
 ghost use Rattle.gq_csv.specs.Bytes.{ends_line, is_special};
 
@@ -42,6 +42,17 @@ pub(crate) fn find_bytewise(text: &[u8], from: usize) -> usize
         }
     }
     text.len()
+}
+
+/// Whether the first byte of a text ends a line.
+#[inline(always)]
+pub(crate) fn starts_with_line_end(text: &[u8]) -> bool
+    ensures { result ≡ false → prefix_len ends_line text.now ≡ 0 }
+{
+    match text.first() {
+        Some(byte) => ends_line(*byte),
+        None => false,
+    }
 }
 
 /// How many bytes at the start of a text end lines.

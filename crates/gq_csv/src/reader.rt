@@ -1,7 +1,9 @@
 //! The records of a source, one after the other.
-ghost use Rattle.std.specs.Prelude.{◌≡◌, true, false, IfOk, OnOk, option_map, length};
+ghost use Rattle.std.specs.Prelude.{◌≡◌, true, false, IfOk, OnOk, option_map, drop, length};
 ghost use Rattle.std.specs.Io.KnownBytes.{Keeps};
 ghost use Rattle.csv.specs.Reading.{is_bom, strip_bom};
+ghost use Rattle.std.specs.List.{prefix_len};
+ghost use Rattle.gq_csv.specs.Bytes.{ends_line};
 ghost use Rattle.gq_csv.specs.Fields.{AreWithin, fields_in};
 ghost use Rattle.gq_csv.specs.Inputs.{known};
 ghost use Rattle.gq_csv.specs.Masks.{Covers};
@@ -9,7 +11,7 @@ ghost use Rattle.gq_csv.specs.Reads.{Reads, SameRecords};
 ghost use Rattle.gq_csv.specs.Scanning.{Found};
 
 use crate::copied::{CopiedRecord, copy_record};
-use crate::find::count_line_ends;
+use crate::find::{count_line_ends, starts_with_line_end};
 use crate::input::Input;
 use crate::read_error::ReadError;
 use crate::record::Record;
@@ -83,14 +85,12 @@ impl<R: Read> RecordReader<R> {
     pub fn read(&mut self) -> Result<bool, ReadError>
         ensures { IfOk result (λ found. Took self.old.rest found self.new.fields self.new.rest) }
     {
-        let mut mask = self.mask;
-        self.mask = SpecialMask::none();
         self.is_copied = true;
-        if find_record(&mut self.input, &mut mask, &mut self.spans)? {
-            self.mask = mask;
+        if find_record(&mut self.input, &mut self.mask, &mut self.spans)? {
             self.is_copied = false;
             return Ok(true);
         }
+        self.mask = SpecialMask::none();
         copy_record(&mut self.input, &mut self.copied)
     }
 
@@ -131,14 +131,14 @@ fn is_mark(a: u8, b: u8, c: u8) -> bool
 }
 
 // Finds the next record in place, if it has no quote and ends within the buffer. Else only line ends
-// before it are taken. `mask` covers the bytes that are read ahead, and again once a record is found.
+// before it are taken. `mask` covers the bytes that are read ahead, before and after.
 fn find_record<R: Read>(
     input: &mut Input<R>,
     mask: &mut SpecialMask,
     spans: &mut Vec<FieldSpan>,
 ) -> Result<bool, ReadError>
     requires { Covers input.old.ahead mask.old }
-    ensures mask { IfOk result (λ found. found ≡ true → Covers input.new.ahead mask.new) }
+    ensures mask { Covers input.new.ahead mask.new }
     ensures found { IfOk result (λ found. found ≡ true →
         Reads (known input.old) (known input.new) true (fields_in input.new.taken spans.new.items)) }
     ensures within { IfOk result (λ found. found ≡ true →
@@ -160,7 +160,7 @@ fn find_after_refill<R: Read>(
     mask: &mut SpecialMask,
     spans: &mut Vec<FieldSpan>,
 ) -> Result<bool, ReadError>
-    ensures mask { IfOk result (λ found. found ≡ true → Covers input.new.ahead mask.new) }
+    ensures mask { Covers input.new.ahead mask.new }
     ensures found { IfOk result (λ found. found ≡ true →
         Reads (known input.old) (known input.new) true (fields_in input.new.taken spans.new.items)) }
     ensures within { IfOk result (λ found. found ≡ true →
@@ -168,8 +168,8 @@ fn find_after_refill<R: Read>(
     ensures none { IfOk result (λ found. found ≡ false →
         SameRecords (known input.old) (known input.new)) }
 {
-    input.refill()?;
     *mask = SpecialMask::none();
+    input.refill()?;
     match take_record(input, mask, spans)? {
         Scan::Record(_) => Ok(true),
         Scan::Quoted | Scan::Cut => Ok(false),
@@ -185,14 +185,38 @@ fn take_record<R: Read>(
 ) -> Result<Scan, ReadError>
     requires { Covers input.old.ahead mask.old }
     ensures found { IfOk result (Found (known input.old) (known input.new) input.new.taken spans.new.items) }
-    ensures mask { IfOk result (λ _. Covers input.new.ahead mask.new) }
+    ensures mask { Covers input.new.ahead mask.new }
 {
-    let line_ends = count_line_ends(input.ahead());
-    input.take(line_ends);
-    mask.skip(line_ends);
+    skip_line_ends(input, mask);
     let found = scan_record(input.ahead(), mask, spans)?;
     if let Scan::Record(len) = found {
         input.take(len);
     }
     Ok(found)
+}
+
+// Takes the line ends before a record: after a line that ends by CR and LF, or a blank line, there are some.
+#[inline(always)]
+fn skip_line_ends<R: Read>(input: &mut Input<R>, mask: &mut SpecialMask)
+    requires { Covers input.old.ahead mask.old }
+    ensures ahead { input.new.ahead ≡ drop (prefix_len ends_line input.old.ahead) input.old.ahead }
+    ensures after { input.new.after ≡ input.old.after }
+    ensures mask { Covers input.new.ahead mask.new }
+{
+    if starts_with_line_end(input.ahead()) {
+        take_line_ends(input, mask);
+    }
+}
+
+// Takes the line ends that are read ahead.
+#[inline(always)]
+fn take_line_ends<R: Read>(input: &mut Input<R>, mask: &mut SpecialMask)
+    requires { Covers input.old.ahead mask.old }
+    ensures ahead { input.new.ahead ≡ drop (prefix_len ends_line input.old.ahead) input.old.ahead }
+    ensures after { input.new.after ≡ input.old.after }
+    ensures mask { Covers input.new.ahead mask.new }
+{
+    let line_ends = count_line_ends(input.ahead());
+    input.take(line_ends);
+    mask.skip(line_ends);
 }

@@ -1,5 +1,5 @@
 //! The next record, found in place.
-ghost use Rattle.std.specs.Prelude.{IfOk, drop};
+ghost use Rattle.std.specs.Prelude.{IfOk, OnErr, drop};
 ghost use Rattle.gq_csv.specs.Masks.{Covers};
 ghost use Rattle.gq_csv.specs.Scanning.{Scanned, len_of};
 
@@ -29,6 +29,7 @@ pub(crate) fn scan_record(
     requires { Covers text.now mask.old }
     ensures scanned { IfOk result (λ found. Scanned text.now spans.new.items found) }
     ensures mask { IfOk result (λ found. Covers (drop (len_of found) text.now) mask.new) }
+    ensures kept { OnErr result (Covers text.now mask.new) }
 {
     spans.clear();
     let mut rest = *mask;
