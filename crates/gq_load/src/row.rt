@@ -45,19 +45,68 @@ pub(crate) fn write_row(
 }
 
 /// Whether a record has a field for each of the header's, once it is completed.
+#[inline(always)]
 fn is_whole(short: Short, count: usize, byte_record: &Record<'_>) -> bool
     ensures { result ≡ (length (completed short count byte_record.now) == count) }
 {
+    if byte_record.len() == count {
+        return true;
+    }
     match short {
-        Short::Refused => byte_record.len() == count,
-        Short::Completed => byte_record.len() <= count,
+        Short::Refused => false,
+        Short::Completed => byte_record.len() < count,
     }
 }
 
 /// Overwrites `cells` with the values of a record's fields, each in its column's place; null if the record has
-/// no such field. A header names all columns, so each cell is overwritten.
+/// no such field. A header names all columns, so each cell is overwritten. Most records have all fields, and for
+/// these the compiler then leaves out that question for each field.
 #[inline(always)]
 fn write_cells(
+    alloc: Global,
+    format: &RowFormat<'_>,
+    number: u64,
+    byte_record: &Record<'_>,
+    cells: &mut [Value],
+) -> Result<(), LoadRefusal>
+    requires whole { length format.now.header ≡ length format.now.schema.now.columns }
+    requires count { length byte_record.now ≤ length format.now.header }
+    requires size { length cells.old ≡ length format.now.schema.now.columns }
+    ensures { Gives (λ _. cells.new) result
+        (cells_of format.now.limits.now.bounds.text number format.now.schema.now.columns
+        format.now.header
+        (completed Short.Completed (length format.now.header) byte_record.now)) }
+{
+    if byte_record.len() == format.header.places().len() {
+        write_each(alloc, format, number, byte_record, cells)
+    } else {
+        write_short(alloc, format, number, byte_record, cells)
+    }
+}
+
+// The same of a record that has fewer fields than the header.
+#[cold]
+fn write_short(
+    alloc: Global,
+    format: &RowFormat<'_>,
+    number: u64,
+    byte_record: &Record<'_>,
+    cells: &mut [Value],
+) -> Result<(), LoadRefusal>
+    requires whole { length format.now.header ≡ length format.now.schema.now.columns }
+    requires count { length byte_record.now ≤ length format.now.header }
+    requires size { length cells.old ≡ length format.now.schema.now.columns }
+    ensures { Gives (λ _. cells.new) result
+        (cells_of format.now.limits.now.bounds.text number format.now.schema.now.columns
+        format.now.header
+        (completed Short.Completed (length format.now.header) byte_record.now)) }
+{
+    write_each(alloc, format, number, byte_record, cells)
+}
+
+// The same, field by field.
+#[inline(always)]
+fn write_each(
     alloc: Global,
     format: &RowFormat<'_>,
     number: u64,

@@ -7,8 +7,8 @@ use Rattle.gq_load.specs.Payloads.{cells_of, completed, kind_at}
 use Rattle.gq_load.proofs.Completing.{field_at_place, size}
 use Rattle.gq_load.proofs.Filling.{once_all, one_bad, one_written, set_twice, no_more, from_any, kind_is}
 use Rattle.gq_load.proofs.Onward.{carried}
-use Rattle.gq_load.proofs.row.write_cells.Goals.{then-not-write_plain+in_ok-write_value, else-not-write_plain}
-use Rattle.gq_load.proofs.row.write_cells.Goals as goal
+use Rattle.gq_load.proofs.row.write_each.Goals.{then-not-write_plain+in_ok-write_value, else-not-write_plain}
+use Rattle.gq_load.proofs.row.write_each.Goals as goal
 
 pub returns-in_err-write_value : goal.returns-in_err-write_value
 returns-in_err-write_value c =

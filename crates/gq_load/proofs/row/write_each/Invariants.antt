@@ -2,7 +2,7 @@ use Rattle.std.proofs.Common.{◌≡◌, length, drop}
 use Rattle.gq_load.specs.declared.short_records.Short.TheVariants.{Completed}
 use Rattle.gq_load.specs.Payloads.{cells_of, completed}
 use Rattle.gq_load.proofs.Filling.{finished}
-use Rattle.gq_load.proofs.row.write_cells.Given as goal
+use Rattle.gq_load.proofs.row.write_each.Given as goal
 
 abbrev pub invariant-loop-i : goal.invariant-loop-i
 invariant-loop-i l = record {
