@@ -82,6 +82,7 @@ impl<R: Read> RecordReader<R> {
 
     /// Reads the next record, and returns whether there was one. After an error the records that
     /// are left are unspecified.
+    #[inline(always)]
     pub fn read(&mut self) -> Result<bool, ReadError>
         ensures { IfOk result (λ found. Took self.old.rest found self.new.fields self.new.rest) }
     {
@@ -132,6 +133,7 @@ fn is_mark(a: u8, b: u8, c: u8) -> bool
 
 // Finds the next record in place, if it has no quote and ends within the buffer. Else only line ends
 // before it are taken. `mask` covers the bytes that are read ahead, before and after.
+#[inline(always)]
 fn find_record<R: Read>(
     input: &mut Input<R>,
     mask: &mut SpecialMask,

@@ -50,6 +50,7 @@ impl<H: KeyHash<Key>> KeyedRows<H> {
 
     // Replaces the row with the same key, or appends `row`, unless there would be more than `most`. It looks up
     // once, and a replacement doesn't allocate; `row` then has the replaced values.
+    #[inline(never)]
     pub(crate) fn put(
         &mut self,
         alloc: Global,

@@ -134,6 +134,7 @@ impl<H: KeyHash<Key> + Copy> Table<H> {
 
     /// As [`Table::upsert`], for a row that fits the columns and has no null in its key. What `row` holds then
     /// is unspecified; its memory can be reused for the next row.
+    #[inline(always)]
     pub fn put(&mut self, row: &mut Row, limits: &Limits) -> Result<(), TableRefusal>
         requires fits { IsTrue (fits_columns self.old.schema.columns row.old) }
         requires keyed { has_null self.old.schema.key row.old ≡ false }
@@ -203,6 +204,7 @@ impl<H: KeyHash<Key> + Copy> Table<H> {
 }
 
 // Appends a row, unless there would be more than `most`. Its texts move, and its memory can be reused.
+#[inline(always)]
 fn put_columnar(
     alloc: Global,
     rows: &mut ColumnStore,
