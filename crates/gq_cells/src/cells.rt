@@ -205,6 +205,18 @@ impl Cells {
         ensures pushed { OnOk result (self.new ≡ self.old ++ values.old) }
         ensures kept { self.new ≡ self.old ++ drop (length self.old) self.new }
     {
+        if let Stored::Tagged(cells) = &mut self.stored {
+            return cells.push_all(values);
+        }
+        self.push_each(alloc, values)
+    }
+
+    // As `push_all`, in each layout.
+    #[inline(always)]
+    fn push_each(&mut self, alloc: Global, values: &mut [Value]) -> Result<(), AllocError>
+        ensures pushed { OnOk result (self.new ≡ self.old ++ values.old) }
+        ensures kept { self.new ≡ self.old ++ drop (length self.old) self.new }
+    {
         for i in 0..values.len() {
             self.push(alloc, &mut values[i])?;
         }

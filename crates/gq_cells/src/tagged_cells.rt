@@ -1,5 +1,5 @@
 //! Numbers in eight bytes each, and texts out of line.
-ghost use Rattle.std.specs.Prelude.{◌≡◌, ◌<◌, ◌^◌, ◌++◌, ◌∷◌, ◌-ℤ◌, [], ℕ, pos, IfOk, IfNone, IfSome, IsOk, OnOk, OnErr, length, map, take, slice_index_or};
+ghost use Rattle.std.specs.Prelude.{◌≡◌, ◌<◌, ◌^◌, ◌++◌, ◌∷◌, ◌-ℤ◌, [], ℕ, pos, IfOk, IfNone, IfSome, IsOk, OnOk, OnErr, drop, length, map, take, slice_index_or};
 ghost use Rattle.gq_row.specs.declared.value.Value.TheVariants.{Null};
 ghost use Rattle.gq_row.specs.Order.{compare_keys};
 ghost use Rattle.gq_row.specs.Written.{IsInPlace};
@@ -93,6 +93,18 @@ impl TaggedCells {
         let place = self.overflow.len() as u64;
         push_value(&mut self.overflow, value)?;
         self.words.push(OVERFLOW + place)?;
+        Ok(())
+    }
+
+    // Moves `values` to the end. On error a prefix of them may have been appended.
+    #[inline(always)]
+    pub(crate) fn push_all(&mut self, values: &mut [Value]) -> Result<(), AllocError>
+        ensures pushed { OnOk result (self.new ≡ self.old ++ values.old) }
+        ensures kept { self.new ≡ self.old ++ drop (length self.old) self.new }
+    {
+        for i in 0..values.len() {
+            self.push(&mut values[i])?;
+        }
         Ok(())
     }
 

@@ -252,6 +252,19 @@ fn put_key(alloc: Global, cells: &mut Cells, key: Key) -> Result<(), AllocError>
     ensures put { OnOk result (cells.new ≡ cells.old ++ key) }
     ensures kept { cells.new ≡ cells.old ++ drop (length cells.old) cells.new }
 {
+    if key.len() > 2 {
+        let mut values = key.into_row(alloc)?.into_cells();
+        return cells.push_all(alloc, values.as_mut_slice());
+    }
+    put_short_key(alloc, cells, key)
+}
+
+// The same one by one, without an allocation for one or two values.
+#[inline(always)]
+fn put_short_key(alloc: Global, cells: &mut Cells, key: Key) -> Result<(), AllocError>
+    ensures put { OnOk result (cells.new ≡ cells.old ++ key) }
+    ensures kept { cells.new ≡ cells.old ++ drop (length cells.old) cells.new }
+{
     let mut key = key;
     for i in 0..key.len() {
         cells.push(alloc, &mut key.take(i))?;

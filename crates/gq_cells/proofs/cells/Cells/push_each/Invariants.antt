@@ -1,5 +1,5 @@
 use Rattle.std.proofs.Common.{◌≡◌, ◌++◌, length, take, drop}
-use Rattle.gq_cells.proofs.cells.Cells.push_all.Given as goal
+use Rattle.gq_cells.proofs.cells.Cells.push_each.Given as goal
 
 abbrev pub invariant-loop-i : goal.invariant-loop-i
 invariant-loop-i l = record {

@@ -1,7 +1,7 @@
 use Rattle.std.proofs.Common.{◌<◌, ◌∙◌, ◌++◌, ◌∷◌, [], length, take, slice_index_or, sym, ap, arith, append_assoc}
 use Rattle.std.proofs.lemmas.List.{length-set, take_more}
 use Rattle.gq_cells.proofs.RowsLemmas.{left_next, left_there}
-use Rattle.gq_cells.proofs.cells.Cells.push_all.Goals as goal
+use Rattle.gq_cells.proofs.tagged_cells.TaggedCells.push_all.Goals as goal
 
 pub loop-i-preserved : goal.loop-i-preserved
 loop-i-preserved c =

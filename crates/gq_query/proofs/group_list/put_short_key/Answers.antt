@@ -2,7 +2,7 @@ use Rattle.std.proofs.Common.{◌<◌, ◌+◌, ◌∙◌, ◌++◌, ◌∷◌, 
 use Rattle.std.proofs.lemmas.List.{length-set, take_more}
 use Rattle.gq_row.specs.declared.value.Value.TheVariants.{Null}
 use Rattle.gq_cells.proofs.RowsLemmas.{left_next, left_there}
-use Rattle.gq_query.proofs.group_list.put_key.Goals as goal
+use Rattle.gq_query.proofs.group_list.put_short_key.Goals as goal
 
 pub loop-i-preserved : goal.loop-i-preserved
 loop-i-preserved c =
