@@ -1,13 +1,13 @@
 -- Runs of groups whose prefixes tie.
-use Rattle.std.proofs.Common.{◌≡◌, ◌<◌, ◌≤◌, ◌+◌, ◌-◌, ℕ, Bool, false, List, [], ◌∷◌, ◌++◌, length, map, take, drop, get_or, All, Ordering, IsPermutation, inl, inr, refl, sym, ap, subst, ◌∙◌, arith}
+use Rattle.std.proofs.Common.{◌≡◌, ◌<◌, ◌≤◌, ◌+◌, ◌-◌, ℕ, suc, Bool, true, false, List, [], ◌∷◌, ◌++◌, length, map, take, drop, get_or, All, Ordering, IsPermutation, inl, inr, refl, sym, ap, subst, ◌∙◌, arith}
 use lib.ListN.{set}
 use borrow.Rule.Slice.PartMut.{mid_of, post_of, put_mid, put_same}
 use Rattle.std.specs.List.Sorted.{IsSorted, IsSortedBy, IsSortedByKey, IsSortedWithin}
 use Rattle.std.specs.Ordering.{is_lt, ordering_then}
-use Rattle.std.proofs.lemmas.List.{drop-map, get_or-append-add, get_or-map, get_or-set_other, get_or-set_same, get_or-take, get_or_append_left, length-drop, length-map, length-take-le, map-append, take-map, take_at}
+use Rattle.std.proofs.lemmas.List.{drop-map, get_or-append-add, get_or-drop, get_or-map, get_or-set_other, get_or-set_same, get_or-take, get_or_append_left, get_or_default, length-drop, length-map, length-take-le, map-append, take-map, take_at}
 use Rattle.std.proofs.lemmas.Bool.{cases_lt, cases_order}
-use Rattle.std.proofs.lemmas.List.Elements.{All-head, All-tail}
-use Rattle.std.proofs.lemmas.List.Sorted.{IsPermutation-put_mid, length_permutation}
+use Rattle.std.proofs.lemmas.List.Elements.{All-drop, All-head, All-tail, All-take}
+use Rattle.std.proofs.lemmas.List.Sorted.{All-permutation, IsPermutation-map, IsPermutation-put_mid, length_permutation}
 use Rattle.gq_query.specs.declared.sort_prefix.SortPrefix.{SortPrefix}
 use Rattle.gq_query.specs.declared.group_list.GroupSpan.{GroupSpan}
 use Rattle.gq_row.specs.declared.value.Value.{Value}
@@ -15,9 +15,11 @@ use Rattle.gq_row.specs.Order.{compare_keys}
 use Rattle.gq_row.specs.Rows.{cell}
 use Rattle.gq_cells.specs.declared.cell_ref.CellRef.{CellRef}
 use Rattle.gq_cells.specs.Cells.{value_of}
-use Rattle.gq_query.specs.SortPrefixes.{IsValuePrefix, without_bytes}
-use Rattle.gq_query.specs.GroupSpans.{HasPrefix, compare_at, key_at, with_prefix}
-use Rattle.gq_query.proofs.SortPrefixLemmas.{same}
+use Rattle.gq_query.specs.declared.tie_sort.Tie.{Tie}
+use Rattle.gq_query.specs.SortPrefixes.{IsValuePrefix, is_full, without_bytes}
+use Rattle.gq_query.specs.GroupSpans.{HasPrefix, IsGroupAt, compare_at, key_at, middle_of, with_prefix}
+use Rattle.gq_query.specs.Ties.{AreTied, GoesOn, HasRestPrefix, KeysTie, TieUpTo}
+use Rattle.gq_query.proofs.SortPrefixLemmas.{none_without, past_bytes, past_cell, rest_first, same, tie_whole}
 
 -- a span is below another by its prefix and its key, or by its key alone
 abbrev pub span_below : List Value → GroupSpan → GroupSpan → Bool
@@ -72,10 +74,6 @@ set_more P xs i x within is h k d lt = elim (cases_lt k i) [
 -- what was found is the cell at a position of the key of a span
 abbrev pub IsCellAt : List Value → List GroupSpan → ℕ → ℕ → CellRef → Type 0
 IsCellAt cells spans position k found = (d : GroupSpan) → value_of found ≡ cell (key_at cells (get_or spans k d)) position
-
--- a span has the prefix of that cell, without the first `skip` bytes
-abbrev pub HasPrefixAt : List Value → List GroupSpan → ℕ → ℕ → ℕ → GroupSpan → Type 0
-HasPrefixAt cells spans position skip k s = (d : GroupSpan) → IsValuePrefix (without_bytes skip (cell (key_at cells (get_or spans k d)) position)) s.prefix
 
 -- a vector of `n` elements that were moved as a slice
 pub slice_moved : {X : Type 0} (n : ℕ) (ys zs : List X) → n ≡ length ys → IsPermutation ys zs → take n (zs ++ drop (length zs) ys) ≡ zs
@@ -148,3 +146,139 @@ module _ {X : Type 0} (below : X → X → Bool) where
   -- elements in order up to the end are in order
   pub sorted_whole : (a : ℕ) (xs : List X) → length xs ≤ a → IsSortedWithin below xs 0 a → IsSortedBy below xs
   sorted_whole a xs le up n d low high = up n d low (omega (arith, le, high))
+
+-- ---- keys that tie
+
+-- the keys of spans don't depend on their prefixes
+keys_same : (cells : List Value) (p : SortPrefix) (spans : List GroupSpan) → map (key_at cells) (map (with_prefix p) spans) ≡ map (key_at cells) spans
+keys_same cells p [] = refl
+keys_same cells p (s ∷ spans) = ap (λ l. key_at cells s ∷ l) (keys_same cells p spans)
+
+-- what is said of keys, of each two of them too, holds of a list that has no others
+fewer : (tie : Tie) (keys others : List (List Value)) → ((P : List Value → Type 0) → All P keys → All P others) → KeysTie tie keys → KeysTie tie others
+fewer tie keys others kept h = record {
+  wide = kept (λ key. tie.width ≤ length key) h.wide;
+  ties = λ k d lt. kept (TieUpTo tie.cell tie.skip (get_or others k d)) (kept (λ a. All (TieUpTo tie.cell tie.skip a) keys) h.ties k d lt);
+}
+
+-- spans that were moved, or a part of them
+pub moved_tied : (cells : List Value) (tie : Tie) (old new : List GroupSpan) → IsPermutation old new → AreTied cells tie old → AreTied cells tie new
+moved_tied cells tie old new moved =
+    fewer tie (map (key_at cells) old) (map (key_at cells) new) (λ P. All-permutation P (map (key_at cells) old) (map (key_at cells) new) (IsPermutation-map (key_at cells) old new moved))
+
+pub given_tied : (cells : List Value) (tie : Tie) (p : SortPrefix) (old new : List GroupSpan) → IsPermutation (map (with_prefix p) old) (map (with_prefix p) new) → AreTied cells tie old → AreTied cells tie new
+given_tied cells tie p old new moved h =
+    subst (KeysTie tie) (keys_same cells p new) (moved_tied cells tie (map (with_prefix p) old) (map (with_prefix p) new) moved (subst (KeysTie tie) (sym (keys_same cells p old)) h))
+
+pub part_tied : (cells : List Value) (tie : Tie) (a k : ℕ) (spans : List GroupSpan) → AreTied cells tie spans → AreTied cells tie (mid_of a k spans)
+part_tied cells tie a k spans h =
+    let keys = map (key_at cells) spans in
+    subst (KeysTie tie) (sym (mapped_middle (key_at cells) a k spans)) (fewer tie keys (mid_of a k keys) (λ P all. All-take P k (drop a keys) (All-drop P a keys all)) h)
+
+pub part_all : {X : Type 0} (P : X → Type 0) (a k : ℕ) (xs : List X) → All P xs → All P (mid_of a k xs)
+part_all P a k xs all = All-take P k (drop a xs) (All-drop P a xs all)
+
+-- of two spans with one key each
+key_of_span : (cells : List Value) (P : List Value → Type 0) (spans : List GroupSpan) → All P (map (key_at cells) spans) → (k : ℕ) (d : GroupSpan) → k < length spans → P (key_at cells (get_or spans k d))
+key_of_span cells P spans all k d lt =
+    subst P (get_or-map (key_at cells) spans k d (key_at cells d) lt) (all k (key_at cells d) (omega (arith, lt, length-map spans (key_at cells))))
+
+pair_ties : (cells : List Value) (tie : Tie) (spans : List GroupSpan) → AreTied cells tie spans → (j k : ℕ) (d : GroupSpan) → j < length spans → k < length spans
+    → TieUpTo tie.cell tie.skip (key_at cells (get_or spans j d)) (key_at cells (get_or spans k d))
+pair_ties cells tie spans h j k d below within =
+    key_of_span cells (TieUpTo tie.cell tie.skip (key_at cells (get_or spans j d))) spans
+    (key_of_span cells (λ a. All (TieUpTo tie.cell tie.skip a) (map (key_at cells) spans)) spans h.ties j d below) k d within
+
+-- spans that tie and are in order have keys in order
+pub rest_sorted : (cells : List Value) (tie : Tie) (spans : List GroupSpan) → AreTied cells tie spans → All (HasRestPrefix cells tie) spans → IsSorted (compare_at cells) spans → IsSortedByKey (key_at cells) compare_keys spans
+rest_sorted cells tie spans tied has up n d low high =
+    let before : n < length spans = omega (arith, high) in
+    let a = get_or spans (n + 1) d in
+    let b = get_or spans n d in
+    ap is_lt (sym (rest_first tie.cell tie.skip (key_at cells a) (key_at cells b) a.prefix b.prefix (pair_ties cells tie spans tied (n + 1) n d high before) (has (n + 1) d high) (has n d before))) ∙ up n d low high
+
+-- spans with one prefix tie further
+pub tied_next : (cells : List Value) (tie next : Tie) (p : SortPrefix) (spans : List GroupSpan) → GoesOn tie p next → AreTied cells tie spans → All (HasRestPrefix cells tie) spans → All (HasPrefix p) spans → AreTied cells next spans
+tied_next cells tie next p spans on tied has same = record {
+  wide = subst (λ w. All (λ key. w ≤ length key) (map (key_at cells) spans)) (sym on.wide) tied.wide;
+  ties = λ j a below k b within.
+      let none : GroupSpan = record { prefix = record { high = 0; low = 0 }; start = 0; key = 0; values = 0 } in
+      let at_j : j < length spans = omega (arith, below, length-map spans (key_at cells)) in
+      let at_k : k < length spans = omega (arith, within, length-map spans (key_at cells)) in
+      subst (λ x. TieUpTo next.cell next.skip x (get_or (map (key_at cells) spans) k b)) (sym (get_or-map (key_at cells) spans j none a at_j))
+      (subst (TieUpTo next.cell next.skip (key_at cells (get_or spans j none))) (sym (get_or-map (key_at cells) spans k none b at_k)) (both j k none at_j at_k (is_full p) refl));
+}
+  where
+    one : (k : ℕ) (d : GroupSpan) → k < length spans → IsValuePrefix (without_bytes tie.skip (cell (key_at cells (get_or spans k d)) tie.cell)) p
+    one k d lt = subst (IsValuePrefix (without_bytes tie.skip (cell (key_at cells (get_or spans k d)) tie.cell))) (same k d lt) (has k d lt)
+
+    wide : (k : ℕ) (d : GroupSpan) → k < length spans → tie.width ≤ length (key_at cells (get_or spans k d))
+    wide k d lt = key_of_span cells (λ key. tie.width ≤ length key) spans tied.wide k d lt
+
+    both : (j k : ℕ) (d : GroupSpan) → j < length spans → k < length spans → (full : Bool) → is_full p ≡ full → TieUpTo next.cell next.skip (key_at cells (get_or spans j d)) (key_at cells (get_or spans k d))
+    both j k d at_j at_k true e =
+        let to = on.longer e in
+        let pair = pair_ties cells tie spans tied j k d at_j at_k in
+        let at : TieUpTo tie.cell (tie.skip + 14) (key_at cells (get_or spans j d)) (key_at cells (get_or spans k d)) =
+        past_bytes tie.cell tie.skip (key_at cells (get_or spans j d)) (key_at cells (get_or spans k d)) p (omega (arith, on.some, on.wide, to.0, wide j d at_j)) (omega (arith, on.some, on.wide, to.0, wide k d at_k)) pair (one j d at_j) (one k d at_k) e in
+        subst (λ c. TieUpTo c next.skip (key_at cells (get_or spans j d)) (key_at cells (get_or spans k d))) (sym to.0)
+        (subst (λ s. TieUpTo tie.cell s (key_at cells (get_or spans j d)) (key_at cells (get_or spans k d))) (sym to.1) at)
+    both j k d at_j at_k false e =
+        let to = on.other e in
+        let pair = pair_ties cells tie spans tied j k d at_j at_k in
+        let place : next.cell ≡ suc tie.cell = omega (arith, to.0) in
+        let at : TieUpTo (suc tie.cell) 0 (key_at cells (get_or spans j d)) (key_at cells (get_or spans k d)) =
+        past_cell tie.cell tie.skip (key_at cells (get_or spans j d)) (key_at cells (get_or spans k d)) p (omega (arith, on.some, on.wide, to.0, wide j d at_j)) (omega (arith, on.some, on.wide, to.0, wide k d at_k)) pair (one j d at_j) (one k d at_k) e in
+        subst (λ c. TieUpTo c next.skip (key_at cells (get_or spans j d)) (key_at cells (get_or spans k d))) (sym place)
+        (subst (λ s. TieUpTo (suc tie.cell) s (key_at cells (get_or spans j d)) (key_at cells (get_or spans k d))) (sym to.1) at)
+
+-- all groups tie in nothing
+pub start_tied : (cells : List Value) (tie : Tie) (spans : List GroupSpan) → tie.cell ≡ 0 → tie.skip ≡ 0 → All (IsGroupAt cells) spans → All (λ (g : GroupSpan). tie.width ≤ g.key) spans → AreTied cells tie spans
+start_tied cells tie spans none nothing at wide = record {
+  wide = λ k d lt.
+      let span : GroupSpan = record { prefix = record { high = 0; low = 0 }; start = 0; key = 0; values = 0 } in
+      let within : k < length spans = omega (arith, lt, length-map spans (key_at cells)) in
+      subst (λ key. tie.width ≤ length key) (sym (get_or-map (key_at cells) spans k span d within)) (long (get_or spans k span) (at k span within) (wide k span within));
+  ties = λ j a below k b within. subst (λ c. TieUpTo c tie.skip (get_or (map (key_at cells) spans) j a) (get_or (map (key_at cells) spans) k b)) (sym none)
+      (subst (λ s. TieUpTo 0 s (get_or (map (key_at cells) spans) j a) (get_or (map (key_at cells) spans) k b)) (sym nothing) (tie_whole (get_or (map (key_at cells) spans) j a) (get_or (map (key_at cells) spans) k b)));
+}
+  where
+    long : (s : GroupSpan) → IsGroupAt cells s → tie.width ≤ s.key → tie.width ≤ length (key_at cells s)
+    long s group le = omega (arith, le, group.within, length-take-le (middle_of s - s.start) (drop s.start cells) (omega (arith, group.within, length-drop s.start cells)))
+
+pub start_prefixed : (cells : List Value) (tie : Tie) (spans : List GroupSpan) → tie.cell ≡ 0 → tie.skip ≡ 0 → All (IsGroupAt cells) spans → All (HasRestPrefix cells tie) spans
+start_prefixed cells tie spans none nothing at k d lt =
+    let s = get_or spans k d in
+    subst (λ c. IsValuePrefix (without_bytes tie.skip (cell (key_at cells s) c)) s.prefix) (sym none)
+    (subst (λ n. IsValuePrefix (without_bytes n (cell (key_at cells s) 0)) s.prefix) (sym nothing) (subst (λ v. IsValuePrefix v s.prefix) (sym (none_without (cell (key_at cells s) 0))) (at k d lt).prefixed))
+
+-- the key of a span whose prefix was changed
+pub key_kept : (cells : List Value) (p : SortPrefix) (xs ys : List GroupSpan) (k : ℕ) (d : GroupSpan) → map (with_prefix p) xs ≡ map (with_prefix p) ys → k < length xs → key_at cells (get_or xs k d) ≡ key_at cells (get_or ys k d)
+key_kept cells p xs ys k d same lt =
+    let long : length xs ≡ length ys = sym (length-map xs (with_prefix p)) ∙ ap length same ∙ length-map ys (with_prefix p) in
+    ap (key_at cells) (sym (get_or-map (with_prefix p) xs k d d lt) ∙ ap (λ l. get_or l k d) same ∙ get_or-map (with_prefix p) ys k d d (omega (arith, lt, long)))
+
+-- a chunk whose prefixes were changed is as long
+pub chunk_size : (a e : ℕ) (xs ys : List GroupSpan) → a ≤ e → e ≤ length xs → ((p : SortPrefix) → map (with_prefix p) ys ≡ map (with_prefix p) (mid_of a (e - a) xs)) → length ys ≡ e - a
+chunk_size a e xs ys le within same =
+    let p : SortPrefix = record { high = 0; low = 0 } in
+    let rest = length-drop a xs in
+    sym (length-map ys (with_prefix p)) ∙ ap length (same p) ∙ length-map (mid_of a (e - a) xs) (with_prefix p) ∙ length-take-le (e - a) (drop a xs) (omega (arith, rest, within, le))
+
+-- what holds before a chunk and in it
+pub chunk_all : {X : Type 0} (P : X → Type 0) (a e : ℕ) (xs ys : List X) → a ≤ e → e ≤ length xs → length ys ≡ e - a → ((k : ℕ) (d : X) → k < a → P (get_or xs k d)) → All P ys
+    → (k : ℕ) (d : X) → k < e → P (get_or (put_mid a (e - a) xs ys) k d)
+chunk_all P a e xs ys le within long before in_it k d lt = elim (cases_lt k a) [
+  | inl below ↦ subst P (sym (before_chunk a (e - a) xs ys k d (omega (arith, le, within)) below)) (before k d below)
+  | inr above ↦ subst P (sym (in_chunk a (e - a) xs ys k (k - a) d (omega (arith, le, within)) (omega (arith, above, lt, long)) (omega (arith, above)))) (in_it (k - a) d (omega (arith, above, lt, long)))
+]
+
+-- spans from one up to another have its prefix
+pub tie_same : (spans : List GroupSpan) (a e : ℕ) (none : GroupSpan) → a < e → e ≤ length spans → ((k : ℕ) (d : GroupSpan) → a ≤ k → k < e → HasPrefix (get_or spans a d).prefix (get_or spans k d))
+    → All (HasPrefix (get_or spans a none).prefix) (mid_of a (e - a) spans)
+tie_same spans a e none low high ties k d lt =
+    let long : length (mid_of a (e - a) spans) ≡ e - a = length-take-le (e - a) (drop a spans) (omega (arith, high, low, length-drop a spans)) in
+    let within : k < e - a = omega (arith, lt, long) in
+    ap (λ (s : GroupSpan). s.prefix) (get_or-take (e - a) (drop a spans) k d within ∙ get_or-drop a spans k d)
+    ∙ ties (a + k) d (omega arith) (omega (arith, within))
+    ∙ ap (λ (s : GroupSpan). s.prefix) (get_or_default spans a d none (omega (arith, low, high)))

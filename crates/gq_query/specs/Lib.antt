@@ -14,3 +14,4 @@ pub mod Keeping
 pub mod Sources
 pub mod Spans
 pub mod Spelling
+pub mod Ties

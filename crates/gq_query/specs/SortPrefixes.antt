@@ -1,5 +1,5 @@
 -- Normalized sort keys: two words that say where a value is in the order.
-use Rattle.std.specs.Prelude.{◌≡◌, Bool, not, ◌&&◌, ℕ, zero, suc, ◌+◌, ◌-◌, ◌*◌, ◌%◌, ◌^◌, ◌<◌, nat_eq, nat_le, negsuc, ◌-ℤ◌, List, [], ◌∷◌, drop, get_or, unsigned_abs, FitsSigned}
+use Rattle.std.specs.Prelude.{◌≡◌, Bool, ◌&&◌, ℕ, zero, suc, ◌+◌, ◌-◌, ◌*◌, ◌%◌, ◌^◌, ◌<◌, nat_eq, nat_le, negsuc, ◌-ℤ◌, List, [], ◌∷◌, drop, get_or, length, min, unsigned_abs, FitsSigned}
 use Rattle.std.specs.Int.{w64}
 use Rattle.gq_row.specs.declared.value.Value.{Value}
 use Rattle.gq_row.specs.declared.value.Value.TheVariants.{Null, Int, Text, NoCase}
@@ -14,16 +14,20 @@ leading zero text = 0
 leading (suc n) [] = 0
 leading (suc n) (byte ∷ text) = byte * 256 ^ n + leading n text
 
--- the sixteen bytes of a value, in two words: 0 for null, 1 and a number's distance from the minimum, 2 and the first fifteen bytes of a text, 3 and those of the fold of a text without case
+-- the bytes of a text from the eighth to the fourteenth, and its length up to 15
+abbrev pub low_word : List ℕ → ℕ
+low_word text = leading 7 (drop 7 text) * 256 + min (length text) 15
+
+-- the sixteen bytes of a value, in two words: 0 for null, 1 and a number's distance from the minimum, 2 with the first fourteen bytes of a text and its length up to 15, 3 with those of the fold of a text without case
 abbrev pub prefix_of : Value → SortPrefix
 prefix_of Null = record { high = 0; low = 0 }
 prefix_of (Int n) = record { high = 2 ^ 56; low = unsigned_abs (n -ℤ negsuc (2 ^ 63 - 1)) }
-prefix_of (Text text) = record { high = 2 * 2 ^ 56 + leading 7 text; low = leading 8 (drop 7 text) }
-prefix_of (NoCase text) = record { high = 3 * 2 ^ 56 + leading 7 (fold_case text); low = leading 8 (drop 7 (fold_case text)) }
+prefix_of (Text text) = record { high = 2 * 2 ^ 56 + leading 7 text; low = low_word text }
+prefix_of (NoCase text) = record { high = 3 * 2 ^ 56 + leading 7 (fold_case text); low = low_word (fold_case text) }
 
--- a prefix with fifteen bytes of a text, the last of them not zero
+-- a prefix of a text with more than fourteen bytes
 abbrev pub is_full : SortPrefix → Bool
-is_full prefix = nat_le (2 * 2 ^ 56) prefix.high && not (nat_eq (prefix.low % 256) 0)
+is_full prefix = nat_le (2 * 2 ^ 56) prefix.high && nat_eq (prefix.low % 256) 15
 
 -- a value without the first `n` bytes of its text
 abbrev pub without_bytes : ℕ → Value → Value

@@ -214,7 +214,7 @@ impl GroupList {
         ensures moved { IsPermutation self.old self.new }
         ensures ascending { IsSortedByKey (λ (g : Group). g.0) compare_keys self.new }
     {
-        sort_groups(self.alloc, &self.cells, self.groups.as_mut_slice());
+        sort_groups(&self.cells, self.groups.as_mut_slice());
     }
 
     /// The result rows of the groups: the key's values, then the shown values. No cell moves.

@@ -1,5 +1,5 @@
 //! Normalized sort keys: the first sixteen bytes of what a row is sorted by.
-ghost use Rattle.std.specs.Prelude.{◌≡◌, drop, slice_index_or};
+ghost use Rattle.std.specs.Prelude.{◌≡◌, ◌+◌, ◌*◌, ◌/◌, ◌<◌, drop, length, min, slice_index_or};
 ghost use Rattle.gq_row.specs.declared.value.Value.TheVariants.{Int, NoCase, Text};
 ghost use Rattle.gq_row.specs.Folding.{fold_case};
 ghost use Rattle.gq_row.specs.Rows.{cell};
@@ -10,9 +10,9 @@ ghost use Rattle.gq_query.specs.SortPrefixes.{AreNextPrefixes, IsValuePrefix, is
 use gq_cells::CellRef;
 use gq_row::{Value, fold_eight};
 
-/// The normalized key of a value, cut to 16 bytes: 0 for null, 1 and a number, 2 and the first 15
-/// bytes of a text, 3 and those of the fold of a text without case. As numbers they are in the
-/// order of the folds, so whole values are compared only if these tie.
+/// The normalized key of a value, cut to 16 bytes: 0 for null, 1 and a number, 2 with the first 14
+/// bytes of a text and its length up to 15, 3 with those of the fold of a text without case. As
+/// numbers they are in the order of the folds. Texts of up to 14 bytes tie only if they are equal.
 #[derive(Clone, Copy, PartialEq, Eq, PartialOrd, Ord)]
 pub struct SortPrefix {
     high: u64,
@@ -32,14 +32,18 @@ const TEXT: u64 = 2 << 56;
 const NO_CASE: u64 = 3 << 56;
 
 /// How many bytes of a text a prefix has.
-pub const TEXT_BYTES: usize = 15;
+pub const TEXT_BYTES: usize = 14;
+
+// The length of texts that have more bytes than a prefix.
+const LONGER: u64 = 15;
 
 impl SortPrefix {
-    /// Whether it has as many bytes of a text as it can, so that the text may have more.
+    /// Whether it is of a text that has more bytes.
+    #[inline]
     pub fn is_full(&self) -> bool
         ensures { result ≡ is_full self.now }
     {
-        self.high >= TEXT && self.low % 256 != 0
+        self.high >= TEXT && self.low % 256 == LONGER
     }
 }
 
@@ -105,16 +109,16 @@ pub fn cell_prefix(cell: CellRef<'_>, skip: usize) -> SortPrefix
     match cell {
         CellRef::Null => NULL,
         CellRef::Int(n) => number_prefix(n),
-        CellRef::Text(text) => text_prefix(bytes_from(text, skip)),
-        CellRef::NoCase(text) => folded_prefix(bytes_from(text, skip)),
+        CellRef::Text(text) => text_prefix(bytes_after(text.as_str().as_bytes(), skip)),
+        CellRef::NoCase(text) => folded_prefix(bytes_after(text.as_str().as_bytes(), skip)),
     }
 }
 
 #[inline]
-fn bytes_from(text: &gq_row::Text, skip: usize) -> &[u8]
+fn bytes_after(text: &[u8], skip: usize) -> &[u8]
     ensures { result.now ≡ drop skip text.now }
 {
-    text.as_str().as_bytes().get(skip..).unwrap_or(&[])
+    text.get(skip..).unwrap_or(&[])
 }
 
 #[inline]
@@ -132,7 +136,7 @@ fn text_prefix(text: &[u8]) -> SortPrefix
 {
     SortPrefix {
         high: TEXT + first_bytes(text) / 256,
-        low: first_bytes(text.get(7..).unwrap_or(&[])),
+        low: with_length(first_bytes(bytes_after(text, 7)), text.len()),
     }
 }
 
@@ -142,8 +146,16 @@ fn folded_prefix(text: &[u8]) -> SortPrefix
 {
     SortPrefix {
         high: NO_CASE + first_folded(text) / 256,
-        low: first_folded(text.get(7..).unwrap_or(&[])),
+        low: with_length(first_folded(bytes_after(text, 7)), text.len()),
     }
+}
+
+// Seven of eight bytes, and the length of a text in place of the last.
+#[inline]
+fn with_length(bytes: u64, len: usize) -> u64
+    ensures { result ≡ bytes / 256 * 256 + min len 15 }
+{
+    bytes / 256 * 256 + (len as u64).min(LONGER)
 }
 
 // The first eight bytes of a text, big-endian.

@@ -1,93 +1,168 @@
 //! Sorts groups by their keys: by prefixes first, then by what follows them, depth first.
 //!
 //! Those that tie are sorted by the prefixes of the next cell of their keys, or of the next bytes of a text
-//! that is longer than a prefix; then those that tie again by what follows, and so on. Whole keys
-//! are compared once, each with the one before it, while they are cached.
-ghost use Rattle.std.specs.Prelude.{◌≡◌, ◌<◌, ◌≤◌, ◌+◌, ◌-◌, ℕ, not, All, IsTrue, IsPermutation, length, map, slice_index_or};
-ghost use Rattle.std.specs.List.Sorted.{IsSorted, IsSortedByKey};
+//! that is longer than a prefix; then those that tie again by what follows, and so on. Prefixes that
+//! differ decide, so whole keys are compared only among a few groups, or where no cell is left.
+ghost use Rattle.std.specs.Prelude.{◌≡◌, ◌<◌, ◌≤◌, ◌-◌, ℕ, not, All, IfSome, IsTrue, IsPermutation, length, map, slice_index_or};
+ghost use Rattle.std.specs.List.Sorted.{IsSorted};
 ghost use Rattle.std.specs.Ordering.{is_lt};
-ghost use Rattle.gq_row.specs.Order.{compare_keys};
 ghost use Rattle.gq_row.specs.Rows.{cell};
 ghost use Rattle.gq_cells.specs.declared.cell_ref.CellRef.{CellRef as Reference};
 ghost use Rattle.gq_cells.specs.Cells.{value_of};
-ghost use Rattle.gq_query.specs.SortPrefixes.{IsValuePrefix, without_bytes};
-ghost use Rattle.gq_query.specs.GroupSpans.{HasPrefix, compare_at, key_at, with_prefix};
+ghost use Rattle.gq_query.specs.GroupSpans.{HasPrefix, IsGroupAt, compare_at, key_at, with_prefix};
+ghost use Rattle.gq_query.specs.Ties.{AreTied, GoesOn, HasRestPrefix};
 
 use crate::group_list::{GroupSpan, compare_keys_at, compare_spans};
 use crate::sort_prefix::{SortPrefix, TEXT_BYTES, cell_prefix};
 use gq_cells::{CellRef, Cells};
-use std::alloc::Global;
 use std::cmp::Ordering;
 
-// How many runs are nested at most. Deeper ones are sorted by whole keys.
+// How deep ties are nested at most. Deeper ones are sorted by whole keys.
 const MAX_DEPTH: usize = 64;
 
-// The longest run that is sorted by whole keys at once.
+// How many groups that tie are sorted by whole keys at once.
 const MAX_SHORT: usize = 4;
 
 // How many cells are looked up before the first of them is read.
 const BLOCK: usize = 16;
 
-// A run of groups up to `end`. They tie in the cells of their keys before `cell`, and in the first
-// `skip` bytes of that one. Their prefixes are of what follows.
+/// How far the keys of some groups tie: in their cells before `cell`, and in the first `skip` bytes of
+/// that one. Each key has at least `width` cells. Ties are nested at most `depth` deep within this one.
 #[derive(Clone, Copy)]
-struct Run {
-    end: usize,
+pub(crate) struct Tie {
     cell: usize,
     skip: usize,
+    width: usize,
+    depth: usize,
 }
 
-impl Run {
-    // The run within this one of the groups up to `end`, which have this prefix.
-    fn within(&self, prefix: SortPrefix, end: usize) -> Run {
-        if prefix.is_full() {
-            Run {
-                end,
-                cell: self.cell,
-                skip: self.skip.saturating_add(TEXT_BYTES),
-            }
+impl Tie {
+    // How far those of the groups tie that have this prefix, if cells are left.
+    #[inline]
+    fn within(&self, prefix: SortPrefix) -> Option<Tie>
+        ensures { IfSome result (GoesOn self.now prefix) }
+    {
+        let depth = self.depth.checked_sub(1)?;
+        let longer = self.skip.checked_add(TEXT_BYTES)?;
+        let next = self.cell.checked_add(1)?;
+        let (cell, skip) = if prefix.is_full() {
+            (self.cell, longer)
         } else {
-            Run {
-                end,
-                cell: self.cell.saturating_add(1),
-                skip: 0,
-            }
+            (next, 0)
+        };
+        if cell >= self.width {
+            return None;
         }
+        Some(Tie {
+            cell,
+            skip,
+            width: self.width,
+            depth,
+        })
     }
 }
 
-/// Sorts groups by their keys: by their prefixes, then those that tie. If some are left in another
-/// order, as keys that differ only after a zero byte of a text may be, it sorts all by whole keys.
-pub(crate) fn sort_groups(alloc: Global, cells: &Cells, groups: &mut [GroupSpan])
+/// Sorts groups by their keys: by their prefixes, then those that tie.
+pub(crate) fn sort_groups(cells: &Cells, groups: &mut [GroupSpan])
+    requires { All (IsGroupAt cells.now) groups.old }
     ensures moved { IsPermutation groups.old groups.new }
     ensures sorted { IsSorted (compare_at cells.now) groups.new }
 {
+    let whole = Tie {
+        cell: 0,
+        skip: 0,
+        width: least_width(groups),
+        depth: MAX_DEPTH,
+    };
     groups.sort_unstable_by(|a, b| a.prefix.cmp(&b.prefix));
-    if !sort_ties(alloc, cells, groups) {
+    if !sort_ties(cells, groups, whole) {
         groups.sort_unstable_by(|a, b| compare_spans(cells, a, b));
     }
 }
 
-// Sorts the groups of each run whose prefixes tie. Returns whether all are in order.
-fn sort_ties(alloc: Global, cells: &Cells, groups: &mut [GroupSpan]) -> bool
+// The least number of cells of a key.
+fn least_width(groups: &[GroupSpan]) -> usize
+    ensures { All (λ (g : GroupSpan). result ≤ g.key) groups.now }
+{
+    let mut width = usize::MAX;
+    for i in 0..groups.len() {
+        width = width.min(groups[i].key as usize);
+    }
+    width
+}
+
+// Sorts each of the groups whose prefixes tie. Returns whether all are in order, as they are if they
+// were sorted by their prefixes.
+#[cycle(ties)]
+fn sort_ties(cells: &Cells, groups: &mut [GroupSpan], tie: Tie) -> bool
+    requires tied { AreTied cells.now tie groups.old }
+    requires prefixed { All (HasRestPrefix cells.now tie) groups.old }
     ensures moved { IsPermutation groups.old groups.new }
     ensures sorted { IsTrue result → IsSorted (compare_at cells.now) groups.new }
 {
     let mut sorted = true;
     let mut at = 0;
     'ties: while at < groups.len() {
-        let end = tie_end(groups, at, groups.len());
+        let end = tie_end(groups, at);
         let prefix = groups[at].prefix;
-        sorted &= sort_tie(alloc, cells, &mut groups[at..end], prefix);
+        sorted &= sort_tie(cells, &mut groups[at..end], tie, prefix);
         sorted &= follows(cells, groups, at);
         at = end;
     }
     sorted
 }
 
-// The end of the groups from `at` on that have its prefix, or `limit` if that comes first.
+// Sorts groups with one prefix, which they keep. Returns whether they are in the order of their
+// keys.
 #[inline]
-fn tie_end(groups: &[GroupSpan], at: usize, limit: usize) -> usize
+#[cycle(ties)]
+fn sort_tie(cells: &Cells, groups: &mut [GroupSpan], tie: Tie, prefix: SortPrefix) -> bool
+    requires same { All (HasPrefix prefix) groups.old }
+    requires tied { AreTied cells.now tie groups.old }
+    requires prefixed { All (HasRestPrefix cells.now tie) groups.old }
+    ensures moved { IsPermutation groups.old groups.new }
+    ensures sorted { IsTrue result → IsSorted (compare_at cells.now) groups.new }
+{
+    groups.len() < 2 || sort_long_tie(cells, groups, tie, prefix)
+}
+
+// The same for two groups or more.
+#[cycle(ties)]
+fn sort_long_tie(cells: &Cells, groups: &mut [GroupSpan], tie: Tie, prefix: SortPrefix) -> bool
+    requires same { All (HasPrefix prefix) groups.old }
+    requires tied { AreTied cells.now tie groups.old }
+    requires prefixed { All (HasRestPrefix cells.now tie) groups.old }
+    ensures moved { IsPermutation groups.old groups.new }
+    ensures sorted { IsTrue result → IsSorted (compare_at cells.now) groups.new }
+{
+    if groups.len() > MAX_SHORT
+        && let Some(next) = tie.within(prefix)
+    {
+        return sort_next(cells, groups, next, prefix);
+    }
+    groups.sort_unstable_by(|a, b| compare_keys_at(cells, a, b));
+    true
+}
+
+// The same by the prefixes of what follows.
+#[cycle(ties)]
+fn sort_next(cells: &Cells, groups: &mut [GroupSpan], tie: Tie, prefix: SortPrefix) -> bool
+    requires same { All (HasPrefix prefix) groups.old }
+    requires tied { AreTied cells.now tie groups.old }
+    ensures moved { IsPermutation groups.old groups.new }
+    ensures sorted { IsTrue result → IsSorted (compare_at cells.now) groups.new }
+{
+    sort_by_prefix(cells, groups, tie);
+    let sorted = sort_ties(cells, groups, tie);
+    for i in 0..groups.len() {
+        groups[i].prefix = prefix;
+    }
+    sorted
+}
+
+// The end of the groups from `at` on that have its prefix.
+#[inline]
+fn tie_end(groups: &[GroupSpan], at: usize) -> usize
     requires { at < length groups.now }
     ensures within { (at < result) × (result ≤ length groups.now) }
     ensures ties { (k : ℕ) (d : GroupSpan) → at ≤ k → k < result →
@@ -95,7 +170,7 @@ fn tie_end(groups: &[GroupSpan], at: usize, limit: usize) -> usize
 {
     let prefix = groups[at].prefix;
     let mut end = at + 1;
-    'ties: while end < limit && end < groups.len() && groups[end].prefix == prefix {
+    'ties: while end < groups.len() && groups[end].prefix == prefix {
         end += 1;
     }
     end
@@ -112,101 +187,30 @@ fn follows(cells: &Cells, groups: &[GroupSpan], at: usize) -> bool
     at == 0 || compare_spans(cells, &groups[at], &groups[at - 1]) != Ordering::Less
 }
 
-// The same by their keys alone.
-#[inline]
-fn key_follows(cells: &Cells, groups: &[GroupSpan], at: usize) -> bool
-    requires { at < length groups.now }
-    ensures first { at ≡ 0 → IsTrue result }
-    ensures later { (d : GroupSpan) → 0 < at → result ≡ not (is_lt (compare_keys
-        (key_at cells.now (slice_index_or groups.now at d))
-        (key_at cells.now (slice_index_or groups.now (at - 1) d)))) }
-{
-    at == 0 || compare_keys_at(cells, &groups[at], &groups[at - 1]) != Ordering::Less
-}
-
-// Sorts groups with one prefix, which they keep. Returns whether they are in the order of their
-// keys.
-#[inline]
-fn sort_tie(alloc: Global, cells: &Cells, groups: &mut [GroupSpan], prefix: SortPrefix) -> bool
-    requires { All (HasPrefix prefix) groups.old }
-    ensures moved { IsPermutation groups.old groups.new }
-    ensures sorted { IsTrue result → IsSorted (compare_at cells.now) groups.new }
-{
-    groups.len() < 2 || sort_long_tie(alloc, cells, groups, prefix)
-}
-
-// The same for two groups or more.
-fn sort_long_tie(alloc: Global, cells: &Cells, groups: &mut [GroupSpan], prefix: SortPrefix) -> bool
-    requires { All (HasPrefix prefix) groups.old }
-    ensures moved { IsPermutation groups.old groups.new }
-    ensures sorted { IsTrue result → IsSorted (compare_at cells.now) groups.new }
-{
-    let all = Run {
-        end: groups.len(),
-        cell: 0,
-        skip: 0,
-    };
-    let sorted = sort_run(alloc, cells, groups, all.within(prefix, groups.len()));
-    for i in 0..groups.len() {
-        groups[i].prefix = prefix;
-    }
-    sorted
-}
-
-// Sorts a run, whatever the prefixes of its groups are before and after. Keys are compared in
-// whole while they are cached. Returns whether all are in order.
-fn sort_run(alloc: Global, cells: &Cells, groups: &mut [GroupSpan], run: Run) -> bool
+// Sorts groups that tie by the prefixes of what follows, which they are given.
+fn sort_by_prefix(cells: &Cells, groups: &mut [GroupSpan], tie: Tie)
     ensures moved { (p : SortPrefix) → IsPermutation (map (with_prefix p) groups.old)
         (map (with_prefix p) groups.new) }
-    ensures sorted { IsTrue result → IsSortedByKey (key_at cells.now) compare_keys groups.new }
-{
-    let mut run = run;
-    let mut outer = Vec::new(alloc);
-    let mut sorted = true;
-    let mut at = 0;
-    sort_by_prefix(cells, groups, run);
-    'runs: while at < groups.len() {
-        let end = tie_end(groups, at, run.end);
-        let inner = run.within(groups[at].prefix, end);
-        let splits = end - at > MAX_SHORT && inner.cell < groups[at].key as usize;
-        if enter(&mut outer, run, splits) {
-            run = inner;
-            sort_by_prefix(cells, &mut groups[at..end], run);
-        } else {
-            groups[at..end].sort_unstable_by(|a, b| compare_keys_at(cells, a, b));
-            sorted &= key_follows(cells, groups, at);
-            at = end;
-            run = run_at(&mut outer, run, at);
-        }
-    }
-    sorted
-}
-
-// Sorts the groups of a run by the prefixes of its cell, which they are given.
-fn sort_by_prefix(cells: &Cells, groups: &mut [GroupSpan], run: Run)
-    ensures { (p : SortPrefix) → IsPermutation (map (with_prefix p) groups.old)
-        (map (with_prefix p) groups.new) }
+    ensures prefixed { All (HasRestPrefix cells.now tie) groups.new }
 {
     let mut at = 0;
     'chunks: while at < groups.len() {
         let end = groups.len().min(at.saturating_add(BLOCK));
-        write_prefixes(cells, &mut groups[at..end], run);
+        write_prefixes(cells, &mut groups[at..end], tie);
         at = end;
     }
     groups.sort_unstable_by(|a, b| a.prefix.cmp(&b.prefix));
 }
 
-// Gives each group of a block the prefix of its cell for a run.
-fn write_prefixes(cells: &Cells, groups: &mut [GroupSpan], run: Run)
+// Gives each group of a block the prefix of what follows.
+fn write_prefixes(cells: &Cells, groups: &mut [GroupSpan], tie: Tie)
     requires { length groups.old ≤ 16 }
     ensures kept { (p : SortPrefix) → map (with_prefix p) groups.new ≡ map (with_prefix p) groups.old }
-    ensures prefixed { (k : ℕ) (d : GroupSpan) → k < length groups.old → IsValuePrefix
-        (without_bytes run.skip (cell (key_at cells.now (slice_index_or groups.old k d)) run.cell))
-        (slice_index_or groups.new k d).prefix }
+    ensures prefixed { All (HasRestPrefix cells.now tie) groups.new }
 {
-    let found = cells_at(cells, groups, run.cell);
+    let found = cells_at(cells, groups, tie.cell);
     for i in 0..groups.len() {
-        groups[i].prefix = cell_prefix(found[i], run.skip);
+        groups[i].prefix = cell_prefix(found[i], tie.skip);
     }
 }
 
@@ -240,28 +244,4 @@ fn cell_at<'a>(cells: &'a Cells, group: &GroupSpan, position: usize) -> CellRef<
     } else {
         CellRef::Null
     }
-}
-
-// Keeps a run while one within it is sorted, if that one `splits`. Returns whether there was room.
-#[inline]
-fn enter(outer: &mut Vec<Run>, run: Run, splits: bool) -> bool
-    ensures kept { IsTrue result → length outer.new.items ≡ length outer.old.items + 1 }
-    ensures few { length outer.old.items ≤ 64 → length outer.new.items ≤ 64 }
-{
-    splits && outer.len() < MAX_DEPTH && outer.push(run).is_ok()
-}
-
-// The innermost run that doesn't end at `at` or before it.
-#[inline]
-fn run_at(outer: &mut Vec<Run>, run: Run, at: usize) -> Run
-    ensures { length outer.new.items ≤ length outer.old.items }
-{
-    let mut run = run;
-    'runs: while run.end <= at {
-        let Some(next) = outer.pop() else {
-            return run;
-        };
-        run = next;
-    }
-    run
 }

@@ -2,11 +2,11 @@ use Rattle.std.proofs.Common.{◌≡◌, ◌<◌, ℕ, get_or, map}
 use Rattle.gq_query.specs.declared.sort_prefix.SortPrefix.{SortPrefix}
 use Rattle.gq_query.specs.declared.group_list.GroupSpan.{GroupSpan}
 use Rattle.gq_query.specs.GroupSpans.{with_prefix}
-use Rattle.gq_query.proofs.TieLemmas.{HasPrefixAt}
+use Rattle.gq_query.specs.Ties.{HasRestPrefix}
 use Rattle.gq_query.proofs.tie_sort.write_prefixes.Given as goal
 
 abbrev pub invariant-loop-i : goal.invariant-loop-i
 invariant-loop-i l = record {
   kept : (p : SortPrefix) → map (with_prefix p) l.groups ≡ map (with_prefix p) l.fn.groups;
-  prefixed : (k : ℕ) (d : GroupSpan) → k < l.i → HasPrefixAt l.cells l.fn.groups l.run.cell l.run.skip k (get_or l.groups k d);
+  prefixed : (k : ℕ) (d : GroupSpan) → k < l.i → HasRestPrefix l.cells l.tie (get_or l.groups k d);
 }
