@@ -181,6 +181,36 @@ above_text tag k text lt = greater (tag * 2 ^ 56 + leading 7 text) k (omega (ari
 text_below : (text : List ℕ) → AreBytes text → 2 * 2 ^ 56 + leading 7 text < 3 * 2 ^ 56
 text_below text bytes = let small : leading 7 text < 256 ^ 7 = leading_small 7 text bytes in omega (arith, small)
 
+-- fewer than eight bytes, by the first four and the others
+pub few_bytes : (text : List ℕ) → AreBytes text → length text < 4 → leading 3 text * 2 ^ 40 % 2 ^ 64 ≡ leading 8 text
+few_bytes [] bytes lt = refl
+few_bytes (b0 ∷ []) bytes lt = omega (arith, bytes 0)
+few_bytes (b0 ∷ b1 ∷ []) bytes lt = omega (arith, bytes 0, bytes 1)
+few_bytes (b0 ∷ b1 ∷ b2 ∷ []) bytes lt = omega (arith, bytes 0, bytes 1, bytes 2)
+few_bytes (b0 ∷ b1 ∷ b2 ∷ b3 ∷ text) bytes lt = absurd (omega (arith, lt))
+
+pub some_bytes : (text : List ℕ) (four three : ℕ) → AreBytes text → 4 ≤ length text → length text < 8 → four ≡ leading 4 text → three ≡ leading 3 (drop 4 text)
+    → (four * 2 ^ 32 % 2 ^ 64 + three * 2 ^ 8 % 2 ^ 64 ≡ leading 8 text)
+some_bytes [] four three bytes le lt p q = absurd (omega (arith, le))
+some_bytes (b0 ∷ []) four three bytes le lt p q = absurd (omega (arith, le))
+some_bytes (b0 ∷ b1 ∷ []) four three bytes le lt p q = absurd (omega (arith, le))
+some_bytes (b0 ∷ b1 ∷ b2 ∷ []) four three bytes le lt p q = absurd (omega (arith, le))
+some_bytes (b0 ∷ b1 ∷ b2 ∷ b3 ∷ []) four three bytes le lt p q = omega (arith, p, q, bytes 0, bytes 1, bytes 2, bytes 3)
+some_bytes (b0 ∷ b1 ∷ b2 ∷ b3 ∷ b4 ∷ []) four three bytes le lt p q = omega (arith, p, q, bytes 0, bytes 1, bytes 2, bytes 3, bytes 4)
+some_bytes (b0 ∷ b1 ∷ b2 ∷ b3 ∷ b4 ∷ b5 ∷ []) four three bytes le lt p q = omega (arith, p, q, bytes 0, bytes 1, bytes 2, bytes 3, bytes 4, bytes 5)
+some_bytes (b0 ∷ b1 ∷ b2 ∷ b3 ∷ b4 ∷ b5 ∷ b6 ∷ []) four three bytes le lt p q = omega (arith, p, q, bytes 0, bytes 1, bytes 2, bytes 3, bytes 4, bytes 5, bytes 6)
+some_bytes (b0 ∷ b1 ∷ b2 ∷ b3 ∷ b4 ∷ b5 ∷ b6 ∷ b7 ∷ text) four three bytes le lt p q = absurd (omega (arith, lt))
+
+pub four_bytes : (text : List ℕ) (four : ℕ) → 4 ≤ length text → four ≡ ((get_or text 0 0 * 256 + get_or text 1 0) * 256 + get_or text 2 0) * 256 + get_or text 3 0 → four ≡ leading 4 text
+four_bytes [] four le p = absurd (omega (arith, le))
+four_bytes (b0 ∷ []) four le p = absurd (omega (arith, le))
+four_bytes (b0 ∷ b1 ∷ []) four le p = absurd (omega (arith, le))
+four_bytes (b0 ∷ b1 ∷ b2 ∷ []) four le p = absurd (omega (arith, le))
+four_bytes (b0 ∷ b1 ∷ b2 ∷ b3 ∷ text) four le p = omega (arith, p)
+
+pub small_three : (text : List ℕ) (three : ℕ) → AreBytes text → three ≡ leading 3 (drop 4 text) → three < 2 ^ 24
+small_three text three bytes p = omega (arith, p, leading_small 3 (drop 4 text) (dropped_bytes 4 text bytes))
+
 -- seven of eight bytes
 leading_less : (text : List ℕ) → AreBytes text → leading 8 text / 256 ≡ leading 7 text
 leading_less [] bytes = refl

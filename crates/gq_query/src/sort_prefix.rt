@@ -169,19 +169,31 @@ fn first_bytes(text: &[u8]) -> u64
 }
 
 // The same for a shorter text, padded with zeros.
+#[inline]
 fn padded_bytes(text: &[u8]) -> u64
+    requires { length text.now < 8 }
     ensures { result ≡ leading 8 text.now }
 {
-    u64::from_be_bytes([
-        byte(text, 0),
-        byte(text, 1),
-        byte(text, 2),
-        byte(text, 3),
-        byte(text, 4),
-        byte(text, 5),
-        byte(text, 6),
-        byte(text, 7),
-    ])
+    match text {
+        [a, b, c, d, rest @ ..] => {
+            let four = u32::from_be_bytes([*a, *b, *c, *d]);
+            (u64::from(four) << 32) + (first_three(rest) << 8)
+        }
+        _ => first_three(text) << 40,
+    }
+}
+
+// The first three bytes of a text, big-endian, padded with zeros.
+#[inline]
+fn first_three(text: &[u8]) -> u64
+    ensures { result ≡ leading 3 text.now }
+{
+    match text {
+        [] => 0,
+        [a] => u64::from(*a) << 16,
+        [a, b] => (u64::from(*a) << 16) + (u64::from(*b) << 8),
+        [a, b, c, ..] => (u64::from(*a) << 16) + (u64::from(*b) << 8) + u64::from(*c),
+    }
 }
 
 #[inline]
