@@ -134,7 +134,10 @@ fn sums_end(aggs: &[(AggKind, usize)]) -> usize
 fn is_sum(kind: AggKind) -> bool
     ensures { result ≡ is_sum kind }
 {
-    matches!(kind, AggKind::Sum)
+    match kind {
+        AggKind::Sum => true,
+        AggKind::CountAll | AggKind::Count | AggKind::Min | AggKind::Max => false,
+    }
 }
 
 // The larger of a column that may be missing and another.
