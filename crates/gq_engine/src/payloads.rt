@@ -14,9 +14,9 @@ ghost use Rattle.gq_engine.specs.Steps.{load_table};
 use crate::catalog::Catalog;
 use crate::csv_fault::{CsvFault, fault_of_text, refused_in};
 use gq_command::Payload;
-use gq_load::{LoadRefusal, RowReader, Short, line_ends};
+use gq_load::{LoadRefusal, RowReader, Short};
 use gq_reply::{Refusal, Refused};
-use gq_row::{Key, Limits, Row, Schema, Sequence};
+use gq_row::{Key, Limits, Row, Schema, Sequence, line_ends};
 use gq_table::{Table, TableRefusal};
 use std::alloc::Global;
 use std::io::Read;
@@ -61,6 +61,7 @@ pub fn stage_for<H: KeyHash<Key> + Copy>(
     }
     let table = catalog.get(name).ok_or(Refusal::NoTable)?;
     let bytes = bytes_of(payload)?;
+    // A record takes a line at least.
     let lines = line_ends(bytes.as_slice()).min(limits.bounds.rows);
     match stage(
         alloc,

@@ -1,8 +1,6 @@
-pub mod AsciiLemmas
 pub mod Completing
 mod Covering
 pub mod EachRow
-pub mod Feeds
 pub mod Filling
 pub mod Fits
 pub mod Left

@@ -5,10 +5,9 @@ ghost use Rattle.gq_load.specs.Answers.{Gives};
 ghost use Rattle.gq_load.specs.Fields.{is_null_field, int_or_null, int_value, null_field, text_value, value_of};
 ghost use Rattle.gq_load.specs.Numbers.{int_of};
 
-use crate::ascii::is_ascii;
 use crate::load_refusal::LoadRefusal;
 use crate::number::{int_of, plain_number};
-use gq_row::{Kind, Value};
+use gq_row::{Kind, Value, is_ascii};
 use std::alloc::Global;
 use std::str;
 

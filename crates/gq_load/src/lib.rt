@@ -14,11 +14,9 @@
 //! [`laws`] say in the subject's own words what `load` means.
 #![tactic(auto)]
 
-mod ascii;
 mod field;
 mod header;
 pub mod laws;
-mod lines;
 mod load_refusal;
 mod number;
 mod payload;
@@ -30,7 +28,6 @@ mod row_reader;
 mod short_records;
 
 pub use field::is_null;
-pub use lines::line_ends;
 pub use load_refusal::LoadRefusal;
 pub use number::int_of;
 pub use payload::load_rows;

@@ -10,12 +10,11 @@ ghost use Rattle.gq_load.specs.Coming.{refusal_in};
 ghost use Rattle.gq_load.specs.Fitting.{AreFit};
 ghost use Rattle.gq_load.specs.Payloads.{load};
 
-use crate::lines::line_ends;
 use crate::load_refusal::LoadRefusal;
 use crate::row_fault::RowFault;
 use crate::row_reader::RowReader;
 use crate::short_records::Short;
-use gq_row::{Limits, Row, Schema, Sequence};
+use gq_row::{Limits, Row, Schema, Sequence, line_ends};
 use std::alloc::Global;
 
 /// The rows of a payload for a table of this schema, in the order of its records, or its first fault.
@@ -33,6 +32,7 @@ pub fn load_rows(
         Ok(reader) => reader,
         Err(fault) => return Err(refusal_of(fault)),
     };
+    // A record takes a line at least.
     let room = line_ends(bytes).min(limits.bounds.rows);
     rows_of(alloc, room, &mut reader)
 }

@@ -1,4 +1,3 @@
-pub mod AsciiLemmas
 pub mod PutLemmas
 pub mod RecordLemmas
 mod Vectors

@@ -4,10 +4,9 @@ ghost use Rattle.std.specs.Int.{to_be_bytes, w32, w64};
 ghost use Rattle.gq_row.specs.declared.value.Value.{Value as Cell};
 ghost use Rattle.gq_record.specs.Records.{IsStorable, IsCell, IsText, record_of, body_of, value_bytes, with_length, number_bytes};
 
-use crate::ascii::is_ascii;
 use crate::kinds::{INT, NO_CASE, NULL, TEXT};
 use byteorder::{BigEndian, ByteOrder};
-use gq_row::{Row, Value};
+use gq_row::{Row, Value, is_ascii};
 use std::alloc::{AllocError, Global};
 use std::{mem, str};
 

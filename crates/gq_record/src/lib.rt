@@ -17,7 +17,6 @@
 //! with another, and none is of two rows.
 #![tactic(auto)]
 
-mod ascii;
 mod decoding;
 mod encoding;
 mod kinds;

@@ -1,6 +1,5 @@
 mod Collected
 mod Ends
-mod Feeds
 pub mod Front
 pub mod Gathered
 pub mod LoadWord

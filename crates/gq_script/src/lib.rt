@@ -14,7 +14,6 @@
 
 mod first_word;
 mod gather;
-mod lines;
 mod payload;
 mod source;
 

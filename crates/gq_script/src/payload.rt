@@ -4,9 +4,8 @@ ghost use Rattle.gq_token.specs.Texts.{Bytes};
 ghost use Rattle.gq_script.specs.Script.{with_lines};
 ghost use Rattle.gq_script.specs.Payloads.{mark_after, mark_of, is_other, is_closing, held, Holds, GoesOn, HasLines, IsPiece, TookLines, TookPayloadLine, TookPayload, Unclosed};
 
-use crate::lines::line_ends;
 use crate::source::{ReadFault, Source};
-use gq_row::Bounds;
+use gq_row::{Bounds, line_ends};
 use memchr::{memchr, memrchr};
 use std::alloc::Global;
 use std::io::Read;

@@ -1,5 +1,5 @@
 use Rattle.std.proofs.Common.{◌∙◌, sym, arith}
-use Rattle.gq_load.proofs.AsciiLemmas.{small_is_utf8}
+use Rattle.gq_row.proofs.AsciiLemmas.{small_is_utf8}
 use Rattle.gq_load.proofs.Texts.{good_text}
 use Rattle.gq_load.proofs.field.plain_text.Goals as goal
 

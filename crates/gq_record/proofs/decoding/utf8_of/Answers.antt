@@ -1,5 +1,5 @@
 use Rattle.std.proofs.Common.{◌∙◌, sym}
-use Rattle.gq_record.proofs.AsciiLemmas.{small_is_utf8}
+use Rattle.gq_row.proofs.AsciiLemmas.{small_is_utf8}
 use Rattle.gq_record.proofs.decoding.utf8_of.Goals as goal
 use Rattle.gq_record.proofs.decoding.utf8_of.Goals.{else-not-is_ascii-via-then-not-is_ascii+else-not-is_utf8, else-not-is_ascii-via-else-not-is_ascii}
 

@@ -6,7 +6,7 @@ ghost use Rattle.std.specs.Prelude.{◌≡◌, ◌≤◌, ◌==◌, length, coun
 const PIECE: usize = 240;
 
 /// The number of line feeds.
-pub(crate) fn line_ends(bytes: &[u8]) -> usize
+pub fn line_ends(bytes: &[u8]) -> usize
     ensures { result ≡ count_by (λ byte. byte == 10) bytes.now }
 {
     let mut count = 0;

@@ -1,8 +1,8 @@
 use Rattle.std.proofs.Common.{◌≡◌, ◌∙◌, ◌≤◌, ◌+◌, ◌-◌, ℕ, List, length, take, drop, eqb, count_by, ap, arith}
 use Rattle.std.proofs.lemmas.List.{length-drop, length-take-le}
 use Rattle.std.proofs.lemmas.List.Sums.{count_by-le-length}
-use Rattle.gq_load.proofs.Feeds.{piece_more}
-use Rattle.gq_load.proofs.lines.line_ends.Goals as goal
+use Rattle.gq_row.proofs.LineFeedLemmas.{piece_more}
+use Rattle.gq_row.proofs.lines.line_ends.Goals as goal
 
 pub loop-at-preserved : goal.loop-at-preserved
 loop-at-preserved c =

@@ -1,7 +1,7 @@
 use Rattle.std.proofs.Common.{take, drop, arith}
 use Rattle.std.proofs.lemmas.Simd.{length-chunk}
-use Rattle.gq_load.proofs.AsciiLemmas.{lanes_small}
-use Rattle.gq_load.proofs.ascii.lanes_are_ascii.Goals as goal
+use Rattle.gq_row.proofs.AsciiLemmas.{lanes_small}
+use Rattle.gq_row.proofs.ascii.lanes_are_ascii.Goals as goal
 
 pub returns : goal.returns
 returns c = lanes_small 8 (take 8 (drop c.args.at c.args.bytes.now)) (length-chunk c.args.at 8 c.args.bytes.now c.requires) (omega arith)

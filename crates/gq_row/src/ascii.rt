@@ -13,7 +13,7 @@ const FEW: usize = 4;
 /// Whether all bytes are ASCII, eight at a time. The last eight overlap those before them, so that no
 /// remainder is left.
 #[inline]
-pub(crate) fn is_ascii(bytes: &[u8]) -> bool
+pub fn is_ascii(bytes: &[u8]) -> bool
     ensures { result ≡ list_all (λ byte. nat_lt byte 128) bytes.now }
 {
     if bytes.len() < LANES {

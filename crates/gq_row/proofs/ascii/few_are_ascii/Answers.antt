@@ -1,6 +1,6 @@
 use Rattle.std.proofs.Common.{◌∙◌, ◌-◌, length, sym, arith}
-use Rattle.gq_load.proofs.AsciiLemmas.{last_small}
-use Rattle.gq_load.proofs.ascii.few_are_ascii.Goals as goal
+use Rattle.gq_row.proofs.AsciiLemmas.{last_small}
+use Rattle.gq_row.proofs.ascii.few_are_ascii.Goals as goal
 
 pub returns-then-four_are_ascii : goal.returns-then-four_are_ascii
 returns-then-four_are_ascii c =

@@ -1,6 +1,6 @@
 use Rattle.std.proofs.Common.{◌≡◌, ◌-◌, true, nat_lt, take}
 use Rattle.std.specs.List.{list_all}
-use Rattle.gq_load.proofs.ascii.is_ascii.Given as goal
+use Rattle.gq_row.proofs.ascii.is_ascii.Given as goal
 
 abbrev pub invariant-loop-at : goal.invariant-loop-at
 invariant-loop-at l = list_all (λ byte. nat_lt byte 128) (take l.at l.bytes) ≡ true

@@ -1,5 +1,5 @@
 use Rattle.std.proofs.Common.{◌≡◌, ◌≤◌, ◌+◌, ◌-◌, length, drop, eqb, count_by}
-use Rattle.gq_script.proofs.lines.line_ends.Given as goal
+use Rattle.gq_row.proofs.lines.line_ends.Given as goal
 
 abbrev pub invariant-loop-at : goal.invariant-loop-at
 invariant-loop-at l = record {

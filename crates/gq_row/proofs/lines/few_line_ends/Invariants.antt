@@ -1,5 +1,5 @@
 use Rattle.std.proofs.Common.{◌≡◌, ◌≤◌, take, eqb, count_by}
-use Rattle.gq_script.proofs.lines.few_line_ends.Given as goal
+use Rattle.gq_row.proofs.lines.few_line_ends.Given as goal
 
 abbrev pub invariant-loop-byte : goal.invariant-loop-byte
 invariant-loop-byte l = record {
