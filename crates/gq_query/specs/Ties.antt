@@ -28,7 +28,7 @@ pub record KeysTie (tie : Tie) (keys : List (List Value)) : Type 0 where
   pub wide : All (λ key. tie.width ≤ length key) keys
   pub ties : All (λ a. All (TieUpTo tie.cell tie.skip a) keys) keys
 
--- so do the keys of groups
+-- the keys of groups tie as far as a tie says
 abbrev pub AreTied : List Value → Tie → List GroupSpan → Type 0
 AreTied cells tie groups = KeysTie tie (map (key_at cells) groups)
 
@@ -36,7 +36,7 @@ AreTied cells tie groups = KeysTie tie (map (key_at cells) groups)
 abbrev pub HasRestPrefix : List Value → Tie → GroupSpan → Type 0
 HasRestPrefix cells tie group = IsValuePrefix (without_bytes tie.skip (cell (key_at cells group) tie.cell)) group.prefix
 
--- a tie goes further: after this prefix of a longer text by its fourteen bytes, else by the cell
+-- how far those tie that also have this prefix: fourteen bytes further in a longer text, else one cell further
 pub record GoesOn (tie : Tie) (prefix : SortPrefix) (next : Tie) : Type 0 where
   pub some : next.cell < next.width
   pub wide : next.width ≡ tie.width

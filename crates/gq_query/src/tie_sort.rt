@@ -80,7 +80,7 @@ pub(crate) fn sort_groups(cells: &Cells, groups: &mut [GroupSpan])
     }
 }
 
-// The least number of cells of a key.
+// The minimum number of cells of a key.
 fn least_width(groups: &[GroupSpan]) -> usize
     ensures { All (λ (g : GroupSpan). result ≤ g.key) groups.now }
 {
@@ -91,8 +91,8 @@ fn least_width(groups: &[GroupSpan]) -> usize
     width
 }
 
-// Sorts each of the groups whose prefixes tie. Returns whether all are in order, as they are if they
-// were sorted by their prefixes.
+// Sorts the groups of each prefix by what follows. Returns whether all are in order, which is so if they
+// came sorted by their prefixes.
 #[cycle(ties)]
 fn sort_ties(cells: &Cells, groups: &mut [GroupSpan], tie: Tie) -> bool
     requires tied { AreTied cells.now tie groups.old }
@@ -112,8 +112,7 @@ fn sort_ties(cells: &Cells, groups: &mut [GroupSpan], tie: Tie) -> bool
     sorted
 }
 
-// Sorts groups with one prefix, which they keep. Returns whether they are in the order of their
-// keys.
+// Sorts groups with one prefix, which they keep. Returns whether their keys are in order.
 #[inline]
 #[cycle(ties)]
 fn sort_tie(cells: &Cells, groups: &mut [GroupSpan], tie: Tie, prefix: SortPrefix) -> bool

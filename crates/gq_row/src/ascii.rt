@@ -7,7 +7,7 @@ use std::simd::prelude::*;
 // The number of bytes that are looked at at once.
 const LANES: usize = 8;
 
-// As many of fewer than `LANES`.
+// The number at once in a text of fewer than `LANES` bytes.
 const FEW: usize = 4;
 
 /// Whether all bytes are ASCII, eight at a time. The last eight overlap those before them, so that no
