@@ -7,7 +7,7 @@ use Rattle.std.proofs.lemmas.List.{drop-drop, drop-map, drop-set-lt, get_or-drop
 use Rattle.std.proofs.lemmas.List.Elements.{All-nil, All-cons, All-append, All-push, All-head, All-tail}
 use Rattle.gq_cells.specs.declared.rows.Span.{Span}
 use Rattle.gq_row.specs.declared.value.Value.{Value}
-use Rattle.gq_cells.specs.Lists.{part, IsPart, row_at}
+use Rattle.gq_cells.specs.Lists.{part, IsPart, moved, row_at}
 
 -- appending to a list changes no part of it
 pub part_kept : {X : Type 0} (xs ys : List X) (start end : ℕ) → start ≤ end → end ≤ length xs → part (xs ++ ys) start end ≡ part xs start end
@@ -41,9 +41,6 @@ span_pushed xs row spans s low high h =
     All-push (IsPart (xs ++ row)) spans s (all_kept xs row spans h) (omega (arith, low, high, length-append xs row), omega (arith, high))
 
 -- ---- spans of a list that is appended to another
-
-abbrev pub moved : ℕ → Span → Span
-moved n s = record { start = n + s.start; end = n + s.end }
 
 -- one element more is changed in its place
 pub moved_in_place : {X : Type 0} (f : X → X) (xs : List X) (i : ℕ) (d : X) → i < length xs

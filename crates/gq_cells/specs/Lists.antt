@@ -1,5 +1,5 @@
 -- Rows in one list of cells.
-use Rattle.std.specs.Prelude.{◌-◌, ◌≤◌, ℕ, List, length, take, drop}
+use Rattle.std.specs.Prelude.{◌+◌, ◌-◌, ◌≤◌, ℕ, List, length, take, drop}
 use Rattle.gq_cells.specs.declared.rows.Span.{Span}
 use Rattle.gq_row.specs.declared.value.Value.{Value}
 
@@ -14,3 +14,7 @@ IsPart xs span = (span.start ≤ span.end) × (span.end ≤ length xs)
 -- the row at a span of a list of cells
 abbrev pub row_at : List Value → Span → List Value
 row_at cells span = part cells span.start span.end
+
+-- a span after this many more elements
+abbrev pub moved : ℕ → Span → Span
+moved n span = record { start = n + span.start; end = n + span.end }

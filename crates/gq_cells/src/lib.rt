@@ -17,4 +17,4 @@ mod tagged_cells;
 pub use cell_ref::CellRef;
 pub use cells::Cells;
 pub use row_ref::RowRef;
-pub use rows::{Rows, Span};
+pub use rows::{RowSpan, Rows, Span};

@@ -1,8 +1,8 @@
 //! Many rows in one list.
-ghost use Rattle.std.specs.Prelude.{◌≡◌, ◌<◌, ◌≤◌, ◌==◌, ◌++◌, ◌∷◌, [], All, IsOk, OnOk, OnErr, length, map, take, slice_index_or};
+ghost use Rattle.std.specs.Prelude.{◌≡◌, ◌<◌, ◌≤◌, ◌==◌, ◌+◌, ◌^◌, ◌++◌, ◌∷◌, [], All, IfOk, IsOk, OnOk, OnErr, length, map, take, slice_index_or};
 ghost use Rattle.std.specs.List.{swap};
 ghost use Rattle.gq_row.specs.Written.{IsInPlace};
-ghost use Rattle.gq_cells.specs.Lists.{IsPart, row_at};
+ghost use Rattle.gq_cells.specs.Lists.{IsPart, moved, row_at};
 
 use crate::cells::Cells;
 use crate::row_ref::RowRef;
@@ -17,13 +17,70 @@ pub struct Span {
     pub end: usize,
 }
 
+/// The range of a row's cells as [`Rows`] store it, in eight bytes, seen as that range.
+#[derive(Clone, Copy)]
+pub struct RowSpan {
+    start: u32,
+    end: u32,
+}
+
+impl Model for RowSpan {
+    ghost use Rattle.gq_cells.specs.declared.rows.Span.{Span as Range};
+
+    ghost Value = { Range };
+
+    ghost view = { λ s. record { start = s.start; end = s.end } };
+
+    ghost inverse = { λ span. record { start = span.start; end = span.end } };
+}
+
+impl RowSpan {
+    /// A range that ends after 2^32 cells (32 GiB or more) counts as out of memory.
+    #[inline]
+    pub fn new(span: Span) -> Result<RowSpan, AllocError>
+        ensures made { IfOk result (λ s. s ≡ span) }
+        ensures fits { span.start < 2 ^ 32 → span.end < 2 ^ 32 → IsOk result }
+    {
+        match (u32::try_from(span.start), u32::try_from(span.end)) {
+            (Ok(start), Ok(end)) => Ok(RowSpan { start, end }),
+            _ => Err(AllocError),
+        }
+    }
+
+    /// The range.
+    #[inline]
+    pub fn get(self) -> Span
+        ensures { result ≡ self }
+    {
+        Span {
+            start: self.start as usize,
+            end: self.end as usize,
+        }
+    }
+
+    // The range after `cells` more cells.
+    #[inline]
+    fn after(self, cells: usize) -> Result<RowSpan, AllocError>
+        ensures moved { IfOk result (λ s. s ≡ moved cells self) }
+        ensures fits { cells + self.start < 2 ^ 32 → cells + self.end < 2 ^ 32 → IsOk result }
+    {
+        let Ok(cells) = u32::try_from(cells) else {
+            return Err(AllocError);
+        };
+        match (self.start.checked_add(cells), self.end.checked_add(cells)) {
+            (Some(start), Some(end)) => Ok(RowSpan { start, end }),
+            _ => Err(AllocError),
+        }
+    }
+}
+
 /// Rows whose cells are stored one after the other in one list, seen as the list of rows. They take two blocks
 /// of memory in all; a list of [`Row`](gq_row::Row)s takes one for each row. Swapping or removing rows moves
 /// spans, and no cell.
 #[derive(Drop)]
 pub struct Rows {
     cells: Cells,
-    spans: Vec<Span>,
+    spans: Vec<RowSpan>,
 }
 
 impl Model for Rows {
@@ -50,7 +107,7 @@ impl Rows {
     }
 
     /// The rows at these spans of a list of cells, without a copy.
-    pub fn of(cells: Cells, spans: Vec<Span>) -> Rows
+    pub fn of(cells: Cells, spans: Vec<RowSpan>) -> Rows
         requires { All (IsPart cells) spans.items }
         ensures { result ≡ map (row_at cells) spans.items }
     {
@@ -58,7 +115,7 @@ impl Rows {
     }
 
     /// The list of all cells, and the span of each row, without a copy.
-    pub fn into_parts(self) -> (Cells, Vec<Span>)
+    pub fn into_parts(self) -> (Cells, Vec<RowSpan>)
         ensures rows { map (row_at result.0) result.1.items ≡ self }
         ensures within { All (IsPart result.0) result.1.items }
     {
@@ -94,7 +151,7 @@ impl Rows {
         requires { position < length self.now }
         ensures { result ≡ slice_index_or self.now position [] }
     {
-        RowRef::new(&self.cells, self.spans[position])
+        RowRef::new(&self.cells, self.spans[position].get())
     }
 
     /// Overwrites `row` with the row at a position. If both have one length, only texts longer than 22 bytes may
@@ -110,7 +167,7 @@ impl Rows {
         ensures in_place { length row.old.items ≡ length (slice_index_or self.now position []) →
             All IsInPlace (slice_index_or self.now position []) → IsOk result }
     {
-        self.cells.copy_part(alloc, self.spans[position], row)
+        self.cells.copy_part(alloc, self.spans[position].get(), row)
     }
 
     /// Appends a row, and leaves `row` empty.
@@ -123,7 +180,7 @@ impl Rows {
         self.cells.push_all(alloc, row.as_mut_slice())?;
         row.clear();
         let end = self.cells.len();
-        self.spans.push(Span { start, end })?;
+        self.spans.push(RowSpan::new(Span { start, end })?)?;
         Ok(())
     }
 
@@ -137,7 +194,7 @@ impl Rows {
             self.cells.push(alloc, &mut value.copy(alloc)?)?;
         }
         let end = self.cells.len();
-        self.spans.push(Span { start, end })?;
+        self.spans.push(RowSpan::new(Span { start, end })?)?;
         Ok(())
     }
 
@@ -149,16 +206,10 @@ impl Rows {
         let Rows { cells, mut spans } = more;
         self.spans.reserve(spans.len())?;
         let start = self.cells.len();
-        self.cells.append(alloc, cells)?;
-        // Both lists are in memory, so these sums can't overflow.
-        let _all = self.cells.len();
         for i in 0..spans.len() {
-            let span = spans[i];
-            spans[i] = Span {
-                start: start + span.start,
-                end: start + span.end,
-            };
+            spans[i] = spans[i].after(start)?;
         }
+        self.cells.append(alloc, cells)?;
         self.spans.append(&mut spans)?;
         Ok(())
     }

@@ -12,7 +12,7 @@ ghost use Rattle.gq_query.specs.Joining.{row_of};
 
 use crate::sort_prefix::{SortPrefix, prefix_in};
 use crate::tie_sort::sort_groups;
-use gq_cells::{Cells, Rows, Span};
+use gq_cells::{Cells, RowSpan, Rows, Span};
 use gq_group::{GroupSink, Refusal};
 use gq_row::{Key, Value};
 use gq_spill::RunStore;
@@ -223,10 +223,11 @@ impl GroupList {
     {
         let mut spans = Vec::with_capacity(alloc, self.groups.len())?;
         for group in &self.groups {
-            spans.push(Span {
+            let span = Span {
                 start: group.start(),
                 end: group.end(),
-            })?;
+            };
+            spans.push(RowSpan::new(span)?)?;
         }
         Ok(Rows::of(self.cells, spans))
     }
@@ -237,10 +238,11 @@ impl GroupList {
     {
         let mut spans = Vec::with_capacity(alloc, self.groups.len())?;
         for group in &self.groups {
-            spans.push(Span {
+            let span = Span {
                 start: group.middle(),
                 end: group.end(),
-            })?;
+            };
+            spans.push(RowSpan::new(span)?)?;
         }
         Ok(Rows::of(self.cells, spans))
     }

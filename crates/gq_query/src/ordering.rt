@@ -13,7 +13,7 @@ ghost use Rattle.gq_query.specs.Answers.{ordered_by};
 ghost use Rattle.gq_query.specs.Spans.{row_in};
 
 use crate::sort_prefix::{next_prefixes, prefix_in};
-use gq_cells::{Cells, Rows, Span};
+use gq_cells::{Cells, RowSpan, Rows};
 use gq_row::{Value, compare_cells, compare_folded};
 use std::alloc::{AllocError, Global};
 use std::cmp::Ordering;
@@ -29,7 +29,11 @@ pub fn sort_rows(alloc: Global, rows: Rows, columns: &[usize]) -> Result<Rows, A
 }
 
 // Sorts the spans of rows in the same way.
-fn sort_spans(cells: &[Value], spans: &mut Vec<Span>, columns: &[usize]) -> Result<(), AllocError>
+fn sort_spans(
+    cells: &[Value],
+    spans: &mut Vec<RowSpan>,
+    columns: &[usize],
+) -> Result<(), AllocError>
     ensures moved { IsPermutation spans.old.items spans.new.items }
     ensures ascending { OnOk result (IsSortedByKey
         (λ span. ordered_by columns.now (row_in cells.now span)) compare_keys spans.new.items) }
@@ -42,7 +46,7 @@ fn sort_spans(cells: &[Value], spans: &mut Vec<Span>, columns: &[usize]) -> Resu
 // less memory than one with longer keys.
 fn sort_by_prefixes(
     cells: &[Value],
-    spans: &mut Vec<Span>,
+    spans: &mut Vec<RowSpan>,
     columns: &[usize],
 ) -> Result<(), AllocError>
     ensures { IsPermutation spans.old.items spans.new.items }
@@ -55,9 +59,10 @@ fn sort_by_prefixes(
 
 // The row at a span, or an empty one if the span isn't within the list.
 #[inline]
-fn row_in<'a>(cells: &'a [Value], span: &Span) -> &'a [Value]
+fn row_in<'a>(cells: &'a [Value], span: &RowSpan) -> &'a [Value]
     ensures { result.now ≡ row_in cells.now span.now }
 {
+    let span = span.get();
     if span.start <= span.end && span.end <= cells.len() {
         &cells[span.start..span.end]
     } else {

@@ -1,13 +1,16 @@
-use Rattle.std.proofs.Common.{◌≡◌, ◌++◌, ◌∙◌, ◌<◌, length, map, rules, arith}
+use Rattle.std.proofs.Common.{◌≡◌, ◌++◌, ◌∙◌, ◌<◌, length, map, ap, slice_set, rules, arith}
 use Rattle.std.proofs.lemmas.Grind.{common_steps}
-use Rattle.gq_cells.specs.Lists.{row_at}
-use Rattle.gq_cells.proofs.RowsLemmas.{moved, one_moved, rows_appended, spans_appended}
+use Rattle.gq_cells.specs.Lists.{moved, row_at}
+use Rattle.gq_cells.proofs.RowsLemmas.{one_moved, rows_appended, spans_appended}
 use Rattle.gq_cells.proofs.rows.Rows.append.Goals as goal
 
 pub loop-i-preserved : goal.loop-i-preserved
 loop-i-preserved c =
-    let within : c.loop-i.i < length c.more.inside.spans.items = grind (arith, common_steps) in
-    one_moved c.len-start.result c.more.inside.spans.items c.loop-i.spans.items c.loop-i.i c.index-span.result.now c.index-span.result.now within c.loop-i.invariant c.index-span.ensures
+    let spans = c.more.inside.spans.items in
+    let element = c.index.result.now in
+    let within : c.loop-i.i < length spans = grind (arith, common_steps) in
+    ap (slice_set c.loop-i.spans.items c.loop-i.i) c.in_ok-spans.ensures.moved
+    ∙ one_moved c.len-start.result spans c.loop-i.spans.items c.loop-i.i element element within c.loop-i.invariant c.index.ensures
 
 pub invariant_of-self-2 : goal.invariant_of-self-2
 invariant_of-self-2 c =

@@ -1,5 +1,5 @@
 use Rattle.std.proofs.Common.{◌≡◌, ◌++◌, map, take, drop}
-use Rattle.gq_cells.proofs.RowsLemmas.{moved}
+use Rattle.gq_cells.specs.Lists.{moved}
 use Rattle.gq_cells.proofs.rows.Rows.append.Given as goal
 
 abbrev pub invariant-loop-i : goal.invariant-loop-i

@@ -35,3 +35,12 @@ returns-in_err-push_all-clause-unchanged c =
     let still : map (row_at c.push_all.new.self) spans ≡ c.args.self.now =
     (λ i. map (row_at (c.push_all.ensures.kept i)) spans) ∙ rows_kept xs more spans c.self.invariant ∙ c.self.view_is in
     search rules
+
+pub returns-in_err-new-clause-unchanged : goal.returns-in_err-new-clause-unchanged
+returns-in_err-new-clause-unchanged c =
+    let xs = c.self.inside.cells in
+    let more = drop (length xs) c.push_all.new.self in
+    let spans = c.self.inside.spans.items in
+    let still : map (row_at c.push_all.new.self) spans ≡ c.args.self.now =
+    (λ i. map (row_at (c.push_all.ensures.kept i)) spans) ∙ rows_kept xs more spans c.self.invariant ∙ c.self.view_is in
+    search rules

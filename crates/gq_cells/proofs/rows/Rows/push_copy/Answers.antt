@@ -46,3 +46,12 @@ returns-in_err-push-2-clause-unchanged c =
     let still : map (row_at c.loop-value.self-inside.cells) c.push-2.new.self.items ≡ c.args.self.now =
     (λ i. map (row_at (cells i)) (spans i)) ∙ rows_kept xs row c.self.inside.spans.items c.self.invariant ∙ c.self.view_is in
     search rules
+
+pub returns-in_err-new-clause-unchanged : goal.returns-in_err-new-clause-unchanged
+returns-in_err-new-clause-unchanged c =
+    let xs = c.self.inside.cells in
+    let row = c.args.row.now in
+    let cells : c.loop-value.self-inside.cells ≡ xs ++ row = grind (arith, common_steps) in
+    let still : map (row_at c.loop-value.self-inside.cells) c.self.inside.spans.items ≡ c.args.self.now =
+    (λ i. map (row_at (cells i)) c.self.inside.spans.items) ∙ rows_kept xs row c.self.inside.spans.items c.self.invariant ∙ c.self.view_is in
+    search rules
