@@ -1,5 +1,10 @@
 -- The number that the first of eight bytes spell.
-use Rattle.std.proofs.Common.{◌≡◌, ◌+◌, ◌-◌, ◌*◌, ◌/◌, ◌<◌, ◌^◌, ℕ, zero, suc, List, [], ◌∷◌, length, take, get_or, arith, sym, ap, ◌∙◌}
+use Rattle.std.proofs.Common.{◌≡◌, ◌+◌, ◌-◌, ◌*◌, ◌/◌, ◌<◌, ◌^◌, ℕ, zero, suc, List, [], ◌∷◌, ◌++◌, ◌≤◌, length, take, replicate, get_or, refl, arith, sym, ap, ◌∙◌}
+use Rattle.std.specs.Int.{w64, to_be_bytes, from_be_bytes}
+use Rattle.std.proofs.lemmas.List.{length-take-le, take-append-drop, take-replicate}
+use Rattle.std.proofs.Math.Seq.{take-append-add}
+use Rattle.std.proofs.lemmas.Nat.{be_bytes_8}
+use Rattle.gq_row.specs.ShortTexts.{IsShort}
 use Rattle.sw_probe.specs.Hashes.{number_of, read_step}
 
 -- eight bytes as a number, big-endian
@@ -56,3 +61,51 @@ first_spell (a ∷ b ∷ c ∷ d ∷ e ∷ []) n long small some few = absurd (o
 first_spell (a ∷ b ∷ c ∷ d ∷ e ∷ f ∷ []) n long small some few = absurd (omega arith)
 first_spell (a ∷ b ∷ c ∷ d ∷ e ∷ f ∷ g ∷ []) n long small some few = absurd (omega arith)
 first_spell (a ∷ b ∷ c ∷ d ∷ e ∷ f ∷ g ∷ h ∷ rest) n long small some few = spelled_by a b c d e f g h rest (small 0) (small 1) (small 2) (small 3) (small 4) (small 5) (small 6) (small 7) n some few
+
+-- ---- a text and zeros after it
+
+-- the first eight of some bytes
+abbrev pub eight : List ℕ → List ℕ
+eight bytes = get_or bytes 0 0 ∷ get_or bytes 1 0 ∷ get_or bytes 2 0 ∷ get_or bytes 3 0 ∷ get_or bytes 4 0 ∷ get_or bytes 5 0 ∷ get_or bytes 6 0 ∷ get_or bytes 7 0 ∷ []
+
+eight_taken : (bytes : List ℕ) → 8 ≤ length bytes → eight bytes ≡ take 8 bytes
+eight_taken [] long = absurd (omega (arith, long))
+eight_taken (a ∷ []) long = absurd (omega (arith, long))
+eight_taken (a ∷ b ∷ []) long = absurd (omega (arith, long))
+eight_taken (a ∷ b ∷ c ∷ []) long = absurd (omega (arith, long))
+eight_taken (a ∷ b ∷ c ∷ d ∷ []) long = absurd (omega (arith, long))
+eight_taken (a ∷ b ∷ c ∷ d ∷ e ∷ []) long = absurd (omega (arith, long))
+eight_taken (a ∷ b ∷ c ∷ d ∷ e ∷ f ∷ []) long = absurd (omega (arith, long))
+eight_taken (a ∷ b ∷ c ∷ d ∷ e ∷ f ∷ g ∷ []) long = absurd (omega (arith, long))
+eight_taken (a ∷ b ∷ c ∷ d ∷ e ∷ f ∷ g ∷ h ∷ rest) long = refl
+
+-- the bytes of the number of the first eight, if the text has at most seven
+pub padded : (len : ℕ) (bytes : List ℕ) (n : ℕ) → IsShort len bytes → ((i : ℕ) → get_or bytes i 0 < 256) → len < 8 → n ≡ from_be_bytes w64 (eight bytes)
+    → to_be_bytes w64 n ≡ take len bytes ++ replicate (8 - length (take len bytes)) 0
+padded len bytes n short small few is =
+    be_bytes_8 (eight bytes) n refl small_eight is
+    ∙ eight_taken bytes (omega (arith, short.whole))
+    ∙ ap (take 8) (sym (take-append-drop len bytes) ∙ ap (λ l. take len bytes ++ l) short.zeros)
+    ∙ zeros
+  where
+    size : length (take len bytes) ≡ len
+    size = length-take-le len bytes (omega (arith, short.fits, short.whole))
+
+    zeros : take 8 (take len bytes ++ replicate (22 - len) 0) ≡ take len bytes ++ replicate (8 - length (take len bytes)) 0
+    zeros =
+        let text = take len bytes in
+        let whole : 8 ≡ length text + (8 - length text) = omega (arith, size, few) in
+        ap (λ n. take n (text ++ replicate (22 - len) 0)) whole
+        ∙ take-append-add text (replicate (22 - len) 0) (8 - length text)
+        ∙ ap (λ l. text ++ l) (take-replicate (8 - length text) (22 - len) 0 (omega (arith, size, few)))
+
+    small_eight : (i : ℕ) → get_or (eight bytes) i 0 < 256
+    small_eight zero = small 0
+    small_eight (suc zero) = small 1
+    small_eight (suc (suc zero)) = small 2
+    small_eight (suc (suc (suc zero))) = small 3
+    small_eight (suc (suc (suc (suc zero)))) = small 4
+    small_eight (suc (suc (suc (suc (suc zero))))) = small 5
+    small_eight (suc (suc (suc (suc (suc (suc zero)))))) = small 6
+    small_eight (suc (suc (suc (suc (suc (suc (suc zero))))))) = small 7
+    small_eight (suc (suc (suc (suc (suc (suc (suc (suc i)))))))) = omega arith

@@ -1,5 +1,6 @@
 //! Texts of up to 22 bytes, stored inline.
-ghost use Rattle.std.specs.Prelude.{◌≡◌, ◌+◌, ◌≤◌, ◌<◌, ◌++◌, [], IfSome, length, take, drop, bytes_eq};
+ghost use Rattle.std.specs.Int.{w64, to_be_bytes};
+ghost use Rattle.std.specs.Prelude.{◌≡◌, ◌+◌, ◌-◌, ◌≤◌, ◌<◌, ◌++◌, [], IfNone, IfSome, IsUtf8, length, take, drop, replicate, bytes_eq};
 ghost use Rattle.sw_probe.specs.Hashes.{number_of};
 
 use std::marker::Model;
@@ -91,6 +92,21 @@ impl ShortText {
         let b = &self.bytes;
         let eight = u64::from_be_bytes([b[0], b[1], b[2], b[3], b[4], b[5], b[6], b[7]]);
         Some(eight >> (8 * (8 - self.len)))
+    }
+
+    /// The number of eight bytes, big-endian, that are the text and zeros after it, if it has at most seven.
+    #[inline(always)]
+    pub(crate) fn padded_number(&self) -> Option<u64>
+        ensures few { IfSome result (λ n. length self.now < 8) }
+        ensures none { IfNone result (7 < length self.now) }
+        ensures valid { IfSome result (λ n. ∥ IsUtf8 self.now ∥₁) }
+        ensures padded { IfSome result (λ n. to_be_bytes w64 n ≡ self.now ++ replicate (8 - length self.now) 0) }
+    {
+        if self.len > 7 {
+            return None;
+        }
+        let b = &self.bytes;
+        Some(u64::from_be_bytes([b[0], b[1], b[2], b[3], b[4], b[5], b[6], b[7]]))
     }
 
     /// Whether two texts are equal: their lengths and all 22 bytes.
