@@ -1,3 +1,4 @@
 pub mod TaggedCellLemmas
 pub mod OrderLemmas
 pub mod RowsLemmas
+pub mod WordTextLemmas

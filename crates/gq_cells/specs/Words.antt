@@ -1,17 +1,35 @@
--- Tagged words: numbers, or indices of values in the overflow.
-use Rattle.std.specs.Prelude.{◌^◌, ◌<◌, ◌≤◌, ◌-◌, ◌-ℤ◌, ℕ, Bool, true, false, List, cond, nat_lt, pos, slice_index_or}
+-- Tagged words: numbers, indices of values in the overflow, or short texts.
+use Rattle.std.specs.Prelude.{◌*◌, ◌^◌, ◌%◌, ◌<◌, ◌≤◌, ◌-◌, ◌-ℤ◌, ℕ, Bool, true, false, List, cond, drop, nat_lt, pos, slice_index_or, take, IsUtf8}
+use Rattle.std.specs.Int.{w64, to_be_bytes}
 use Rattle.std.specs.declared.cmp.Ordering.{Ordering}
 use Rattle.gq_row.specs.Order.{compare_values, folded_order}
 use Rattle.gq_row.specs.declared.value.Value.{Value}
-use Rattle.gq_row.specs.declared.value.Value.TheVariants.{Int, Null}
+use Rattle.gq_row.specs.declared.value.Value.TheVariants.{Int, Null, Text}
 
--- the value of a word: below 2^63 the number biased by 2^62, else the value of the overflow at the index biased by 2^63
+-- bytes are UTF-8
+abbrev pub IsValid : List ℕ → Type 0
+IsValid bytes = ∥ IsUtf8 bytes ∥₁
+
+-- the text in some bytes: the lowest three bits of the first are its length, and it follows
+abbrev pub short_in : List ℕ → List ℕ
+short_in bytes = take (slice_index_or bytes 0 0 % 8) (drop 1 bytes)
+
+-- the text in a word, by the word's bytes from the highest on
+abbrev pub text_in : ℕ → List ℕ
+text_in word = short_in (to_be_bytes w64 word)
+
+-- the value of a word: below 2^63 the number biased by 2^62; below 3 · 2^62 the value of the overflow at the index biased by 2^63; else a text
 abbrev pub word_value : List Value → ℕ → Value
-word_value overflow word = cond (nat_lt word (2 ^ 63)) (Int (pos word -ℤ pos (2 ^ 62))) (slice_index_or overflow (word - 2 ^ 63) Null)
+word_value overflow word = cond (nat_lt word (2 ^ 63)) (Int (pos word -ℤ pos (2 ^ 62))) (cond (nat_lt word (3 * 2 ^ 62)) (slice_index_or overflow (word - 2 ^ 63) Null) (Text (text_in word)))
 
--- a word is a number, or an index into an overflow of this length
-abbrev pub IsWord : ℕ → ℕ → Type 0
-IsWord places word = 2 ^ 63 ≤ word → word - 2 ^ 63 < places
+-- if a word is a text, its bytes are UTF-8
+abbrev pub HasUtf8 : ℕ → Type 0
+HasUtf8 word = 3 * 2 ^ 62 ≤ word → IsValid (text_in word)
+
+-- a word is a number, an index into an overflow of this length, or a text
+pub record IsWord (places word : ℕ) : Type 0 where
+  pub within : 2 ^ 63 ≤ word → word < 3 * 2 ^ 62 → word - 2 ^ 63 < places
+  pub utf8 : HasUtf8 word
 
 -- the order of values by their folds, or their own order
 abbrev pub value_order : Bool → Value → Value → Ordering

@@ -3,16 +3,17 @@ ghost use Rattle.std.specs.Prelude.{◌≡◌, IsOk, OnOk};
 ghost use Rattle.gq_row.specs.Written.{IsInPlace};
 ghost use Rattle.gq_cells.specs.Cells.{number_cell, value_of};
 
-use gq_row::{Text, Value};
+use crate::text_ref::TextRef;
+use gq_row::Value;
 use std::alloc::{AllocError, Global};
 
-/// A reference to a value in a list: a number is copied, a text is borrowed.
+/// A reference to a value in a list: a number is copied, a text is borrowed or, if it is in a word, copied.
 #[derive(Clone, Copy)]
 pub enum CellRef<'a> {
     Null,
     Int(i64),
-    Text(&'a Text),
-    NoCase(&'a Text),
+    Text(TextRef<'a>),
+    NoCase(TextRef<'a>),
 }
 
 impl<'a> CellRef<'a> {
@@ -24,8 +25,8 @@ impl<'a> CellRef<'a> {
         match value {
             Value::Null => CellRef::Null,
             Value::Int(n) => CellRef::Int(*n),
-            Value::Text(text) => CellRef::Text(text),
-            Value::NoCase(text) => CellRef::NoCase(text),
+            Value::Text(text) => CellRef::Text(TextRef::Stored(text)),
+            Value::NoCase(text) => CellRef::NoCase(TextRef::Stored(text)),
         }
     }
 

@@ -3,7 +3,7 @@ ghost use Rattle.std.specs.Prelude.{◌≡◌, ◌<◌, ◌≤◌, ◌+◌, ◌-
 ghost use Rattle.gq_row.specs.declared.value.Value.TheVariants.{Int, Null};
 ghost use Rattle.gq_row.specs.Order.{compare_keys};
 ghost use Rattle.gq_row.specs.Written.{IsInPlace};
-ghost use Rattle.gq_cells.specs.Cells.{IsText, slice_values, number_cell, value_of};
+ghost use Rattle.gq_cells.specs.Cells.{HaveUtf8, IsText, slice_values, number_cell, value_of};
 ghost use Rattle.gq_cells.specs.Lists.{IsPart, part, row_at};
 
 use crate::cell_ref::CellRef;
@@ -56,7 +56,7 @@ impl Cells {
         }
     }
 
-    /// An empty list that stores texts out of line. It takes no memory.
+    /// An empty list that stores texts of more than seven bytes out of line. It takes no memory.
     pub fn with_texts_apart(alloc: Global) -> Cells
         ensures { result ≡ [] }
     {
@@ -119,7 +119,8 @@ impl Cells {
     #[inline(always)]
     pub(crate) fn lend(&self, part: Span) -> CellSlice<'_>
         requires { IsPart self.now part }
-        ensures { slice_values result ≡ row_at self.now part }
+        ensures values { slice_values result ≡ row_at self.now part }
+        ensures utf8 { HaveUtf8 result }
     {
         match &self.stored {
             Stored::Numbers(numbers) => CellSlice::Numbers(&numbers[part.start..part.end]),

@@ -30,11 +30,13 @@ pub(crate) enum CellSlice<'a> {
 impl<'a> Model for RowRef<'a> {
     ghost use Rattle.std.specs.Prelude.{List};
     ghost use Rattle.gq_row.specs.declared.value.Value.{Value as Cell};
-    ghost use Rattle.gq_cells.specs.Cells.{slice_values};
+    ghost use Rattle.gq_cells.specs.Cells.{HaveUtf8, slice_values};
 
     ghost Value = { List Cell };
 
     ghost view = { λ r. slice_values r.cells };
+
+    ghost invariant = { λ r. HaveUtf8 r.cells };
 }
 
 impl<'a> RowRef<'a> {

@@ -1,24 +1,25 @@
-//! Numbers in eight bytes each, and texts out of line.
-ghost use Rattle.std.specs.Prelude.{◌≡◌, ◌<◌, ◌^◌, ◌++◌, ◌∷◌, ◌-ℤ◌, [], ℕ, pos, IfOk, IfNone, IfSome, IsOk, OnOk, OnErr, drop, length, map, take, slice_index_or};
+//! Numbers and short texts in eight bytes each, and longer texts out of line.
+ghost use Rattle.std.specs.Prelude.{◌≡◌, ◌<◌, ◌≤◌, ◌+◌, ◌*◌, ◌^◌, ◌++◌, ◌∷◌, ◌-ℤ◌, [], ℕ, pos, All, IfOk, IfNone, IfSome, IsOk, OnOk, OnErr, drop, length, map, take, slice_index_or};
 ghost use Rattle.gq_row.specs.declared.value.Value.TheVariants.{Null};
 ghost use Rattle.gq_row.specs.Order.{compare_keys};
 ghost use Rattle.gq_row.specs.Written.{IsInPlace};
 ghost use Rattle.std.specs.Cmp.Lexicographic.{slice_cmp};
 ghost use Rattle.std.specs.Ordering.{nat_cmp};
-ghost use Rattle.gq_cells.specs.Cells.{value_of};
+ghost use Rattle.gq_cells.specs.Cells.{text_of, value_of};
 ghost use Rattle.gq_cells.specs.Lists.{IsPart, row_at};
-ghost use Rattle.gq_cells.specs.Words.{value_order, word_value};
+ghost use Rattle.gq_cells.specs.Words.{HasUtf8, IsWord, text_in, value_order, word_value};
 
 use crate::cell_ref::CellRef;
 use crate::cells::push_value;
 use crate::rows::Span;
+use crate::text_ref::{TextRef, WordText};
 use gq_row::{Text, Value, compare, compare_folded};
 use std::alloc::{AllocError, Global};
 use std::cmp::Ordering;
 use std::marker::Model;
 
-/// A list of values, each with a tagged word: below 2^63 an integer biased by 2^62, else an index into
-/// `overflow`, biased by 2^63. That has all other values, and the numbers that are too large for a word.
+/// A list of values, each with a tagged word: below 2^63 an integer biased by 2^62; below 3 · 2^62 an index
+/// into `overflow`, biased by 2^63; else a text of up to seven bytes. `overflow` has all other values.
 #[derive(Drop)]
 pub(crate) struct TaggedCells {
     words: Vec<u64>,
@@ -30,6 +31,9 @@ const ZERO: i64 = 1 << 62;
 
 // The bias of indices into `overflow`.
 const OVERFLOW: u64 = 1 << 63;
+
+// The word of the empty text. The highest byte of a text's word has its length too, and the text follows.
+const TEXT: u64 = 3 << 62;
 
 impl Model for TaggedCells {
     ghost use Rattle.std.specs.Prelude.{List, All, length, map};
@@ -84,15 +88,13 @@ impl TaggedCells {
         ensures pushed { OnOk result (self.new ≡ self.old ++ value.old ∷ []) }
         ensures unchanged { OnErr result (self.new ≡ self.old) }
     {
-        if let Value::Int(n) = value
-            && let Some(word) = word_of(*n)
-        {
+        if let Some(word) = word_of(value) {
             self.words.push(word)?;
             return Ok(());
         }
-        let place = self.overflow.len() as u64;
+        let word = word_of_place(self.overflow.len())?;
         push_value(&mut self.overflow, value)?;
-        self.words.push(OVERFLOW + place)?;
+        self.words.push(word)?;
         Ok(())
     }
 
@@ -140,7 +142,8 @@ impl TaggedCells {
     #[inline(always)]
     pub(crate) fn lend(&self, part: Span) -> (&[u64], &[Value])
         requires { IsPart self.now part }
-        ensures { map (word_value result.1.now) result.0.now ≡ row_at self.now part }
+        ensures values { map (word_value result.1.now) result.0.now ≡ row_at self.now part }
+        ensures utf8 { All HasUtf8 result.0.now }
     {
         (&self.words[part.start..part.end], self.overflow.as_slice())
     }
@@ -167,9 +170,46 @@ impl TaggedCells {
     }
 }
 
+// The word of a value that takes no place in the overflow.
+#[inline(always)]
+fn word_of(value: &Value) -> Option<u64>
+    ensures word { IfSome result (IsWord 0) }
+    ensures value { IfSome result (λ word. word_value [] word ≡ value.now) }
+{
+    match value {
+        Value::Int(n) => word_of_number(*n),
+        Value::Text(text) => word_of_text(text),
+        Value::Null | Value::NoCase(_) => None,
+    }
+}
+
+// The word of a text, if it fits in one.
+#[inline(always)]
+fn word_of_text(text: &Text) -> Option<u64>
+    ensures word { IfSome result (λ word. 3 * 2 ^ 62 ≤ word) }
+    ensures text { IfSome result (λ word. text_in word ≡ text.now) }
+    ensures utf8 { IfSome result HasUtf8 }
+{
+    let number = text.padded_number()?;
+    Some(TEXT + ((text.len() as u64) << 56) + number / 256)
+}
+
+// The word of a place in the overflow. A place from 2^62 on counts as out of memory.
+#[inline(always)]
+fn word_of_place(place: usize) -> Result<u64, AllocError>
+    ensures word { IfOk result (λ word. (place < 2 ^ 62) × (word ≡ 2 ^ 63 + place)) }
+    ensures fits { place < 2 ^ 62 → IsOk result }
+{
+    if place < 1 << 62 {
+        Ok(OVERFLOW + place as u64)
+    } else {
+        Err(AllocError)
+    }
+}
+
 // The word of a number, if it fits in one.
 #[inline(always)]
-fn word_of(n: i64) -> Option<u64>
+fn word_of_number(n: i64) -> Option<u64>
     ensures some { IfSome result (λ word. (word < 2 ^ 63) × (pos word -ℤ pos (2 ^ 62) ≡ n)) }
     ensures none { IfNone result ((word : ℕ) → word < 2 ^ 63 → pos word -ℤ pos (2 ^ 62) ≡ n → ⊥) }
 {
@@ -182,10 +222,14 @@ fn word_of(n: i64) -> Option<u64>
 // A reference to the value of a word.
 #[inline(always)]
 pub(crate) fn lend_word(word: u64, overflow: &[Value]) -> CellRef<'_>
+    requires { HasUtf8 word }
     ensures { value_of result ≡ word_value overflow.now word }
 {
     if word < OVERFLOW {
         return CellRef::Int(word as i64 - ZERO);
+    }
+    if word >= TEXT {
+        return CellRef::Text(TextRef::Short(WordText::of(word)));
     }
     match overflow.get((word - OVERFLOW) as usize) {
         Some(value) => CellRef::of(value),
@@ -195,6 +239,7 @@ pub(crate) fn lend_word(word: u64, overflow: &[Value]) -> CellRef<'_>
 
 // Compares the values of words lexicographically: by their folds alone, or by their bytes too.
 fn compare_words(a: &[u64], b: &[u64], overflow: &[Value], by_folds: bool) -> Ordering
+    requires { All HasUtf8 a.now × All HasUtf8 b.now }
     ensures { result ≡ slice_cmp (value_order by_folds)
         (map (word_value overflow.now) a.now) (map (word_value overflow.now) b.now) }
 {
@@ -219,6 +264,7 @@ fn compare_words(a: &[u64], b: &[u64], overflow: &[Value], by_folds: bool) -> Or
 // Compares the values of two words. Numbers, and texts with case, take no `Value`.
 #[inline(always)]
 fn compare_word(x: u64, y: u64, overflow: &[Value], by_folds: bool) -> Ordering
+    requires { HasUtf8 x × HasUtf8 y }
     ensures { result ≡ value_order by_folds (word_value overflow.now x) (word_value overflow.now y) }
 {
     if x < OVERFLOW && y < OVERFLOW {
@@ -232,10 +278,12 @@ fn compare_word(x: u64, y: u64, overflow: &[Value], by_folds: bool) -> Ordering
 
 // Compares texts with case. Most cells of neighbours are equal, and that takes the least time.
 #[inline(always)]
-fn compare_texts(a: &Text, b: &Text) -> Ordering
-    ensures { result ≡ slice_cmp nat_cmp a.now b.now }
+fn compare_texts(a: TextRef<'_>, b: TextRef<'_>) -> Ordering
+    ensures { result ≡ slice_cmp nat_cmp (text_of a.entry) (text_of b.entry) }
 {
-    if a == b {
+    if let (TextRef::Stored(a), TextRef::Stored(b)) = (a, b)
+        && a == b
+    {
         return Ordering::Equal;
     }
     a.as_str().cmp(b.as_str())
@@ -243,6 +291,7 @@ fn compare_texts(a: &Text, b: &Text) -> Ordering
 
 // Compares the values of two words of any kinds.
 fn compare_other(x: u64, y: u64, overflow: &[Value], by_folds: bool) -> Ordering
+    requires { HasUtf8 x × HasUtf8 y }
     ensures { result ≡ value_order by_folds (word_value overflow.now x) (word_value overflow.now y) }
 {
     let (own_x, own_y) = (own_value(x), own_value(y));
@@ -255,12 +304,15 @@ fn compare_other(x: u64, y: u64, overflow: &[Value], by_folds: bool) -> Ordering
     }
 }
 
-// The number in a word, or null if the word is an index.
+// The number or the text in a word, or null if the word is an index.
 fn own_value(word: u64) -> Value
+    requires { HasUtf8 word }
     ensures { result ≡ word_value [] word }
 {
     if word < OVERFLOW {
         Value::Int(word as i64 - ZERO)
+    } else if word >= TEXT {
+        Value::Text(Text::of_short(WordText::of(word).as_str()))
     } else {
         Value::Null
     }
@@ -271,7 +323,7 @@ fn value_of_word<'a>(word: u64, overflow: &'a [Value], own: &'a Value) -> &'a Va
     requires { own.now ≡ word_value [] word }
     ensures { result.now ≡ word_value overflow.now word }
 {
-    if word < OVERFLOW {
+    if word < OVERFLOW || word >= TEXT {
         return own;
     }
     match overflow.get((word - OVERFLOW) as usize) {

@@ -120,7 +120,7 @@ fn push_part(
     match part {
         Part::Bars => push_bars(text, column.width),
         Part::Name => {
-            show_text(buffer, column.name)?;
+            show_text(buffer, column.name.as_str())?;
             push_aligned(text, buffer, column.is_numeric, column.width)
         }
         Part::Cell(row) => {

@@ -51,7 +51,7 @@ fn column_of<'a>(
 ) -> Result<Column<'a>, AllocError>
     ensures { IfOk result (λ column. column ≡ column_of rows.now (place, name.now)) }
 {
-    show_text(buffer, name)?;
+    show_text(buffer, name.as_str())?;
     let mut width = width_of(buffer);
     let mut is_numeric = false;
     for i in 0..rows.len() {

@@ -6,7 +6,6 @@ ghost use Rattle.gq_cells.specs.Cells.{value_of};
 ghost use Rattle.gq_format.specs.Shown.{shown, shown_char, shown_text, terminal_width};
 
 use gq_cells::CellRef;
-use gq_row::Text;
 use itoa::Buffer;
 use std::alloc::AllocError;
 use unicode_width::UnicodeWidthStr;
@@ -21,7 +20,7 @@ pub(crate) fn show(buffer: &mut String, cell: CellRef<'_>) -> Result<(), AllocEr
             buffer.push_str("NULL")
         }
         CellRef::Int(n) => show_number(buffer, n),
-        CellRef::Text(text) | CellRef::NoCase(text) => show_text(buffer, text),
+        CellRef::Text(text) | CellRef::NoCase(text) => show_text(buffer, text.as_str()),
     }
 }
 
@@ -35,11 +34,11 @@ fn show_number(buffer: &mut String, n: i64) -> Result<(), AllocError>
 }
 
 // Replaces the buffer's contents by what a box shows of a text.
-pub(crate) fn show_text(buffer: &mut String, text: &Text) -> Result<(), AllocError>
+pub(crate) fn show_text(buffer: &mut String, text: &str) -> Result<(), AllocError>
     ensures { OnOk result (string_bytes buffer.new ≡ encode_utf8_all (shown_text text.now)) }
 {
     buffer.clear();
-    for c in text.as_str().chars() {
+    for c in text.chars() {
         push_shown(buffer, c)?;
     }
     Ok(())

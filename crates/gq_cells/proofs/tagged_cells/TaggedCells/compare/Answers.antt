@@ -1,11 +1,31 @@
-use Rattle.std.proofs.Common.{◌≡◌, ◌∙◌, Equal, map, sym}
+use Rattle.std.proofs.Common.{◌≡◌, ◌∙◌, All, Equal, length, map, subst, sym}
 use Rattle.std.specs.Cmp.Lexicographic.{slice_cmp}
 use Rattle.gq_row.specs.Order.{compare_values, folded_order}
-use Rattle.gq_cells.specs.Lists.{row_at}
-use Rattle.gq_cells.specs.Words.{word_value}
-use Rattle.gq_cells.proofs.TaggedCellLemmas.{words_at}
+use Rattle.gq_cells.specs.Lists.{part, row_at}
+use Rattle.gq_cells.specs.Words.{HasUtf8, word_value}
+use Rattle.gq_cells.proofs.TaggedCellLemmas.{utf8_at, words_at}
 use Rattle.gq_cells.proofs.OrderLemmas.{keys_by_folds, keys_by_values}
 use Rattle.gq_cells.proofs.tagged_cells.TaggedCells.compare.Goals as goal
+
+pub compare_words-requires : goal.compare_words-requires
+compare_words-requires c =
+    let places = length c.self.inside.overflow.items in
+    let words = c.self.inside.words.items in
+    let a = c.args.a in
+    let b = c.args.b in (
+      subst (λ l. All HasUtf8 (part l a.start a.end)) (sym c.deref.ensures.value) (utf8_at places words a c.self.invariant),
+      subst (λ l. All HasUtf8 (part l b.start b.end)) (sym c.deref-2.ensures.value) (utf8_at places words b c.self.invariant),
+    )
+
+pub compare_words-requires-in-Equal : goal.compare_words-requires-in-Equal
+compare_words-requires-in-Equal c =
+    let places = length c.self.inside.overflow.items in
+    let words = c.self.inside.words.items in
+    let a = c.args.a in
+    let b = c.args.b in (
+      subst (λ l. All HasUtf8 (part l a.start a.end)) (sym c.deref.ensures.value) (utf8_at places words a c.self.invariant),
+      subst (λ l. All HasUtf8 (part l b.start b.end)) (sym c.deref-2.ensures.value) (utf8_at places words b c.self.invariant),
+    )
 
 pub returns-in-Equal : goal.returns-in-Equal
 returns-in-Equal c =

@@ -1,0 +1,14 @@
+use Rattle.std.proofs.Common.{subst, sym, arith, rules}
+use Rattle.gq_cells.specs.Words.{IsValid}
+use Rattle.gq_cells.proofs.WordTextLemmas.{text_there}
+use Rattle.gq_cells.proofs.tagged_cells.word_of_text.Goals as goal
+
+pub returns-clause-text : goal.returns-clause-text
+returns-clause-text c =
+    let told = c.in_ok-number.ensures in
+    text_there c.args.text.now c.in_ok-number.number _ told.few (search rules) told.padded (omega (arith, c.len.ensures, told.few))
+
+pub returns-clause-utf8 : goal.returns-clause-utf8
+returns-clause-utf8 c =
+    let told = c.in_ok-number.ensures in
+    λ text. subst IsValid (sym (text_there c.args.text.now c.in_ok-number.number _ told.few (search rules) told.padded (omega (arith, c.len.ensures, told.few)))) told.valid
