@@ -4,5 +4,6 @@ mod FindLemmas
 mod InputLemmas
 mod LaneLemmas
 mod MaskLemmas
+mod PlacedLemmas
 mod RecordLemmas
 mod ScanLemmas

@@ -1,17 +1,14 @@
 -- The mask of a text's special bytes, without those at its start.
 use Rattle.std.proofs.Common.{◌≡◌, ◌∙◌, ℕ, zero, suc, ◌+◌, ◌-◌, ◌*◌, ◌/◌, ◌^◌, ◌<◌, ◌≤◌, Bool, true, false, cond, not, List, [], ◌∷◌, length, map, take, drop, refl, sym, ap, arith, length-drop}
 use Rattle.std.proofs.Math.Nat.{div-div-eq-div-mul, div-one, two-pow-succ, zero-div}
-use Rattle.std.proofs.lemmas.Nat.{shr-shr}
 use Rattle.std.proofs.lemmas.List.{drop-drop, drop-take, length-take-le}
-use Rattle.std.proofs.lemmas.Simd.{leading_from_mask_l, trailing_mask_l}
-use Rattle.std.specs.Prelude.{Option, Some, None, IfSome, IfNone}
+use Rattle.std.proofs.lemmas.Simd.{leading_from_mask_l}
 use Rattle.std.specs.List.{position_or_len}
 use Rattle.std.specs.Simd.Lanes.{mask_l}
-use lib.Count.{count_trailing_zeros}
 use Rattle.gq_csv.specs.Bytes.{is_special}
-use Rattle.gq_csv.specs.Masks.{Covers, StepsOver}
+use Rattle.gq_csv.specs.Masks.{Covers}
 use Rattle.gq_csv.specs.declared.special_mask.SpecialMask.{SpecialMask}
-use Rattle.gq_csv.proofs.FindLemmas.{passes_block, stops_in_block}
+use Rattle.gq_csv.proofs.FindLemmas.{passes_block}
 
 -- ---- masks of lists
 
@@ -26,7 +23,7 @@ shifted p (x ∷ xs) (suc k) =
     ap (λ n. mask_l (map p (x ∷ xs)) / n) (two-pow-succ k ∙ omega arith) ∙ sym (div-div-eq-div-mul (mask_l (map p (x ∷ xs))) 2 (2 ^ k))
     ∙ ap (λ m. m / 2 ^ k) (halved (p x) (mask_l (map p xs))) ∙ shifted p xs k
 
-some_stops : (p : ℕ → Bool) (xs : List ℕ) → 0 < mask_l (map p xs) → position_or_len p xs < length xs
+pub some_stops : (p : ℕ → Bool) (xs : List ℕ) → 0 < mask_l (map p xs) → position_or_len p xs < length xs
 some_stops p [] some = absurd (omega (arith, some))
 some_stops p (x ∷ xs) some = by (p x) refl (some_stops p xs)
   where
@@ -57,24 +54,6 @@ module _ (text : List ℕ) (mask : SpecialMask) (h : Covers text mask) where
       let all = leading_from_mask_l is_special (take mask.len text) (sym h.bits ∙ none) in
       passes_block (λ b. not (is_special b)) text mask.len h.within (omega (arith, all, size))
 
-  module _ (some : 0 < mask.bits) where
-    first : count_trailing_zeros 64 mask.bits ≡ position_or_len is_special (take mask.len text)
-    first = ap (count_trailing_zeros 64) h.bits ∙ trailing_mask_l is_special 64 (take mask.len text) (omega (arith, h.few, size)) (omega (arith, h.bits, some))
-
-    pub first_within : count_trailing_zeros 64 mask.bits + 1 ≤ mask.len
-    first_within = let stops = some_stops is_special (take mask.len text) (omega (arith, h.bits, some)) in omega (arith, first, stops, size)
-
-    pub stepped_over : StepsOver text (count_trailing_zeros 64 mask.bits) (record { bits = mask.bits / 2 ^ count_trailing_zeros 64 mask.bits / 2; len = mask.len - (count_trailing_zeros 64 mask.bits + 1) })
-    stepped_over =
-        let k = count_trailing_zeros 64 mask.bits in
-        let stop = stops_in_block (λ b. not (is_special b)) text mask.len h.within (omega (arith, first, first_within)) in
-        let rest = skipped (k + 1) first_within in
-        record {
-          within = omega (arith, first_within, h.within);
-          found = first ∙ sym stop;
-          covers = record { within = rest.within; few = rest.few; bits = shr-shr mask.bits k 1 ∙ rest.bits };
-        }
-
 -- ---- masks of what follows a position
 
 pub goes_on : (text : List ℕ) (at : ℕ) (mask : SpecialMask) → Covers (drop at text) mask → mask.bits ≡ 0
@@ -87,13 +66,3 @@ block_covered text at bits k e le is = record {
   few = omega arith;
   bits = is ∙ ap (λ n. mask_l (map is_special (take n (drop at text)))) e;
 }
-
--- ---- positions within a text
-
-pub some_at : (r : Option ℕ) (len p q : ℕ) → IfSome r (λ end. (end ≡ p) × (end < len)) → p ≡ q → IfSome r (λ end. (end < len) × (end ≡ q))
-some_at None len p q h e = tt
-some_at (Some end) len p q h e = (h.1, h.0 ∙ e)
-
-pub none_at : (r : Option ℕ) (len p q : ℕ) → IfNone r (len ≤ p) → p ≡ q → IfNone r (len ≤ q)
-none_at None len p q h e = omega (arith, h, e)
-none_at (Some end) len p q h e = tt

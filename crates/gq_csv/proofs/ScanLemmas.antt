@@ -2,7 +2,7 @@
 use Rattle.std.proofs.Common.{◌≡◌, ◌≢◌, ◌∙◌, ◌||◌, not, ℕ, ◌+◌, ◌<◌, ◌≤◌, Bool, true, false, eqb, List, [], ◌∷◌, ◌++◌, length, get_or, take, drop, Option, Some, None, refl, sym, ap, subst, arith, add-one, append_assoc, append-nil, drop-cons, get_or-drop, length-drop}
 use Rattle.std.proofs.Math.Numerals.{one-add}
 use Rattle.std.proofs.lemmas.Bool.{ne_eqb}
-use Rattle.std.proofs.lemmas.List.{drop-drop, length-take-le}
+use Rattle.std.proofs.lemmas.List.{drop-drop, length-take-le, take_all, take-append-le}
 use Rattle.std.proofs.lemmas.List.Elements.{All-push}
 use Rattle.std.proofs.lemmas.List.Sums.{prefix_len_stops}
 use Rattle.std.specs.List.{position_or_len, prefix_len}
@@ -129,6 +129,9 @@ must_end ys within quote comma = by (is_special (get_or ys (position_or_len is_s
     by true e = rw (comma, ne_eqb _ 34 quote) at e
     by false e = cc (rw e at stops)
 
+pub no_quote_is_comma : (b : ℕ) → b ≡ 44 → b ≢ 34
+no_quote_is_comma b e q = omega (arith, e, q)
+
 -- ---- the fields of a record so far
 
 -- the record at the start of a text, once the fields of these spans are read, goes on at `start`
@@ -245,3 +248,7 @@ module _ (old mid : Ahead) (text : mid.ahead ≡ drop (prefix_len ends_line old.
   none_taken (scan.Record len) spans none = absurd (none len refl)
   none_taken scan.Quoted spans none = ends_taken
   none_taken scan.Cut spans none = ends_taken
+
+-- the spans of a vector, once all are overwritten
+pub all_over : (new old : List FieldSpan) (n : ℕ) → length new ≡ n → take n (new ++ drop (length new) old) ≡ new
+all_over new old n e = take-append-le n new (drop (length new) old) (omega (arith, e)) ∙ take_all n new (omega (arith, e))

@@ -33,7 +33,8 @@ pub(crate) fn find_special(text: &[u8], from: usize) -> usize
 /// The same, byte by byte.
 pub(crate) fn find_bytewise(text: &[u8], from: usize) -> usize
     requires { from ≤ length text.now }
-    ensures { result ≡ from + position_or_len is_special (drop from text.now) }
+    ensures first { result ≡ from + position_or_len is_special (drop from text.now) }
+    ensures within { result ≤ length text.now }
 {
     'bytes: for at in from..text.len() {
         let byte = text[at];

@@ -5,7 +5,7 @@
 //! So is a UTF-8 byte-order mark at the start.
 //!
 //! A [`RecordReader`] finds the ends of fields sixty-four bytes at a time, and a record's fields are
-//! borrowed from its buffer. Only a record with a quote, one that is longer than the buffer, and a last one
+//! borrowed from its buffer. Only a record with a quote, one that the buffer's end cuts, and a last one
 //! without a line end are copied.
 #![tactic(auto)]
 
@@ -13,6 +13,7 @@ mod copied;
 mod find;
 mod input;
 mod lanes;
+mod placed_mask;
 mod read_error;
 mod reader;
 mod record;

@@ -150,30 +150,6 @@ fn find_record<R: Read>(
 {
     match take_record(input, mask, spans)? {
         Scan::Record(_) => Ok(true),
-        Scan::Quoted => Ok(false),
-        Scan::Cut => find_after_refill(input, mask, spans),
-    }
-}
-
-// As `find_record`, once more bytes are read ahead.
-#[cold]
-fn find_after_refill<R: Read>(
-    input: &mut Input<R>,
-    mask: &mut SpecialMask,
-    spans: &mut Vec<FieldSpan>,
-) -> Result<bool, ReadError>
-    ensures mask { Covers input.new.ahead mask.new }
-    ensures found { IfOk result (λ found. found ≡ true →
-        Reads (known input.old) (known input.new) true (fields_in input.new.taken spans.new.items)) }
-    ensures within { IfOk result (λ found. found ≡ true →
-        AreWithin (length input.new.taken) spans.new.items) }
-    ensures none { IfOk result (λ found. found ≡ false →
-        SameRecords (known input.old) (known input.new)) }
-{
-    *mask = SpecialMask::none();
-    input.refill()?;
-    match take_record(input, mask, spans)? {
-        Scan::Record(_) => Ok(true),
         Scan::Quoted | Scan::Cut => Ok(false),
     }
 }

@@ -1,28 +1,10 @@
-use Rattle.gq_csv.proofs.ScanLemmas.{last_field, no_fields, one_field}
+use Rattle.std.proofs.Common.{◌≡◌, length, sym, ap, subst, arith}
+use Rattle.gq_csv.specs.Scanning.{Scanned}
+use Rattle.gq_csv.proofs.ScanLemmas.{all_over}
 use Rattle.gq_csv.proofs.scan.scan_record.Goals as goal
 
-pub fields-init : goal.fields-init
-fields-init c = record { read = rw c.clear.ensures.items (no_fields c.args.text.now); covers = c.requires; whole = c.requires }
-
-pub returns-then-special-ne44-clause-scanned : goal.returns-then-special-ne44-clause-scanned
-returns-then-special-ne44-clause-scanned c =
-    rw c.in_ok-push.ensures.items (last_field c.args.text.now c.fields.spans.items c.fields.start c.in-Some.end c.fields.invariant.read c.in-Some.ensures.found.1 c.in-Some.ensures.found.0 c.if-special-eq34.false c.if-special-ne44.true)
-
-pub returns-then-special-ne44-clause-mask : goal.returns-then-special-ne44-clause-mask
-returns-then-special-ne44-clause-mask c = c.in-Some.ensures.covers
-
-pub returns-then-special-eq34-clause-mask : goal.returns-then-special-eq34-clause-mask
-returns-then-special-eq34-clause-mask c = c.fields.invariant.whole
-
-pub returns-clause-mask : goal.returns-clause-mask
-returns-clause-mask c = c.fields.invariant.whole
-
-pub next_special-requires-clause-covers : goal.next_special-requires-clause-covers
-next_special-requires-clause-covers c = c.fields.invariant.covers
-
-pub fields-preserved : goal.fields-preserved
-fields-preserved c = record {
-  read = rw c.in_ok-push.ensures.items (one_field c.args.text.now c.fields.spans.items c.fields.start c.in-Some.end c.fields.invariant.read c.in-Some.ensures.found.1 c.in-Some.ensures.found.0 c.if-special-eq34.false c.if-special-ne44.false);
-  covers = c.in-Some.ensures.covers;
-  whole = c.fields.invariant.whole;
-}
+pub returns-in-Some-clause-scanned : goal.returns-in-Some-clause-scanned
+returns-in-Some-clause-scanned c =
+    let new = c.scan_over.new.spans in
+    let size : length new ≡ c.args.spans.now.len = omega (arith, c.scan_over.ensures.as_many, c.as_mut_slice.ensures.len, ap length c.as_mut_slice.ensures.value) in
+    subst (λ spans. Scanned c.args.text.now spans c.in-Some.found) (sym (all_over new c.args.spans.now.items c.args.spans.now.len size)) c.in-Some.ensures.scanned
