@@ -1,5 +1,5 @@
 -- Which values are stored inline, and what an overwrite leaves if memory is refused.
-use Rattle.std.specs.Prelude.{◌≤◌, length, []}
+use Rattle.std.specs.Prelude.{ℕ, ◌≤◌, Bool, List, length, [], if◌then◌else◌}
 use Rattle.gq_row.specs.declared.value.Value.{Value}
 use Rattle.gq_row.specs.declared.value.Value.TheVariants.{Null, Int, Text, NoCase}
 
@@ -18,3 +18,7 @@ left_by (Text old) (Text new) = Text []
 left_by (Text old) new = Text old
 left_by (NoCase old) (NoCase new) = NoCase []
 left_by (NoCase old) new = NoCase old
+
+-- a text, with case or without
+abbrev pub text_of : Bool → List ℕ → Value
+text_of without_case text = if without_case then NoCase text else Text text

@@ -66,6 +66,17 @@ impl ShortText {
         }
     }
 
+    /// Overwrites this text with another.
+    #[inline(always)]
+    pub(crate) fn write(&mut self, chars: &str)
+        requires { length chars.now ≤ MOST }
+        ensures { self.new ≡ chars.now }
+    {
+        self.bytes = [0; MOST];
+        copy_over(&mut self.bytes, chars.as_bytes());
+        self.len = chars.len() as u8;
+    }
+
     #[inline]
     pub(crate) fn len(&self) -> usize
         ensures { result ≡ length self.now }
@@ -132,7 +143,7 @@ fn copy_over(bytes: &mut [u8], text: &[u8])
     } else if text.len() >= 4 {
         copy_ends::<4>(bytes, text);
     } else {
-        copy_bytewise(bytes, text);
+        copy_few(bytes, text);
     }
 }
 
@@ -148,13 +159,17 @@ fn copy_ends<const N: usize>(bytes: &mut [u8], text: &[u8])
     Simd::<u8, N>::from_slice(&text[last..]).copy_to_slice(&mut bytes[last..]);
 }
 
+// Copies a text of at most three bytes.
 #[inline(always)]
-fn copy_bytewise(bytes: &mut [u8], text: &[u8])
-    requires { length text.now ≤ length bytes.old }
+fn copy_few(bytes: &mut [u8], text: &[u8])
+    requires fits { length text.now ≤ length bytes.old }
+    requires few { length text.now < 4 }
     ensures { bytes.new ≡ text.now ++ drop (length text.now) bytes.old }
 {
-    'bytes: for i in 0..text.len() {
-        bytes[i] = text[i];
+    if text.len() >= 2 {
+        copy_ends::<2>(bytes, text);
+    } else if text.len() == 1 {
+        copy_ends::<1>(bytes, text);
     }
 }
 
