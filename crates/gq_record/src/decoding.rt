@@ -8,7 +8,7 @@ use crate::kinds::{INT, NO_CASE, NULL, TEXT};
 use byteorder::{BigEndian, ByteOrder};
 use gq_row::{Row, Value, is_ascii};
 use std::alloc::{AllocError, Global};
-use std::{mem, str};
+use std::{mem, slice, str};
 
 /// The length that the bytes begin with, and the bytes after it; `None` if there are fewer than four.
 #[inline]
@@ -149,6 +149,43 @@ fn take_value<'a>(
     }
 }
 
+// Overwrites as many values as there are with those that the bytes begin with, and returns the bytes after
+// them. `None` for one value says that the bytes begin with none.
+fn take_cells<'a>(
+    alloc: Global,
+    bytes: &'a [u8],
+    cells: &mut [Value],
+) -> Result<Option<&'a [u8]>, AllocError>
+    ensures found { IfOk result (λ o. IfSome o (λ rest.
+        (bytes.now ≡ body_of cells.new ++ rest.now) × All IsCell cells.new)) }
+    ensures none { IfOk result (λ o. IfNone o (length cells.old ≡ 1 → (value : Cell) (rest : List ℕ) →
+        IsCell value → bytes.now ≡ value_bytes value ++ rest → ⊥)) }
+{
+    let mut rest = bytes;
+    'cells: for i in 0..cells.len() {
+        let Some(behind) = take_value(alloc, rest, &mut cells[i])? else {
+            return Ok(None);
+        };
+        rest = behind;
+    }
+    Ok(Some(rest))
+}
+
+// As `take_value`, which `take_cells` alone calls, so that it is compiled into its loop.
+#[cold]
+fn take_one<'a>(
+    alloc: Global,
+    bytes: &'a [u8],
+    over: &mut Value,
+) -> Result<Option<&'a [u8]>, AllocError>
+    ensures found { IfOk result (λ o. IfSome o (λ rest.
+        (bytes.now ≡ value_bytes over.new ++ rest.now) × IsCell over.new)) }
+    ensures none { IfOk result (λ o. IfNone o ((value : Cell) (rest : List ℕ) → IsCell value →
+        bytes.now ≡ value_bytes value ++ rest → ⊥)) }
+{
+    take_cells(alloc, bytes, slice::from_mut(over))
+}
+
 // Overwrites `cells` with the values of the row with this body, and returns whether there is one. `room` is the
 // number of values to reserve room for.
 fn take_body(
@@ -169,7 +206,7 @@ fn take_body(
         if count == cells.len() {
             cells.push(Value::Null)?;
         }
-        let Some(behind) = take_value(alloc, rest, &mut cells[count])? else {
+        let Some(behind) = take_one(alloc, rest, &mut cells[count])? else {
             return Ok(false);
         };
         rest = behind;
@@ -186,14 +223,10 @@ fn take_values(alloc: Global, bytes: &[u8], cells: &mut [Value]) -> Result<bool,
     ensures { IfOk result (λ is_body. is_body ≡ true →
         (bytes.now ≡ body_of cells.new) × All IsCell cells.new) }
 {
-    let mut rest = bytes;
-    'cells: for i in 0..cells.len() {
-        let Some(behind) = take_value(alloc, rest, &mut cells[i])? else {
-            return Ok(false);
-        };
-        rest = behind;
+    match take_cells(alloc, bytes, cells)? {
+        Some(rest) => Ok(rest.is_empty()),
+        None => Ok(false),
     }
-    Ok(rest.is_empty())
 }
 
 // Overwrites a row of any length with the row of this body, and returns whether there is one.

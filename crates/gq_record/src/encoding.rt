@@ -167,12 +167,13 @@ fn put_value(value: &Value, out: &mut Vec<u8>, at: usize) -> Result<usize, Alloc
         end) }
     ensures keeps { take at out.new.items ≡ take at out.old.items }
 {
-    match value {
-        Value::Null => put_null(out, at),
-        Value::Int(n) => put_number(*n, out, at),
-        Value::Text(text) => put_text(TEXT, text, out, at),
-        Value::NoCase(text) => put_text(NO_CASE, text, out, at),
-    }
+    let (tag, text) = match value {
+        Value::Null => return put_null(out, at),
+        Value::Int(n) => return put_number(*n, out, at),
+        Value::Text(text) => (TEXT, text),
+        Value::NoCase(text) => (NO_CASE, text),
+    };
+    put_text(tag, text, out, at)
 }
 
 // Writes the values of a row at a position, and returns the position after them.

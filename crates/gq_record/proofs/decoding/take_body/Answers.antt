@@ -15,14 +15,14 @@ returns-in_default-clause-none c = λ _.
 pub loop-rest-smaller : goal.loop-rest-smaller
 loop-rest-smaller c =
     let found = rw c.in-Some.is at c.in_ok-behind.ensures.found in
-    value_shortens c.take_value.new.over c.loop-rest.rest.now c.in-Some.behind.now found.0
+    value_shortens c.take_one.new.over c.loop-rest.rest.now c.in-Some.behind.now found.0
 
 pub loop-rest-preserved : goal.loop-rest-preserved
 loop-rest-preserved c =
     let before = c.loop-rest.cells.items in
     let now = c.if-count-len.cells.items in
     let n = c.loop-rest.count in
-    let value = c.take_value.new.over in
+    let value = c.take_one.new.over in
     let place : (n < length now) × (take n now ≡ take n before) =
     elim c.if-count-len.branch [ then-count-len+in_ok-push w ↦ grind (arith, common_steps) | else-count-len w ↦ grind (arith, common_steps) ] in
     let found = rw c.in-Some.is at c.in_ok-behind.ensures.found in

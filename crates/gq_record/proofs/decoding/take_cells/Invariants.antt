@@ -1,6 +1,6 @@
 use Rattle.std.proofs.Common.{◌≡◌, ◌++◌, take, All}
 use Rattle.gq_record.specs.Records.{IsCell, body_of}
-use Rattle.gq_record.proofs.decoding.take_values.Given as goal
+use Rattle.gq_record.proofs.decoding.take_cells.Given as goal
 
 abbrev pub invariant-cells : goal.invariant-cells
 invariant-cells l = record {
