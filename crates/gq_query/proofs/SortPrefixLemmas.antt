@@ -1,6 +1,6 @@
--- SortPrefixes come in the order of the values' folds, which decides first.
-use Rattle.std.proofs.Common.{◌≡◌, true, false, ◌&&◌, ℕ, ℤ, zero, suc, ◌+◌, ◌*◌, ◌^◌, ◌<◌, ◌≤◌, List, [], ◌∷◌, length, map, drop, get_or, Ordering, Less, Equal, Greater, refl, sym, ap, subst, ◌∙◌, arith}
-use Rattle.std.specs.Prelude.{◌/◌, ◌%◌, min, nat_eq, nat_le, negsuc, ◌-ℤ◌, ◌-◌, unsigned_abs, FitsSigned, ◌<ℤ◌}
+-- Words and prefixes come in the order of the values' folds, which decides first.
+use Rattle.std.proofs.Common.{◌≡◌, Bool, true, false, ◌&&◌, ℕ, ℤ, zero, suc, ◌+◌, ◌*◌, ◌^◌, ◌<◌, ◌≤◌, List, [], ◌∷◌, length, drop, get_or, Ordering, Less, Equal, Greater, refl, sym, ap, subst, ◌∙◌, arith}
+use Rattle.std.specs.Prelude.{◌/◌, ◌%◌, ◌||◌, not, if◌then◌else◌, min, nat_eq, nat_le, ◌-◌, FitsSigned, ◌<ℤ◌}
 use Rattle.std.specs.Char.{to_ascii_lowercase}
 use Rattle.std.specs.Int.{w64}
 use Rattle.std.specs.Ordering.{nat_cmp, int_cmp, ordering_then}
@@ -10,7 +10,7 @@ use Rattle.std.proofs.lemmas.Bool.Decides.{nat_tests}
 use Rattle.std.proofs.Math.Seq.{drop-cons}
 use Rattle.std.proofs.Math.Nat.{mul-le-mul_right, add-mul, pow-suc, one-le-pow}
 use Rattle.std.proofs.lemmas.Int.{ints}
-use Rattle.std.proofs.lemmas.List.{drop-drop, drop-map, drop_all, get_or-drop, get_or-map, get_or_past, length-map}
+use Rattle.std.proofs.lemmas.List.{drop-drop, drop-map, drop_all, get_or-drop}
 use Rattle.gq_row.specs.declared.value.Value.{Value}
 use Rattle.gq_row.specs.declared.value.Value.TheVariants.{Null, Int, Text, NoCase}
 use Rattle.gq_row.specs.Folding.{fold_case, folded}
@@ -18,9 +18,8 @@ use Rattle.gq_row.specs.Order.{folded_order, plain_order, compare_keys}
 use Rattle.gq_row.specs.Rows.{cell}
 use Rattle.gq_row.proofs.FoldLemmas.{folds_once, length-fold, then_same}
 use Rattle.gq_query.specs.declared.sort_prefix.SortPrefix.{SortPrefix}
-use Rattle.gq_query.specs.Answers.{ordered_by}
 use Rattle.gq_query.specs.Ties.{TieUpTo, first_without, rest}
-use Rattle.gq_query.specs.SortPrefixes.{is_full, leading, low_word, prefix_of, without_bytes, IsOfBytes, IsValuePrefix, IsSortPrefix}
+use Rattle.gq_query.specs.SortPrefixes.{from_least, is_open, is_whole, is_wide, leading, number_word, past, past_word, rest_word, text_word, without_bytes, word_of, IsOfBytes, IsPairPrefix, IsSortPrefix, IsWord, Place}
 
 -- the order of prefixes, as that of numbers of sixteen bytes
 abbrev pub compare_prefixes : SortPrefix → SortPrefix → Ordering
@@ -78,16 +77,6 @@ leading_small (suc n) (b ∷ text) bytes =
     let power : 256 ^ suc n ≡ 256 ^ n * 256 = pow-suc 256 n in
     omega (arith, rest, up, parts, power)
 
-leading_split : (text : List ℕ) → leading 14 text ≡ leading 7 text * 256 ^ 7 + leading 7 (drop 7 text)
-leading_split [] = refl
-leading_split (b0 ∷ []) = omega arith
-leading_split (b0 ∷ b1 ∷ []) = omega arith
-leading_split (b0 ∷ b1 ∷ b2 ∷ []) = omega arith
-leading_split (b0 ∷ b1 ∷ b2 ∷ b3 ∷ []) = omega arith
-leading_split (b0 ∷ b1 ∷ b2 ∷ b3 ∷ b4 ∷ []) = omega arith
-leading_split (b0 ∷ b1 ∷ b2 ∷ b3 ∷ b4 ∷ b5 ∷ []) = omega arith
-leading_split (b0 ∷ b1 ∷ b2 ∷ b3 ∷ b4 ∷ b5 ∷ b6 ∷ text) = omega arith
-
 nothing_below : (x : ℕ) → ordering_then (nat_cmp 0 x) Less ≡ Less
 nothing_below zero = refl
 nothing_below (suc x) = ap (λ o. ordering_then o Less) (less 0 (suc x) (omega arith))
@@ -134,10 +123,7 @@ dropped_bytes zero text bytes = bytes
 dropped_bytes (suc n) [] bytes = bytes
 dropped_bytes (suc n) (b ∷ text) bytes = dropped_bytes n text (tail_bytes b text bytes)
 
--- ---- prefixes of values
-
-abbrev from_least : ℤ → ℕ
-from_least n = unsigned_abs (n -ℤ negsuc (2 ^ 63 - 1))
+-- ---- words of values
 
 numbers : (m n : ℤ) → FitsSigned w64 m → FitsSigned w64 n → nat_cmp (from_least m) (from_least n) ≡ int_cmp m n
 numbers m n p q = by_ranked (m <ℤ n) (m ≡ n) (n <ℤ m) (int_cmp m n) (int_ranked m n (int_cmp m n) refl)
@@ -145,41 +131,34 @@ numbers m n p q = by_ranked (m <ℤ n) (m ≡ n) (n <ℤ m) (int_cmp m n) (int_r
     (λ e eq. same (from_least m) (from_least n) (ap from_least eq) ∙ sym e)
     (λ e gt. greater (from_least m) (from_least n) (omega (arith, ints, gt)) ∙ sym e)
 
-grouped_left : (a b c : Ordering) → ordering_then a (ordering_then b c) ≡ ordering_then (ordering_then a b) c
-grouped_left Less b c = refl
-grouped_left Equal b c = refl
-grouped_left Greater b c = refl
+not_above : (x y : ℕ) → x ≤ y → ordering_then (nat_cmp x y) Less ≡ Less
+not_above x y le = by_ranked (x < y) (x ≡ y) (y < x) (nat_cmp x y) (ranked x y (nat_cmp x y) refl)
+    (λ e lt. ap (λ o. ordering_then o Less) e) (λ e eq. ap (λ o. ordering_then o Less) e) (λ e gt. absurd (omega (arith, le, gt)))
 
-length_small : (text : List ℕ) → length_to 15 text < 256
-length_small text = omega arith
+not_below : (x y : ℕ) → y ≤ x → ordering_then (nat_cmp x y) Greater ≡ Greater
+not_below x y le = by_ranked (x < y) (x ≡ y) (y < x) (nat_cmp x y) (ranked x y (nat_cmp x y) refl)
+    (λ e lt. absurd (omega (arith, le, lt))) (λ e eq. ap (λ o. ordering_then o Greater) e) (λ e gt. ap (λ o. ordering_then o Greater) e)
 
--- the prefixes of two texts after one tag: their first fourteen bytes, then their lengths
-texts : (tag : ℕ) (s t : List ℕ) → AreBytes s → AreBytes t
-    → ordering_then (nat_cmp (tag * 2 ^ 56 + leading 7 s) (tag * 2 ^ 56 + leading 7 t)) (nat_cmp (low_word s) (low_word t))
-    ≡ ordering_then (nat_cmp (leading 14 s) (leading 14 t)) (nat_cmp (length_to 15 s) (length_to 15 t))
-texts tag s t p q =
-    let small_s : leading 7 (drop 7 s) < 256 ^ 7 = leading_small 7 (drop 7 s) (dropped_bytes 7 s p) in
-    let small_t : leading 7 (drop 7 t) < 256 ^ 7 = leading_small 7 (drop 7 t) (dropped_bytes 7 t q) in
-    let lengths = nat_cmp (length_to 15 s) (length_to 15 t) in
-    (λ i. ordering_then (shifted (tag * 2 ^ 56) (leading 7 s) (leading 7 t) i) (digits 256 (leading 7 (drop 7 s)) (leading 7 (drop 7 t)) (length_to 15 s) (length_to 15 t) (length_small s) (length_small t) i))
-    ∙ grouped_left (nat_cmp (leading 7 s) (leading 7 t)) (nat_cmp (leading 7 (drop 7 s)) (leading 7 (drop 7 t))) lengths
-    ∙ ap (λ o. ordering_then o lengths) (sym (digits (256 ^ 7) (leading 7 s) (leading 7 t) (leading 7 (drop 7 s)) (leading 7 (drop 7 t)) small_s small_t))
-    ∙ (λ i. ordering_then (nat_cmp (sym (leading_split s) i) (sym (leading_split t) i)) lengths)
+-- the words of numbers come in their order, and some tie
+numbers_first : (m n : ℤ) → FitsSigned w64 m → FitsSigned w64 n → ordering_then (nat_cmp (number_word m) (number_word n)) (int_cmp m n) ≡ int_cmp m n
+numbers_first m n p q = by_ranked (from_least m < from_least n) (from_least m ≡ from_least n) (from_least n < from_least m) (int_cmp m n) (ranked (from_least m) (from_least n) (int_cmp m n) (sym (numbers m n p q)))
+    (λ e lt. ap (ordering_then (nat_cmp (number_word m) (number_word n))) e ∙ not_above (number_word m) (number_word n) (omega (arith, lt)) ∙ sym e)
+    (λ e eq. ap (λ o. ordering_then o (int_cmp m n)) (same (number_word m) (number_word n) (omega (arith, eq))))
+    (λ e gt. ap (ordering_then (nat_cmp (number_word m) (number_word n))) e ∙ not_below (number_word m) (number_word n) (omega (arith, gt)) ∙ sym e)
+
+number_below : (n : ℤ) (k : ℕ) → 4 * 2 ^ 56 ≤ k → number_word n < k
+number_below n k le = omega (arith, le)
+
+-- the words of two texts after one tag: their first six bytes, then their lengths
+text_words : (tag : ℕ) (s t : List ℕ) → nat_cmp (tag * 2 ^ 56 + text_word s) (tag * 2 ^ 56 + text_word t) ≡ ordering_then (nat_cmp (leading 6 s) (leading 6 t)) (nat_cmp (length_to 7 s) (length_to 7 t))
+text_words tag s t = shifted (tag * 2 ^ 56) (text_word s) (text_word t) ∙ digits 256 (leading 6 s) (leading 6 t) (length_to 7 s) (length_to 7 t) (omega arith) (omega arith)
 
 -- so they come before the order of the texts
-texts_first : (tag : ℕ) (s t : List ℕ) → AreBytes s → AreBytes t
-    → ordering_then (ordering_then (nat_cmp (tag * 2 ^ 56 + leading 7 s) (tag * 2 ^ 56 + leading 7 t)) (nat_cmp (low_word s) (low_word t))) (slice_cmp nat_cmp s t) ≡ slice_cmp nat_cmp s t
-texts_first tag s t p q = ap (λ o. ordering_then o (slice_cmp nat_cmp s t)) (texts tag s t p q) ∙ leading_first 14 s t p q
+texts_first : (tag : ℕ) (s t : List ℕ) → AreBytes s → AreBytes t → ordering_then (nat_cmp (tag * 2 ^ 56 + text_word s) (tag * 2 ^ 56 + text_word t)) (slice_cmp nat_cmp s t) ≡ slice_cmp nat_cmp s t
+texts_first tag s t p q = ap (λ o. ordering_then o (slice_cmp nat_cmp s t)) (text_words tag s t) ∙ leading_first 6 s t p q
 
-text_above : (tag k : ℕ) (text : List ℕ) → k < tag * 2 ^ 56 → nat_cmp k (tag * 2 ^ 56 + leading 7 text) ≡ Less
-text_above tag k text lt = less k (tag * 2 ^ 56 + leading 7 text) (omega (arith, lt))
-
-above_text : (tag k : ℕ) (text : List ℕ) → k < tag * 2 ^ 56 → nat_cmp (tag * 2 ^ 56 + leading 7 text) k ≡ Greater
-above_text tag k text lt = greater (tag * 2 ^ 56 + leading 7 text) k (omega (arith, lt))
-
--- each prefix of a text is below each of a text without case
-text_below : (text : List ℕ) → AreBytes text → 2 * 2 ^ 56 + leading 7 text < 3 * 2 ^ 56
-text_below text bytes = let small : leading 7 text < 256 ^ 7 = leading_small 7 text bytes in omega (arith, small)
+text_small : (text : List ℕ) → AreBytes text → text_word text < 2 ^ 56
+text_small text bytes = let small : leading 6 text < 256 ^ 6 = leading_small 6 text bytes in omega (arith, small)
 
 -- fewer than eight bytes, by the first four and the others
 pub few_bytes : (text : List ℕ) → AreBytes text → length text < 4 → leading 3 text * 2 ^ 40 % 2 ^ 64 ≡ leading 8 text
@@ -211,8 +190,8 @@ four_bytes (b0 ∷ b1 ∷ b2 ∷ b3 ∷ text) four le p = omega (arith, p)
 pub small_three : (text : List ℕ) (three : ℕ) → AreBytes text → three ≡ leading 3 (drop 4 text) → three < 2 ^ 24
 small_three text three bytes p = omega (arith, p, leading_small 3 (drop 4 text) (dropped_bytes 4 text bytes))
 
--- seven of eight bytes
-leading_less : (text : List ℕ) → AreBytes text → leading 8 text / 256 ≡ leading 7 text
+-- six of eight bytes
+leading_less : (text : List ℕ) → AreBytes text → leading 8 text / 65536 ≡ leading 6 text
 leading_less [] bytes = refl
 leading_less (b0 ∷ []) bytes = omega arith
 leading_less (b0 ∷ b1 ∷ []) bytes = omega arith
@@ -220,21 +199,16 @@ leading_less (b0 ∷ b1 ∷ b2 ∷ []) bytes = omega arith
 leading_less (b0 ∷ b1 ∷ b2 ∷ b3 ∷ []) bytes = omega arith
 leading_less (b0 ∷ b1 ∷ b2 ∷ b3 ∷ b4 ∷ []) bytes = omega arith
 leading_less (b0 ∷ b1 ∷ b2 ∷ b3 ∷ b4 ∷ b5 ∷ []) bytes = omega arith
-leading_less (b0 ∷ b1 ∷ b2 ∷ b3 ∷ b4 ∷ b5 ∷ b6 ∷ []) bytes = omega arith
-leading_less (b0 ∷ b1 ∷ b2 ∷ b3 ∷ b4 ∷ b5 ∷ b6 ∷ b7 ∷ text) bytes = omega (arith, bytes 7)
+leading_less (b0 ∷ b1 ∷ b2 ∷ b3 ∷ b4 ∷ b5 ∷ b6 ∷ []) bytes = omega (arith, bytes 6)
+leading_less (b0 ∷ b1 ∷ b2 ∷ b3 ∷ b4 ∷ b5 ∷ b6 ∷ b7 ∷ text) bytes = omega (arith, bytes 6, bytes 7)
 
--- the prefix of a text by its first eight bytes and eight bytes after the first seven
-parts : (tag : ℕ) (text : List ℕ) (first second low : ℕ) → AreBytes text → first ≡ leading 8 text → second ≡ leading 8 (drop 7 text) → low ≡ second / 256 * 256 + min (length text) 15
-    → ◌≡◌ {A = SortPrefix} (record { high = tag * 2 ^ 56 + first / 256; low = low }) (record { high = tag * 2 ^ 56 + leading 7 text; low = low_word text })
-parts tag text first second low bytes p q r =
-    let high : first / 256 ≡ leading 7 text = ap (λ x. x / 256) p ∙ leading_less text bytes in
-    let next : second / 256 ≡ leading 7 (drop 7 text) = ap (λ x. x / 256) q ∙ leading_less (drop 7 text) (dropped_bytes 7 text bytes) in
-    let last : low ≡ low_word text = r ∙ ap (λ x. x * 256 + min (length text) 15) next in
-    λ i. record { high = tag * 2 ^ 56 + high i; low = last i }
+-- the word of a text by its first eight bytes
+pub text_is : (text : List ℕ) (first word : ℕ) → AreBytes text → first ≡ leading 8 text → word ≡ first / 65536 * 256 + min (length text) 7 → word ≡ text_word text
+text_is text first word bytes p q = q ∙ ap (λ x. x * 256 + min (length text) 7) (ap (λ x. x / 65536) p ∙ leading_less text bytes)
 
-pub text_parts : (text : List ℕ) (first second low : ℕ) → AreBytes text → first ≡ leading 8 text → second ≡ leading 8 (drop 7 text) → low ≡ second / 256 * 256 + min (length text) 15
-    → IsValuePrefix (Text text) (record { high = 2 * 2 ^ 56 + first / 256; low = low })
-text_parts text first second low bytes p q r = (parts 2 text first second low bytes p q r, bytes)
+-- a word fits in eight bytes, whatever its tag
+pub word_small : (text : List ℕ) (word : ℕ) → AreBytes text → word ≡ text_word text → 5 * 2 ^ 56 + word < 2 ^ 64
+word_small text word bytes is = omega (arith, is, text_small text bytes)
 
 -- ---- folds
 
@@ -249,16 +223,20 @@ folded_byte (c ∷ text) (suc i) = folded_byte text i
 folded_bytes : (text : List ℕ) → AreBytes text → AreBytes (fold_case text)
 folded_bytes text bytes i = subst (λ b. b < 256) (sym (folded_byte text i)) (lower_byte (get_or text i 0) (bytes i))
 
-pub folded_parts : (text : List ℕ) (first second low : ℕ) → AreBytes text → first ≡ leading 8 (fold_case text) → second ≡ leading 8 (fold_case (drop 7 text)) → low ≡ second / 256 * 256 + min (length text) 15
-    → IsValuePrefix (NoCase text) (record { high = 3 * 2 ^ 56 + first / 256; low = low })
-folded_parts text first second low bytes p q r =
-    (parts 3 (fold_case text) first second low (folded_bytes text bytes) p (q ∙ ap (leading 8) (sym (drop-map to_ascii_lowercase 7 text))) (r ∙ ap (λ n. second / 256 * 256 + min n 15) (sym (length-fold text))), bytes)
+pub folded_is : (text : List ℕ) (first word : ℕ) → AreBytes text → first ≡ leading 8 (fold_case text) → word ≡ first / 65536 * 256 + min (length text) 7 → word ≡ text_word (fold_case text)
+folded_is text first word bytes p q = text_is (fold_case text) first word (folded_bytes text bytes) p (q ∙ ap (λ n. first / 65536 * 256 + min n 7) (sym (length-fold text)))
 
-prefix_folded : (v : Value) → prefix_of (folded v) ≡ prefix_of v
-prefix_folded Null = refl
-prefix_folded (Int n) = refl
-prefix_folded (Text t) = refl
-prefix_folded (NoCase t) = ap (λ text. record { high = 3 * 2 ^ 56 + leading 7 text; low = low_word text }) (folds_once t)
+word_folded : (v : Value) → word_of (folded v) ≡ word_of v
+word_folded Null = refl
+word_folded (Int n) = refl
+word_folded (Text t) = refl
+word_folded (NoCase t) = ap (λ text. 5 * 2 ^ 56 + text_word text) (folds_once t)
+
+rest_folded : (v : Value) → rest_word (folded v) ≡ rest_word v
+rest_folded Null = refl
+rest_folded (Int n) = refl
+rest_folded (Text t) = refl
+rest_folded (NoCase t) = ap (λ text. 5 * 2 ^ 56 + text_word text) (sym (drop-map to_ascii_lowercase 6 (fold_case t)) ∙ ap (drop 6) (folds_once t) ∙ drop-map to_ascii_lowercase 6 t)
 
 bytes_folded : (v : Value) → IsOfBytes v → IsOfBytes (folded v)
 bytes_folded Null h = h
@@ -266,41 +244,160 @@ bytes_folded (Int n) h = h
 bytes_folded (Text t) h = h
 bytes_folded (NoCase t) h = folded_bytes t h
 
--- the prefix of a value is that of its fold, so that of a row's value is that of its key
-pub nth_prefix : (columns : List ℕ) (row : List Value) (n column : ℕ) (f : SortPrefix) → n < length columns → column ≡ get_or columns n 0 → IsValuePrefix (cell row column) f → IsValuePrefix (cell (ordered_by columns row) n) f
-nth_prefix [] row n column f lt at h = absurd (omega (arith, lt))
-nth_prefix (c ∷ columns) row n column f lt at h =
-    let is : cell (ordered_by (c ∷ columns) row) n ≡ folded (cell row column) = get_or-map (λ k. folded (cell row k)) (c ∷ columns) n 0 Null lt ∙ ap (λ k. folded (cell row k)) (sym at) in
-    (h.0 ∙ sym (prefix_folded (cell row column)) ∙ ap prefix_of (sym is), subst IsOfBytes (sym is) (bytes_folded (cell row column) h.1))
-
--- a key has nulls past its values
-pub past_prefix : (columns : List ℕ) (row : List Value) (n : ℕ) (f : SortPrefix) → 0 < length columns → length columns ≤ n → IsValuePrefix Null f → IsValuePrefix (cell (ordered_by columns row) n) f
-past_prefix [] row n f some le h = absurd (omega (arith, some))
-past_prefix (c ∷ columns) row n f some le h =
-    subst (λ v. IsValuePrefix v f) (sym (get_or_past (map (λ k. folded (cell row k)) (c ∷ columns)) n Null (omega (arith, le, length-map (c ∷ columns) (λ k. folded (cell row k)))))) h
+-- the prefix of two values is that of their folds
+pub folded_pair : (v w x y : Value) (p : SortPrefix) → folded v ≡ x → folded w ≡ y → IsPairPrefix v w p → IsPairPrefix x y p
+folded_pair v w x y p first second h = subst (λ a. IsPairPrefix a y p) first (subst (λ b. IsPairPrefix (folded v) b p) second (record {
+  is = h.is ∙ (λ i. record { high = sym (word_folded v) i; low = if is_whole (sym (word_folded v) i) then sym (word_folded w) i else sym (rest_folded v) i });
+  first_held = bytes_folded v h.first_held;
+  second_held = λ e. bytes_folded w (h.second_held e);
+}))
 
 -- ---- values and keys
 
--- Values are compared by their prefixes first, and where these tie by their folds.
-by_prefixes : (x y : Value) → IsOfBytes x → IsOfBytes y → ordering_then (compare_prefixes (prefix_of x) (prefix_of y)) (folded_order x y) ≡ folded_order x y
-by_prefixes Null Null p q = refl
-by_prefixes Null (Int n) p q = refl
-by_prefixes Null (Text t) p q = ap (λ o. ordering_then (ordering_then o (nat_cmp 0 (low_word t))) Less) (text_above 2 0 t (omega arith))
-by_prefixes Null (NoCase t) p q = ap (λ o. ordering_then (ordering_then o (nat_cmp 0 (low_word (fold_case t)))) Less) (text_above 3 0 (fold_case t) (omega arith))
-by_prefixes (Int m) Null p q = refl
-by_prefixes (Int m) (Int n) p q = ap (λ o. ordering_then o (int_cmp m n)) (numbers m n p q) ∙ then_same (int_cmp m n)
-by_prefixes (Int m) (Text t) p q = ap (λ o. ordering_then (ordering_then o (nat_cmp (from_least m) (low_word t))) Less) (text_above 2 (2 ^ 56) t (omega arith))
-by_prefixes (Int m) (NoCase t) p q = ap (λ o. ordering_then (ordering_then o (nat_cmp (from_least m) (low_word (fold_case t)))) Less) (text_above 3 (2 ^ 56) (fold_case t) (omega arith))
-by_prefixes (Text s) Null p q = ap (λ o. ordering_then (ordering_then o (nat_cmp (low_word s) 0)) Greater) (above_text 2 0 s (omega arith))
-by_prefixes (Text s) (Int n) p q = ap (λ o. ordering_then (ordering_then o (nat_cmp (low_word s) (from_least n))) Greater) (above_text 2 (2 ^ 56) s (omega arith))
-by_prefixes (Text s) (Text t) p q = texts_first 2 s t p q
-by_prefixes (Text s) (NoCase t) p q =
-    ap (λ o. ordering_then (ordering_then o (nat_cmp (low_word s) (low_word (fold_case t)))) Less) (text_above 3 (2 * 2 ^ 56 + leading 7 s) (fold_case t) (text_below s p))
-by_prefixes (NoCase s) Null p q = ap (λ o. ordering_then (ordering_then o (nat_cmp (low_word (fold_case s)) 0)) Greater) (above_text 3 0 (fold_case s) (omega arith))
-by_prefixes (NoCase s) (Int n) p q = ap (λ o. ordering_then (ordering_then o (nat_cmp (low_word (fold_case s)) (from_least n))) Greater) (above_text 3 (2 ^ 56) (fold_case s) (omega arith))
-by_prefixes (NoCase s) (Text t) p q =
-    ap (λ o. ordering_then (ordering_then o (nat_cmp (low_word (fold_case s)) (low_word t))) Greater) (above_text 3 (2 * 2 ^ 56 + leading 7 t) (fold_case s) (text_below t q))
-by_prefixes (NoCase s) (NoCase t) p q = texts_first 3 (fold_case s) (fold_case t) (folded_bytes s p) (folded_bytes t q)
+-- Values are compared by their words first, and where these tie by their folds.
+by_words : (x y : Value) → IsOfBytes x → IsOfBytes y → ordering_then (nat_cmp (word_of x) (word_of y)) (folded_order x y) ≡ folded_order x y
+by_words Null Null p q = refl
+by_words Null (Int n) p q = nothing_below (number_word n)
+by_words Null (Text t) p q = nothing_below (word_of (Text t))
+by_words Null (NoCase t) p q = nothing_below (word_of (NoCase t))
+by_words (Int m) Null p q = nothing_above (number_word m)
+by_words (Int m) (Int n) p q = numbers_first m n p q
+by_words (Int m) (Text t) p q = ap (λ o. ordering_then o Less) (less (number_word m) (word_of (Text t)) (number_below m (word_of (Text t)) (omega arith)))
+by_words (Int m) (NoCase t) p q = ap (λ o. ordering_then o Less) (less (number_word m) (word_of (NoCase t)) (number_below m (word_of (NoCase t)) (omega arith)))
+by_words (Text s) Null p q = nothing_above (word_of (Text s))
+by_words (Text s) (Int n) p q = ap (λ o. ordering_then o Greater) (greater (word_of (Text s)) (number_word n) (number_below n (word_of (Text s)) (omega arith)))
+by_words (Text s) (Text t) p q = texts_first 4 s t p q
+by_words (Text s) (NoCase t) p q = ap (λ o. ordering_then o Less) (less (word_of (Text s)) (word_of (NoCase t)) (omega (arith, text_small s p)))
+by_words (NoCase s) Null p q = nothing_above (word_of (NoCase s))
+by_words (NoCase s) (Int n) p q = ap (λ o. ordering_then o Greater) (greater (word_of (NoCase s)) (number_word n) (number_below n (word_of (NoCase s)) (omega arith)))
+by_words (NoCase s) (Text t) p q = ap (λ o. ordering_then o Greater) (greater (word_of (NoCase s)) (word_of (Text t)) (omega (arith, text_small t q)))
+by_words (NoCase s) (NoCase t) p q = texts_first 5 (fold_case s) (fold_case t) (folded_bytes s p) (folded_bytes t q)
+
+-- ---- words that tie
+
+tied : (x y : ℕ) → nat_cmp x y ≡ Equal → x ≡ y
+tied x y h = grind (arith, nat_tests)
+
+-- texts with the same first bytes, whose lengths tie up to one more, are in the order of what follows
+equal_bytes : (n : ℕ) (s t : List ℕ) → AreBytes s → AreBytes t → leading n s ≡ leading n t → length_to (suc n) s ≡ length_to (suc n) t → slice_cmp nat_cmp s t ≡ slice_cmp nat_cmp (drop n s) (drop n t)
+equal_bytes zero s t p q e m = refl
+equal_bytes (suc n) [] [] p q e m = refl
+equal_bytes (suc n) [] (b ∷ t) p q e m = absurd (omega (arith, m))
+equal_bytes (suc n) (a ∷ s) [] p q e m = absurd (omega (arith, m))
+equal_bytes (suc n) (a ∷ s) (b ∷ t) p q e m =
+    let small_s : leading n s < 256 ^ n = leading_small n s (tail_bytes a s p) in
+    let small_t : leading n t < 256 ^ n = leading_small n t (tail_bytes b t q) in
+    let both : ordering_then (nat_cmp a b) (nat_cmp (leading n s) (leading n t)) ≡ Equal =
+    sym (digits (256 ^ n) a b (leading n s) (leading n t) small_s small_t) ∙ same (a * 256 ^ n + leading n s) (b * 256 ^ n + leading n t) e in
+    let first : nat_cmp a b ≡ Equal = (both_equal (nat_cmp a b) (nat_cmp (leading n s) (leading n t)) both).0 in
+    let others : leading n s ≡ leading n t = tied (leading n s) (leading n t) (both_equal (nat_cmp a b) (nat_cmp (leading n s) (leading n t)) both).1 in
+    ap (λ o. ordering_then o (slice_cmp nat_cmp s t)) first ∙ equal_bytes n s t (tail_bytes a s p) (tail_bytes b t q) others (omega (arith, m))
+  where
+    both_equal : (c d : Ordering) → ordering_then c d ≡ Equal → (c ≡ Equal) × (d ≡ Equal)
+    both_equal Less d h = cc h
+    both_equal Equal d h = (refl, h)
+    both_equal Greater d h = cc h
+
+-- the two parts of a text's word
+text_parts : (s t : List ℕ) → text_word s ≡ text_word t → (leading 6 s ≡ leading 6 t) × (length_to 7 s ≡ length_to 7 t)
+text_parts s t e = (omega (arith, e), omega (arith, e))
+
+texts_go_on : (s t : List ℕ) → AreBytes s → AreBytes t → text_word s ≡ text_word t → slice_cmp nat_cmp s t ≡ slice_cmp nat_cmp (drop 6 s) (drop 6 t)
+texts_go_on s t p q e = let both = text_parts s t e in equal_bytes 6 s t p q both.0 both.1
+
+whole_parts : (longer wide : Bool) → not (longer || wide) ≡ true → (longer ≡ false) × (wide ≡ false)
+whole_parts true wide h = cc h
+whole_parts false true h = cc h
+whole_parts false false h = (refl, refl)
+
+-- a text with a whole word has no more bytes
+nothing_left : (tag : ℕ) (s : List ℕ) → 4 ≤ tag → is_whole (tag * 2 ^ 56 + text_word s) ≡ true → drop 6 s ≡ []
+nothing_left tag s le whole =
+    let word = tag * 2 ^ 56 + text_word s in
+    let closed : is_open word ≡ false = (whole_parts (is_open word) (is_wide word) whole).0 in
+    let large : nat_le (4 * 2 ^ 56) word ≡ true = grind (arith, nat_tests) in
+    let last : word % 256 ≡ length_to 7 s = omega arith in
+    let short : nat_eq (length_to 7 s) 7 ≡ false = (λ i. sym large i && nat_eq (sym last i) 7) ∙ closed in
+    let few : length_to 7 s ≡ 7 → ⊥ = grind (arith, nat_tests) in
+    drop_all 6 s (omega (arith, few))
+
+whole_texts : (tag : ℕ) (s t : List ℕ) → 4 ≤ tag → AreBytes s → AreBytes t → tag * 2 ^ 56 + text_word s ≡ tag * 2 ^ 56 + text_word t → is_whole (tag * 2 ^ 56 + text_word s) ≡ true → slice_cmp nat_cmp s t ≡ Equal
+whole_texts tag s t le p q e whole =
+    texts_go_on s t p q (omega (arith, e)) ∙ (λ i. slice_cmp nat_cmp (nothing_left tag s le whole i) (nothing_left tag t le (ap is_whole (sym e) ∙ whole) i))
+
+folds_go_on : (s t : List ℕ) → AreBytes s → AreBytes t → word_of (NoCase s) ≡ word_of (NoCase t) → slice_cmp nat_cmp (fold_case s) (fold_case t) ≡ slice_cmp nat_cmp (fold_case (drop 6 s)) (fold_case (drop 6 t))
+folds_go_on s t p q e =
+    texts_go_on (fold_case s) (fold_case t) (folded_bytes s p) (folded_bytes t q) (omega (arith, e)) ∙ (λ i. slice_cmp nat_cmp (drop-map to_ascii_lowercase 6 s i) (drop-map to_ascii_lowercase 6 t i))
+
+whole_number : (m n : ℤ) → number_word m ≡ number_word n → is_whole (number_word m) ≡ true → from_least m ≡ from_least n
+whole_number m n e whole =
+    let narrow : is_wide (number_word m) ≡ false = (whole_parts (is_open (number_word m)) (is_wide (number_word m)) whole).1 in
+    let low : number_word m ≡ 2 * 2 ^ 56 - 1 → ⊥ = grind (arith, nat_tests) in
+    let high : number_word m ≡ 3 * 2 ^ 56 → ⊥ = grind (arith, nat_tests) in
+    omega (arith, e, low, high)
+
+-- Words of different kinds don't tie.
+kinds : (X : Value → Value → Type 0) → X Null Null → ((m n : ℤ) → FitsSigned w64 m → FitsSigned w64 n → number_word m ≡ number_word n → X (Int m) (Int n))
+    → ((s t : List ℕ) → AreBytes s → AreBytes t → word_of (Text s) ≡ word_of (Text t) → X (Text s) (Text t)) → ((s t : List ℕ) → AreBytes s → AreBytes t → word_of (NoCase s) ≡ word_of (NoCase t) → X (NoCase s) (NoCase t))
+    → (v w : Value) → IsOfBytes v → IsOfBytes w → word_of v ≡ word_of w → X v w
+kinds X nulls ints texts others Null Null p q e = nulls
+kinds X nulls ints texts others Null (Int n) p q e = absurd (omega (arith, e))
+kinds X nulls ints texts others Null (Text t) p q e = absurd (omega (arith, e))
+kinds X nulls ints texts others Null (NoCase t) p q e = absurd (omega (arith, e))
+kinds X nulls ints texts others (Int m) Null p q e = absurd (omega (arith, e))
+kinds X nulls ints texts others (Int m) (Int n) p q e = ints m n p q e
+kinds X nulls ints texts others (Int m) (Text t) p q e = absurd (omega (arith, e))
+kinds X nulls ints texts others (Int m) (NoCase t) p q e = absurd (omega (arith, e))
+kinds X nulls ints texts others (Text s) Null p q e = absurd (omega (arith, e))
+kinds X nulls ints texts others (Text s) (Int n) p q e = absurd (omega (arith, e))
+kinds X nulls ints texts others (Text s) (Text t) p q e = texts s t p q e
+kinds X nulls ints texts others (Text s) (NoCase t) p q e = absurd (omega (arith, e, text_small s p))
+kinds X nulls ints texts others (NoCase s) Null p q e = absurd (omega (arith, e))
+kinds X nulls ints texts others (NoCase s) (Int n) p q e = absurd (omega (arith, e))
+kinds X nulls ints texts others (NoCase s) (Text t) p q e = absurd (omega (arith, e, text_small t q))
+kinds X nulls ints texts others (NoCase s) (NoCase t) p q e = others s t p q e
+
+equal_numbers : (m n : ℤ) → FitsSigned w64 m → FitsSigned w64 n → from_least m ≡ from_least n → int_cmp m n ≡ Equal
+equal_numbers m n p q e = sym (numbers m n p q) ∙ same (from_least m) (from_least n) e
+
+-- values with one whole word tie
+whole_tie : (v w : Value) → IsOfBytes v → IsOfBytes w → word_of v ≡ word_of w → is_whole (word_of v) ≡ true → folded_order v w ≡ Equal
+whole_tie = kinds (λ v w. is_whole (word_of v) ≡ true → folded_order v w ≡ Equal) (λ whole. refl)
+    (λ m n p q e whole. equal_numbers m n p q (whole_number m n e whole))
+    (λ s t p q e whole. whole_texts 4 s t (omega arith) p q e whole)
+    (λ s t p q e whole. whole_texts 5 (fold_case s) (fold_case t) (omega arith) (folded_bytes s p) (folded_bytes t q) e whole)
+
+-- those with another word are compared by what it doesn't say
+rest_tie : (v w : Value) → IsOfBytes v → IsOfBytes w → word_of v ≡ word_of w → ordering_then (nat_cmp (rest_word v) (rest_word w)) (folded_order v w) ≡ folded_order v w
+rest_tie = kinds (λ v w. ordering_then (nat_cmp (rest_word v) (rest_word w)) (folded_order v w) ≡ folded_order v w) refl
+    (λ m n p q e. ap (λ o. ordering_then o (int_cmp m n)) (numbers m n p q) ∙ then_same (int_cmp m n))
+    (λ s t p q e.
+    let on = texts_go_on s t p q (omega (arith, e)) in
+    ap (ordering_then (nat_cmp (rest_word (Text s)) (rest_word (Text t)))) on ∙ texts_first 4 (drop 6 s) (drop 6 t) (dropped_bytes 6 s p) (dropped_bytes 6 t q) ∙ sym on)
+    (λ s t p q e.
+    let on = folds_go_on s t p q e in
+    ap (ordering_then (nat_cmp (rest_word (NoCase s)) (rest_word (NoCase t)))) on
+    ∙ texts_first 5 (fold_case (drop 6 s)) (fold_case (drop 6 t)) (folded_bytes (drop 6 s) (dropped_bytes 6 s p)) (folded_bytes (drop 6 t) (dropped_bytes 6 t q)) ∙ sym on)
+
+-- and they are in the order of what follows in a text
+values_go_on : (v w : Value) → IsOfBytes v → IsOfBytes w → word_of v ≡ word_of w → folded_order v w ≡ folded_order (without_bytes 6 v) (without_bytes 6 w)
+values_go_on = kinds (λ v w. folded_order v w ≡ folded_order (without_bytes 6 v) (without_bytes 6 w)) refl (λ m n p q e. refl)
+    (λ s t p q e. texts_go_on s t p q (omega (arith, e)))
+    folds_go_on
+
+-- a number whose words tie in both parts
+wide_tie : (v w : Value) → IsOfBytes v → IsOfBytes w → word_of v ≡ word_of w → is_wide (word_of v) ≡ true → rest_word v ≡ rest_word w → folded_order v w ≡ Equal
+wide_tie = kinds (λ v w. is_wide (word_of v) ≡ true → rest_word v ≡ rest_word w → folded_order v w ≡ Equal) (λ wide e. refl)
+    (λ m n p q tie wide e. equal_numbers m n p q e)
+    (λ s t p q tie wide e. absurd (no_text 4 s (omega arith) wide))
+    (λ s t p q tie wide e. absurd (no_text 5 (fold_case s) (omega arith) wide))
+  where
+    no_text : (tag : ℕ) (s : List ℕ) → 4 ≤ tag → is_wide (tag * 2 ^ 56 + text_word s) ≡ true → ⊥
+    no_text tag s le wide =
+        let low : nat_eq (tag * 2 ^ 56 + text_word s) (2 * 2 ^ 56 - 1) ≡ false = grind (arith, nat_tests) in
+        let high : nat_eq (tag * 2 ^ 56 + text_word s) (3 * 2 ^ 56) ≡ false = grind (arith, nat_tests) in
+        let no : true ≡ false = sym wide ∙ (λ i. low i || high i) in
+        cc no
 
 grouped : (a b c : Ordering) → ordering_then a b ≡ b → ordering_then a (ordering_then b c) ≡ ordering_then b c
 grouped Less Less c h = refl
@@ -327,17 +424,72 @@ null_last (Int n) o h = h
 null_last (Text t) o h = h
 null_last (NoCase t) o h = h
 
--- So are keys, by the prefixes of their first values.
-folds_by_prefixes : (xs ys : List Value) → IsOfBytes (cell xs 0) → IsOfBytes (cell ys 0)
-    → ordering_then (compare_prefixes (prefix_of (cell xs 0)) (prefix_of (cell ys 0))) (slice_cmp folded_order xs ys) ≡ slice_cmp folded_order xs ys
-folds_by_prefixes [] [] p q = refl
-folds_by_prefixes [] (y ∷ ys) p q = null_first y (compare_prefixes (prefix_of Null) (prefix_of y)) (by_prefixes Null y p q)
-folds_by_prefixes (x ∷ xs) [] p q = null_last x (compare_prefixes (prefix_of x) (prefix_of Null)) (by_prefixes x Null p q)
-folds_by_prefixes (x ∷ xs) (y ∷ ys) p q = grouped (compare_prefixes (prefix_of x) (prefix_of y)) (folded_order x y) (slice_cmp folded_order xs ys) (by_prefixes x y p q)
+-- So are keys, by the words of their first values.
+keys_by_words : (xs ys : List Value) → IsOfBytes (cell xs 0) → IsOfBytes (cell ys 0)
+    → ordering_then (nat_cmp (word_of (cell xs 0)) (word_of (cell ys 0))) (slice_cmp folded_order xs ys) ≡ slice_cmp folded_order xs ys
+keys_by_words [] [] p q = refl
+keys_by_words [] (y ∷ ys) p q = null_first y (nat_cmp (word_of Null) (word_of y)) (by_words Null y p q)
+keys_by_words (x ∷ xs) [] p q = null_last x (nat_cmp (word_of x) (word_of Null)) (by_words x Null p q)
+keys_by_words (x ∷ xs) (y ∷ ys) p q = grouped (nat_cmp (word_of x) (word_of y)) (folded_order x y) (slice_cmp folded_order xs ys) (by_words x y p q)
 
-keys_by_prefixes : (xs ys : List Value) → IsOfBytes (cell xs 0) → IsOfBytes (cell ys 0)
-    → ordering_then (compare_prefixes (prefix_of (cell xs 0)) (prefix_of (cell ys 0))) (compare_keys xs ys) ≡ compare_keys xs ys
-keys_by_prefixes xs ys p q = grouped (compare_prefixes (prefix_of (cell xs 0)) (prefix_of (cell ys 0))) (slice_cmp folded_order xs ys) (slice_cmp plain_order xs ys) (folds_by_prefixes xs ys p q)
+-- and where whole words tie, by those of their second values
+second_words : (xs ys : List Value) → IsOfBytes (cell xs 0) → IsOfBytes (cell ys 0) → word_of (cell xs 0) ≡ word_of (cell ys 0) → is_whole (word_of (cell xs 0)) ≡ true → IsOfBytes (cell xs 1) → IsOfBytes (cell ys 1)
+    → ordering_then (nat_cmp (word_of (cell xs 1)) (word_of (cell ys 1))) (slice_cmp folded_order xs ys) ≡ slice_cmp folded_order xs ys
+second_words [] [] p q e whole u v = refl
+second_words [] (y ∷ ys) p q e whole u v = nothing_below (word_of (cell ys 0))
+second_words (x ∷ xs) [] p q e whole u v = nothing_above (word_of (cell xs 0))
+second_words (x ∷ xs) (y ∷ ys) p q e whole u v =
+    let c = nat_cmp (word_of (cell xs 0)) (word_of (cell ys 0)) in
+    let tie : ordering_then (folded_order x y) (slice_cmp folded_order xs ys) ≡ slice_cmp folded_order xs ys = ap (λ o. ordering_then o (slice_cmp folded_order xs ys)) (whole_tie x y p q e whole) in
+    ap (ordering_then c) tie ∙ keys_by_words xs ys u v ∙ sym tie
+
+-- where other words tie, by what these don't say
+rest_words : (xs ys : List Value) → IsOfBytes (cell xs 0) → IsOfBytes (cell ys 0) → word_of (cell xs 0) ≡ word_of (cell ys 0)
+    → ordering_then (nat_cmp (rest_word (cell xs 0)) (rest_word (cell ys 0))) (slice_cmp folded_order xs ys) ≡ slice_cmp folded_order xs ys
+rest_words [] [] p q e = refl
+rest_words [] (y ∷ ys) p q e = nothing_below (rest_word y)
+rest_words (x ∷ xs) [] p q e = nothing_above (rest_word x)
+rest_words (x ∷ xs) (y ∷ ys) p q e = grouped (nat_cmp (rest_word x) (rest_word y)) (folded_order x y) (slice_cmp folded_order xs ys) (rest_tie x y p q e)
+
+one_by_one : (h l s : Ordering) → ordering_then h s ≡ s → (h ≡ Equal → ordering_then l s ≡ s) → ordering_then (ordering_then h l) s ≡ s
+one_by_one Less l s first second = first
+one_by_one Equal l s first second = second refl
+one_by_one Greater l s first second = first
+
+-- the second word, if it is known whether the first is whole
+pub low_whole : (v w : Value) (p : SortPrefix) → IsPairPrefix v w p → is_whole p.high ≡ true → p.low ≡ word_of w
+low_whole v w p h e = ap (λ (f : SortPrefix). f.low) h.is ∙ (λ i. if (ap is_whole (sym (ap (λ (f : SortPrefix). f.high) h.is)) ∙ e) i then word_of w else rest_word v)
+
+pub low_rest : (v w : Value) (p : SortPrefix) → IsPairPrefix v w p → is_whole p.high ≡ false → p.low ≡ rest_word v
+low_rest v w p h e = ap (λ (f : SortPrefix). f.low) h.is ∙ (λ i. if (ap is_whole (sym (ap (λ (f : SortPrefix). f.high) h.is)) ∙ e) i then word_of w else rest_word v)
+
+high_is : (v w : Value) (p : SortPrefix) → IsPairPrefix v w p → p.high ≡ word_of v
+high_is v w p h = ap (λ (f : SortPrefix). f.high) h.is
+
+-- So keys are compared by the prefixes of their first values.
+folds_by_prefixes : (xs ys : List Value) (a b : SortPrefix) → IsSortPrefix xs a → IsSortPrefix ys b → ordering_then (compare_prefixes a b) (slice_cmp folded_order xs ys) ≡ slice_cmp folded_order xs ys
+folds_by_prefixes xs ys a b p q =
+    let high_a = high_is (cell xs 0) (cell xs 1) a p in
+    let high_b = high_is (cell ys 0) (cell ys 1) b q in
+    one_by_one (nat_cmp a.high b.high) (nat_cmp a.low b.low) (slice_cmp folded_order xs ys)
+    ((λ i. ordering_then (nat_cmp (high_a i) (high_b i)) (slice_cmp folded_order xs ys)) ∙ keys_by_words xs ys p.first_held q.first_held)
+    (λ e. low (is_whole a.high) refl (tied a.high b.high e))
+  where
+    low : (whole : Bool) → is_whole a.high ≡ whole → a.high ≡ b.high → ordering_then (nat_cmp a.low b.low) (slice_cmp folded_order xs ys) ≡ slice_cmp folded_order xs ys
+    low true w e =
+        let high_a = high_is (cell xs 0) (cell xs 1) a p in
+        let tie = sym high_a ∙ e ∙ high_is (cell ys 0) (cell ys 1) b q in
+        let other : is_whole b.high ≡ true = ap is_whole (sym e) ∙ w in
+        (λ i. ordering_then (nat_cmp (low_whole (cell xs 0) (cell xs 1) a p w i) (low_whole (cell ys 0) (cell ys 1) b q other i)) (slice_cmp folded_order xs ys))
+        ∙ second_words xs ys p.first_held q.first_held tie (ap is_whole (sym high_a) ∙ w) (p.second_held w) (q.second_held other)
+    low false w e =
+        let tie = sym (high_is (cell xs 0) (cell xs 1) a p) ∙ e ∙ high_is (cell ys 0) (cell ys 1) b q in
+        let other : is_whole b.high ≡ false = ap is_whole (sym e) ∙ w in
+        (λ i. ordering_then (nat_cmp (low_rest (cell xs 0) (cell xs 1) a p w i) (low_rest (cell ys 0) (cell ys 1) b q other i)) (slice_cmp folded_order xs ys))
+        ∙ rest_words xs ys p.first_held q.first_held tie
+
+keys_by_prefixes : (xs ys : List Value) (a b : SortPrefix) → IsSortPrefix xs a → IsSortPrefix ys b → ordering_then (compare_prefixes a b) (compare_keys xs ys) ≡ compare_keys xs ys
+keys_by_prefixes xs ys a b p q = grouped (compare_prefixes a b) (slice_cmp folded_order xs ys) (slice_cmp plain_order xs ys) (folds_by_prefixes xs ys a b p q)
 
 decided : (r k : Ordering) → (r ≡ Equal → ⊥) → ordering_then r k ≡ k → r ≡ k
 decided Less k not h = h
@@ -346,95 +498,7 @@ decided Greater k not h = h
 
 -- If the prefixes of two keys don't tie, they decide the order of the keys.
 pub told : (xs ys : List Value) (a b : SortPrefix) (r : Ordering) → IsSortPrefix xs a → IsSortPrefix ys b → r ≡ compare_prefixes a b → (r ≡ Equal → ⊥) → r ≡ compare_keys xs ys
-told xs ys a b r p q e not =
-    let prefixes : compare_prefixes a b ≡ compare_prefixes (prefix_of (cell xs 0)) (prefix_of (cell ys 0)) = ap (λ f. compare_prefixes f b) p.0 ∙ ap (compare_prefixes (prefix_of (cell xs 0))) q.0 in
-    decided r (compare_keys xs ys) not (ap (λ o. ordering_then o (compare_keys xs ys)) (e ∙ prefixes) ∙ keys_by_prefixes xs ys p.1 q.1)
-
--- ---- prefixes that tie
-
--- texts with the same first bytes, whose lengths tie up to one more, are in the order of what follows
-equal_bytes : (n : ℕ) (s t : List ℕ) → AreBytes s → AreBytes t → leading n s ≡ leading n t → length_to (suc n) s ≡ length_to (suc n) t → slice_cmp nat_cmp s t ≡ slice_cmp nat_cmp (drop n s) (drop n t)
-equal_bytes zero s t p q e m = refl
-equal_bytes (suc n) [] [] p q e m = refl
-equal_bytes (suc n) [] (b ∷ t) p q e m = absurd (omega (arith, m))
-equal_bytes (suc n) (a ∷ s) [] p q e m = absurd (omega (arith, m))
-equal_bytes (suc n) (a ∷ s) (b ∷ t) p q e m =
-    let small_s : leading n s < 256 ^ n = leading_small n s (tail_bytes a s p) in
-    let small_t : leading n t < 256 ^ n = leading_small n t (tail_bytes b t q) in
-    let both : ordering_then (nat_cmp a b) (nat_cmp (leading n s) (leading n t)) ≡ Equal =
-    sym (digits (256 ^ n) a b (leading n s) (leading n t) small_s small_t) ∙ same (a * 256 ^ n + leading n s) (b * 256 ^ n + leading n t) e in
-    let first : nat_cmp a b ≡ Equal = (both_equal (nat_cmp a b) (nat_cmp (leading n s) (leading n t)) both).0 in
-    let others : leading n s ≡ leading n t = tied (leading n s) (leading n t) (both_equal (nat_cmp a b) (nat_cmp (leading n s) (leading n t)) both).1 in
-    ap (λ o. ordering_then o (slice_cmp nat_cmp s t)) first ∙ equal_bytes n s t (tail_bytes a s p) (tail_bytes b t q) others (omega (arith, m))
-  where
-    both_equal : (c d : Ordering) → ordering_then c d ≡ Equal → (c ≡ Equal) × (d ≡ Equal)
-    both_equal Less d h = cc h
-    both_equal Equal d h = (refl, h)
-    both_equal Greater d h = cc h
-
-    tied : (x y : ℕ) → nat_cmp x y ≡ Equal → x ≡ y
-    tied x y h = grind (arith, nat_tests)
-
--- the two parts of a low word
-low_parts : (s t : List ℕ) → low_word s ≡ low_word t → (leading 7 (drop 7 s) ≡ leading 7 (drop 7 t)) × (length_to 15 s ≡ length_to 15 t)
-low_parts s t e = (omega (arith, e), omega (arith, e))
-
--- texts whose prefixes tie are in the order of what follows
-equal_prefixes : (s t : List ℕ) → AreBytes s → AreBytes t → leading 7 s ≡ leading 7 t → low_word s ≡ low_word t → slice_cmp nat_cmp s t ≡ slice_cmp nat_cmp (drop 14 s) (drop 14 t)
-equal_prefixes s t p q high low =
-    let both = low_parts s t low in
-    let all : leading 14 s ≡ leading 14 t = leading_split s ∙ (λ i. high i * 256 ^ 7 + both.0 i) ∙ sym (leading_split t) in
-    equal_bytes 14 s t p q all both.1
-
--- a prefix is full if its text has more bytes
-full_is : (tag : ℕ) (s : List ℕ) → 2 ≤ tag → is_full (record { high = tag * 2 ^ 56 + leading 7 s; low = low_word s }) ≡ nat_eq (length_to 15 s) 15
-full_is tag s le =
-    let large : nat_le (2 * 2 ^ 56) (tag * 2 ^ 56 + leading 7 s) ≡ true = grind (arith, nat_tests) in
-    let last : low_word s % 256 ≡ length_to 15 s = omega arith in
-    λ i. large i && nat_eq (last i) 15
-
-nothing_left : (s : List ℕ) → nat_eq (length_to 15 s) 15 ≡ false → drop 14 s ≡ []
-nothing_left s h = let short : length_to 15 s ≡ 15 → ⊥ = grind (arith, nat_tests) in drop_all 14 s (omega (arith, short))
-
--- texts whose prefixes tie
-texts_tie : (tag : ℕ) (s t : List ℕ) (a : SortPrefix) → 2 ≤ tag → AreBytes s → AreBytes t → a ≡ record { high = tag * 2 ^ 56 + leading 7 s; low = low_word s } → a ≡ record { high = tag * 2 ^ 56 + leading 7 t; low = low_word t }
-    → (is_full a ≡ false → slice_cmp nat_cmp s t ≡ Equal) × (slice_cmp nat_cmp s t ≡ slice_cmp nat_cmp (drop 14 s) (drop 14 t))
-texts_tie tag s t a le p q x y =
-    let tie = sym x ∙ y in
-    let high : leading 7 s ≡ leading 7 t = omega (arith, ap (λ (f : SortPrefix). f.high) tie) in
-    let equal = equal_prefixes s t p q high (ap (λ (f : SortPrefix). f.low) tie) in (
-      λ not.
-          let none_s = nothing_left s (sym (full_is tag s le) ∙ ap is_full (sym x) ∙ not) in
-          let none_t = nothing_left t (sym (full_is tag t le) ∙ ap is_full (sym y) ∙ not) in
-          equal ∙ (λ i. slice_cmp nat_cmp (none_s i) (none_t i)),
-      equal,
-    )
-
--- What prefixes that tie say of values: unless they are full the values tie, else what follows has their order.
-pub values_tie : (v w : Value) (a : SortPrefix) → IsValuePrefix v a → IsValuePrefix w a
-    → (is_full a ≡ false → folded_order v w ≡ Equal) × (is_full a ≡ true → folded_order v w ≡ folded_order (without_bytes 14 v) (without_bytes 14 w))
-values_tie Null Null a p q = (λ h. refl, λ h. refl)
-values_tie (Int m) (Int n) a p q =
-    let low : from_least m ≡ from_least n = ap (λ (f : SortPrefix). f.low) (sym p.0 ∙ q.0) in
-    (λ h. sym (numbers m n p.1 q.1) ∙ same (from_least m) (from_least n) low, λ h. refl)
-values_tie (Text s) (Text t) a p q =
-    let both = texts_tie 2 s t a (omega arith) p.1 q.1 p.0 q.0 in
-    (both.0, λ h. both.1)
-values_tie (NoCase s) (NoCase t) a p q =
-    let both = texts_tie 3 (fold_case s) (fold_case t) a (omega arith) (folded_bytes s p.1) (folded_bytes t q.1) p.0 q.0 in
-    (both.0, λ h. both.1 ∙ (λ i. slice_cmp nat_cmp (drop-map to_ascii_lowercase 14 s i) (drop-map to_ascii_lowercase 14 t i)))
-values_tie Null (Int n) a p q = absurd (omega (arith, ap (λ (f : SortPrefix). f.high) (sym p.0 ∙ q.0)))
-values_tie Null (Text t) a p q = absurd (omega (arith, ap (λ (f : SortPrefix). f.high) (sym p.0 ∙ q.0), leading_small 7 t q.1))
-values_tie Null (NoCase t) a p q = absurd (omega (arith, ap (λ (f : SortPrefix). f.high) (sym p.0 ∙ q.0), leading_small 7 (fold_case t) (folded_bytes t q.1)))
-values_tie (Int m) Null a p q = absurd (omega (arith, ap (λ (f : SortPrefix). f.high) (sym p.0 ∙ q.0)))
-values_tie (Int m) (Text t) a p q = absurd (omega (arith, ap (λ (f : SortPrefix). f.high) (sym p.0 ∙ q.0), leading_small 7 t q.1))
-values_tie (Int m) (NoCase t) a p q = absurd (omega (arith, ap (λ (f : SortPrefix). f.high) (sym p.0 ∙ q.0), leading_small 7 (fold_case t) (folded_bytes t q.1)))
-values_tie (Text s) Null a p q = absurd (omega (arith, ap (λ (f : SortPrefix). f.high) (sym p.0 ∙ q.0), leading_small 7 s p.1))
-values_tie (Text s) (Int n) a p q = absurd (omega (arith, ap (λ (f : SortPrefix). f.high) (sym p.0 ∙ q.0), leading_small 7 s p.1))
-values_tie (Text s) (NoCase t) a p q = absurd (omega (arith, ap (λ (f : SortPrefix). f.high) (sym p.0 ∙ q.0), leading_small 7 s p.1, leading_small 7 (fold_case t) (folded_bytes t q.1)))
-values_tie (NoCase s) Null a p q = absurd (omega (arith, ap (λ (f : SortPrefix). f.high) (sym p.0 ∙ q.0), leading_small 7 (fold_case s) (folded_bytes s p.1)))
-values_tie (NoCase s) (Int n) a p q = absurd (omega (arith, ap (λ (f : SortPrefix). f.high) (sym p.0 ∙ q.0), leading_small 7 (fold_case s) (folded_bytes s p.1)))
-values_tie (NoCase s) (Text t) a p q = absurd (omega (arith, ap (λ (f : SortPrefix). f.high) (sym p.0 ∙ q.0), leading_small 7 (fold_case s) (folded_bytes s p.1), leading_small 7 t q.1))
+told xs ys a b r p q e not = decided r (compare_keys xs ys) not (ap (λ o. ordering_then o (compare_keys xs ys)) e ∙ keys_by_prefixes xs ys a b p q)
 
 -- ---- keys that tie up to a place
 
@@ -470,29 +534,138 @@ rest_is place skip key lt = ap (first_without skip) (drop-cons key place Null lt
 pub tie_whole : (a b : List Value) → TieUpTo 0 0 a b
 tie_whole a b = λ i. slice_cmp folded_order (sym (first_whole a) i) (sym (first_whole b) i)
 
+rest_next : (place skip : ℕ) (key : List Value) → cell (rest place skip key) 1 ≡ cell key (suc place)
+rest_next place skip key = second (drop place key) ∙ get_or-drop place key 1 Null ∙ ap (λ k. get_or key k Null) (omega arith)
+  where
+    second : (values : List Value) → cell (first_without skip values) 1 ≡ cell values 1
+    second [] = refl
+    second (value ∷ values) = refl
+
 -- keys that tie are in the order of the prefixes of their rests, if these don't tie
-pub rest_first : (place skip : ℕ) (a b : List Value) (p q : SortPrefix) → TieUpTo place skip a b → IsValuePrefix (without_bytes skip (cell a place)) p → IsValuePrefix (without_bytes skip (cell b place)) q
+pub rest_first : (place skip : ℕ) (a b : List Value) (p q : SortPrefix) → TieUpTo place skip a b
+    → IsPairPrefix (without_bytes skip (cell a place)) (cell a (suc place)) p → IsPairPrefix (without_bytes skip (cell b place)) (cell b (suc place)) q
     → ordering_then (compare_prefixes p q) (compare_keys a b) ≡ compare_keys a b
 rest_first place skip a b p q tie x y =
     let c = compare_prefixes p q in
-    let u = subst (λ v. IsValuePrefix v p) (sym (rest_cell place skip a)) x in
-    let v = subst (λ w. IsValuePrefix w q) (sym (rest_cell place skip b)) y in
-    let decides : ordering_then c (slice_cmp folded_order (rest place skip a) (rest place skip b)) ≡ slice_cmp folded_order (rest place skip a) (rest place skip b) =
-    (λ i. ordering_then (compare_prefixes (u.0 i) (v.0 i)) (slice_cmp folded_order (rest place skip a) (rest place skip b))) ∙ folds_by_prefixes (rest place skip a) (rest place skip b) u.1 v.1 in
+    let decides = folds_by_prefixes (rest place skip a) (rest place skip b) p q (of_rest a p x) (of_rest b q y) in
     grouped c (slice_cmp folded_order a b) (slice_cmp plain_order a b) (ap (ordering_then c) tie ∙ decides ∙ sym tie)
+  where
+    of_rest : (key : List Value) (f : SortPrefix) → IsPairPrefix (without_bytes skip (cell key place)) (cell key (suc place)) f → IsSortPrefix (rest place skip key) f
+    of_rest key f h = subst (λ v. IsPairPrefix v (cell (rest place skip key) 1) f) (sym (rest_cell place skip key)) (subst (λ w. IsPairPrefix (without_bytes skip (cell key place)) w f) (sym (rest_next place skip key)) h)
 
--- a tie goes on past a cell, or past the bytes of a prefix
-pub past_cell : (place skip : ℕ) (a b : List Value) (p : SortPrefix) → place < length a → place < length b → TieUpTo place skip a b
-    → IsValuePrefix (without_bytes skip (cell a place)) p → IsValuePrefix (without_bytes skip (cell b place)) p → is_full p ≡ false → TieUpTo (suc place) 0 a b
-past_cell place skip a b p in_a in_b tie x y not =
-    tie ∙ (λ i. slice_cmp folded_order (rest_is place skip a in_a i) (rest_is place skip b in_b i))
-    ∙ ap (λ o. ordering_then o (slice_cmp folded_order (drop (suc place) a) (drop (suc place) b))) ((values_tie (without_bytes skip (cell a place)) (without_bytes skip (cell b place)) p x y).0 not)
-    ∙ (λ i. slice_cmp folded_order (sym (first_whole (drop (suc place) a)) i) (sym (first_whole (drop (suc place) b)) i))
+-- the place past a word, if it is known whether its text has more bytes
+abbrev past_if : Bool → Place → Place
+past_if longer place = if longer then (place.0, place.1 + 6) else (suc place.0, 0)
 
-pub past_bytes : (place skip : ℕ) (a b : List Value) (p : SortPrefix) → place < length a → place < length b → TieUpTo place skip a b
-    → IsValuePrefix (without_bytes skip (cell a place)) p → IsValuePrefix (without_bytes skip (cell b place)) p → is_full p ≡ true → TieUpTo place (skip + 14) a b
-past_bytes place skip a b p in_a in_b tie x y full =
-    tie ∙ (λ i. slice_cmp folded_order (rest_is place skip a in_a i) (rest_is place skip b in_b i))
-    ∙ ap (λ o. ordering_then o (slice_cmp folded_order (drop (suc place) a) (drop (suc place) b)))
-    ((values_tie (without_bytes skip (cell a place)) (without_bytes skip (cell b place)) p x y).1 full ∙ (λ i. folded_order (more_without 14 skip (cell a place) i) (more_without 14 skip (cell b place) i)))
-    ∙ (λ i. slice_cmp folded_order (sym (rest_is place (skip + 14) a in_a) i) (sym (rest_is place (skip + 14) b in_b) i))
+-- a tie goes on past a cell, or past the bytes of a word
+module _ (place skip : ℕ) (a b : List Value) (in_a : place < length a) (in_b : place < length b) (tie : TieUpTo place skip a b) where
+  by_cells : slice_cmp folded_order a b ≡ ordering_then (folded_order (without_bytes skip (cell a place)) (without_bytes skip (cell b place))) (slice_cmp folded_order (drop (suc place) a) (drop (suc place) b))
+  by_cells = tie ∙ (λ i. slice_cmp folded_order (rest_is place skip a in_a i) (rest_is place skip b in_b i))
+
+  past_cell : folded_order (without_bytes skip (cell a place)) (without_bytes skip (cell b place)) ≡ Equal → TieUpTo (suc place) 0 a b
+  past_cell e =
+      by_cells
+      ∙ ap (λ o. ordering_then o (slice_cmp folded_order (drop (suc place) a) (drop (suc place) b))) e
+      ∙ (λ i. slice_cmp folded_order (sym (first_whole (drop (suc place) a)) i) (sym (first_whole (drop (suc place) b)) i))
+
+  past_bytes : folded_order (without_bytes skip (cell a place)) (without_bytes skip (cell b place)) ≡ folded_order (without_bytes 6 (without_bytes skip (cell a place))) (without_bytes 6 (without_bytes skip (cell b place)))
+      → TieUpTo place (skip + 6) a b
+  past_bytes e =
+      by_cells
+      ∙ ap (λ o. ordering_then o (slice_cmp folded_order (drop (suc place) a) (drop (suc place) b))) (e ∙ (λ i. folded_order (more_without 6 skip (cell a place) i) (more_without 6 skip (cell b place) i)))
+      ∙ (λ i. slice_cmp folded_order (sym (rest_is place (skip + 6) a in_a) i) (sym (rest_is place (skip + 6) b in_b) i))
+
+  -- past a word that isn't of a number beyond the others
+  word_past : (w : ℕ) → IsWord (without_bytes skip (cell a place)) w → IsWord (without_bytes skip (cell b place)) w → is_wide w ≡ false → TieUpTo (past_word w (place, skip)).0 (past_word w (place, skip)).1 a b
+  word_past w x y narrow = by_open (is_open w) refl
+    where
+      word_tie : word_of (without_bytes skip (cell a place)) ≡ word_of (without_bytes skip (cell b place))
+      word_tie = sym x.0 ∙ y.0
+
+      by_open : (longer : Bool) → is_open w ≡ longer → TieUpTo (past_if longer (place, skip)).0 (past_if longer (place, skip)).1 a b
+      by_open true e = past_bytes (values_go_on (without_bytes skip (cell a place)) (without_bytes skip (cell b place)) x.1 y.1 word_tie)
+      by_open false e = past_cell (whole_tie (without_bytes skip (cell a place)) (without_bytes skip (cell b place)) x.1 y.1 word_tie (ap is_whole (sym x.0) ∙ (λ i. not (e i || narrow i))))
+
+-- the word of what follows the first six bytes of a text
+open_rest : (v : Value) → is_open (word_of v) ≡ true → rest_word v ≡ word_of (without_bytes 6 v)
+open_rest Null e = refl
+open_rest (Int n) e = let low : nat_le (4 * 2 ^ 56) (number_word n) ≡ false = grind (arith, nat_tests) in let no : true ≡ false = sym e ∙ (λ i. low i && nat_eq (number_word n % 256) 7) in cc no
+open_rest (Text t) e = refl
+open_rest (NoCase t) e = refl
+
+bytes_without : (n : ℕ) (v : Value) → IsOfBytes v → IsOfBytes (without_bytes n v)
+bytes_without n Null h = h
+bytes_without n (Int m) h = h
+bytes_without n (Text t) h = dropped_bytes n t h
+bytes_without n (NoCase t) h = dropped_bytes n t h
+
+-- the first word of a prefix, and the second, which is that of the place past the first
+first_word : (place skip : ℕ) (key : List Value) (p : SortPrefix) → IsPairPrefix (without_bytes skip (cell key place)) (cell key (suc place)) p → IsWord (without_bytes skip (cell key place)) p.high
+first_word place skip key p h = (high_is (without_bytes skip (cell key place)) (cell key (suc place)) p h, h.first_held)
+
+low_word : (place skip : ℕ) (key : List Value) (p : SortPrefix) → IsPairPrefix (without_bytes skip (cell key place)) (cell key (suc place)) p → is_wide p.high ≡ false
+    → IsWord (without_bytes (past_word p.high (place, skip)).1 (cell key (past_word p.high (place, skip)).0)) p.low
+low_word place skip key p h narrow = by_open (is_open p.high) refl
+  where
+    by_open : (longer : Bool) → is_open p.high ≡ longer → IsWord (without_bytes (past_if longer (place, skip)).1 (cell key (past_if longer (place, skip)).0)) p.low
+    by_open true e =
+        let more = more_without 6 skip (cell key place) in
+        let high = high_is (without_bytes skip (cell key place)) (cell key (suc place)) p h in (
+          low_rest (without_bytes skip (cell key place)) (cell key (suc place)) p h (λ i. not (e i || narrow i)) ∙ open_rest (without_bytes skip (cell key place)) (ap is_open (sym high) ∙ e) ∙ ap word_of more,
+          subst IsOfBytes more (bytes_without 6 (without_bytes skip (cell key place)) h.first_held),
+        )
+    by_open false e =
+        let whole : is_whole p.high ≡ true = λ i. not (e i || narrow i) in
+        let none = none_without (cell key (suc place)) in (
+          low_whole (without_bytes skip (cell key place)) (cell key (suc place)) p h whole ∙ ap word_of (sym none),
+          subst IsOfBytes (sym none) (h.second_held whole),
+        )
+
+not_back : (w : ℕ) (place : Place) → place.0 ≤ (past_word w place).0
+not_back w place = by_open (is_open w)
+  where
+    by_open : (longer : Bool) → place.0 ≤ (past_if longer place).0
+    by_open true = omega arith
+    by_open false = omega arith
+
+wide_closed : (w : ℕ) → is_wide w ≡ true → is_open w ≡ false
+wide_closed w h =
+    let small : nat_le (4 * 2 ^ 56) w ≡ false = grind (arith, nat_tests) in
+    ap (λ large. large && nat_eq (w % 256) 7) small
+
+abbrev go_past : Bool → SortPrefix → Place → Place
+go_past wide p place = if wide then past_word p.high place else past_word p.low (past_word p.high place)
+
+-- keys that tie in a prefix, too, tie past it
+module _ (place skip : ℕ) (a b : List Value) (p : SortPrefix) (tie : TieUpTo place skip a b)
+    (x : IsPairPrefix (without_bytes skip (cell a place)) (cell a (suc place)) p) (y : IsPairPrefix (without_bytes skip (cell b place)) (cell b (suc place)) p) where
+  past_number : is_wide p.high ≡ true → (past_word p.high (place, skip)).0 < length a → (past_word p.high (place, skip)).0 < length b → TieUpTo (past_word p.high (place, skip)).0 (past_word p.high (place, skip)).1 a b
+  past_number wide in_a in_b =
+      let v = without_bytes skip (cell a place) in
+      let w = without_bytes skip (cell b place) in
+      let closed = wide_closed p.high wide in
+      let to : past_word p.high (place, skip) ≡ (suc place, 0) = λ i. past_if (closed i) (place, skip) in
+      let longer : is_whole p.high ≡ false = λ i. not (closed i || wide i) in
+      let high = high_is v (cell a (suc place)) p x in
+      let back = not_back p.high (place, skip) in
+      subst (λ (at : Place). TieUpTo at.0 at.1 a b) (sym to)
+      (past_cell place skip a b (omega (arith, in_a, back)) (omega (arith, in_b, back)) tie
+      (wide_tie v w x.first_held y.first_held (sym high ∙ high_is w (cell b (suc place)) p y) (ap is_wide (sym high) ∙ wide) (sym (low_rest v (cell a (suc place)) p x longer) ∙ low_rest w (cell b (suc place)) p y longer)))
+
+  past_first : is_wide p.high ≡ false → (past_word p.high (place, skip)).0 < length a → (past_word p.high (place, skip)).0 < length b → TieUpTo (past_word p.high (place, skip)).0 (past_word p.high (place, skip)).1 a b
+  past_first narrow in_a in_b =
+      let back = not_back p.high (place, skip) in
+      word_past place skip a b (omega (arith, in_a, back)) (omega (arith, in_b, back)) tie p.high (first_word place skip a p x) (first_word place skip b p y) narrow
+
+  there : (h l : Bool) → is_wide p.high ≡ h → is_wide p.low ≡ l → (go_past (h || l) p (place, skip)).0 < length a → (go_past (h || l) p (place, skip)).0 < length b → TieUpTo (go_past (h || l) p (place, skip)).0 (go_past (h || l) p (place, skip)).1 a b
+  there true l high low in_a in_b = past_number high in_a in_b
+  there false true high low in_a in_b = past_first high in_a in_b
+  there false false high low in_a in_b =
+      let next : Place = past_word p.high (place, skip) in
+      let back = not_back p.low next in
+      let low_a : next.0 < length a = omega (arith, in_a, back) in
+      let low_b : next.0 < length b = omega (arith, in_b, back) in
+      word_past next.0 next.1 a b low_a low_b (past_first high low_a low_b) p.low (low_word place skip a p x high) (low_word place skip b p y high) low
+
+  pub past_prefix : (past p (place, skip)).0 < length a → (past p (place, skip)).0 < length b → TieUpTo (past p (place, skip)).0 (past p (place, skip)).1 a b
+  past_prefix in_a in_b = there (is_wide p.high) (is_wide p.low) refl refl in_a in_b

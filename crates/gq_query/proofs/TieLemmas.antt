@@ -1,5 +1,5 @@
 -- Runs of groups whose prefixes tie.
-use Rattle.std.proofs.Common.{◌≡◌, ◌<◌, ◌≤◌, ◌+◌, ◌-◌, ℕ, suc, Bool, true, false, List, [], ◌∷◌, ◌++◌, length, map, take, drop, get_or, All, Ordering, IsPermutation, inl, inr, refl, sym, ap, subst, ◌∙◌, arith}
+use Rattle.std.proofs.Common.{◌≡◌, ◌<◌, ◌≤◌, ◌+◌, ◌-◌, ℕ, suc, Bool, false, List, [], ◌∷◌, ◌++◌, length, map, take, drop, get_or, All, Ordering, IsPermutation, inl, inr, refl, sym, ap, subst, ◌∙◌, arith}
 use lib.ListN.{set}
 use borrow.Rule.Slice.PartMut.{mid_of, post_of, put_mid, put_same}
 use Rattle.std.specs.List.Sorted.{IsSorted, IsSortedBy, IsSortedByKey, IsSortedWithin}
@@ -16,10 +16,10 @@ use Rattle.gq_row.specs.Rows.{cell}
 use Rattle.gq_cells.specs.declared.cell_ref.CellRef.{CellRef}
 use Rattle.gq_cells.specs.Cells.{value_of}
 use Rattle.gq_query.specs.declared.tie_sort.Tie.{Tie}
-use Rattle.gq_query.specs.SortPrefixes.{IsValuePrefix, is_full, without_bytes}
+use Rattle.gq_query.specs.SortPrefixes.{IsPairPrefix, Place, past, without_bytes}
 use Rattle.gq_query.specs.GroupSpans.{HasPrefix, IsGroupAt, compare_at, key_at, middle_of, with_prefix}
 use Rattle.gq_query.specs.Ties.{AreTied, GoesOn, HasRestPrefix, KeysTie, TieUpTo}
-use Rattle.gq_query.proofs.SortPrefixLemmas.{none_without, past_bytes, past_cell, rest_first, same, tie_whole}
+use Rattle.gq_query.proofs.SortPrefixLemmas.{none_without, past_prefix, rest_first, same, tie_whole}
 
 -- a span is below another by its prefix and its key, or by its key alone
 abbrev pub span_below : List Value → GroupSpan → GroupSpan → Bool
@@ -206,31 +206,19 @@ tied_next cells tie next p spans on tied has same = record {
       let at_j : j < length spans = omega (arith, below, length-map spans (key_at cells)) in
       let at_k : k < length spans = omega (arith, within, length-map spans (key_at cells)) in
       subst (λ x. TieUpTo next.cell next.skip x (get_or (map (key_at cells) spans) k b)) (sym (get_or-map (key_at cells) spans j none a at_j))
-      (subst (TieUpTo next.cell next.skip (key_at cells (get_or spans j none))) (sym (get_or-map (key_at cells) spans k none b at_k)) (both j k none at_j at_k (is_full p) refl));
+      (subst (TieUpTo next.cell next.skip (key_at cells (get_or spans j none))) (sym (get_or-map (key_at cells) spans k none b at_k)) (both j k none at_j at_k));
 }
   where
-    one : (k : ℕ) (d : GroupSpan) → k < length spans → IsValuePrefix (without_bytes tie.skip (cell (key_at cells (get_or spans k d)) tie.cell)) p
-    one k d lt = subst (IsValuePrefix (without_bytes tie.skip (cell (key_at cells (get_or spans k d)) tie.cell))) (same k d lt) (has k d lt)
+    one : (k : ℕ) (d : GroupSpan) → k < length spans → IsPairPrefix (without_bytes tie.skip (cell (key_at cells (get_or spans k d)) tie.cell)) (cell (key_at cells (get_or spans k d)) (suc tie.cell)) p
+    one k d lt = subst (IsPairPrefix (without_bytes tie.skip (cell (key_at cells (get_or spans k d)) tie.cell)) (cell (key_at cells (get_or spans k d)) (suc tie.cell))) (same k d lt) (has k d lt)
 
-    wide : (k : ℕ) (d : GroupSpan) → k < length spans → tie.width ≤ length (key_at cells (get_or spans k d))
-    wide k d lt = key_of_span cells (λ key. tie.width ≤ length key) spans tied.wide k d lt
+    within : (k : ℕ) (d : GroupSpan) → k < length spans → (past p (tie.cell, tie.skip)).0 < length (key_at cells (get_or spans k d))
+    within k d lt = omega (arith, on.some, on.wide, ap (λ (at : Place). at.0) on.further, key_of_span cells (λ key. tie.width ≤ length key) spans tied.wide k d lt)
 
-    both : (j k : ℕ) (d : GroupSpan) → j < length spans → k < length spans → (full : Bool) → is_full p ≡ full → TieUpTo next.cell next.skip (key_at cells (get_or spans j d)) (key_at cells (get_or spans k d))
-    both j k d at_j at_k true e =
-        let to = on.longer e in
-        let pair = pair_ties cells tie spans tied j k d at_j at_k in
-        let at : TieUpTo tie.cell (tie.skip + 14) (key_at cells (get_or spans j d)) (key_at cells (get_or spans k d)) =
-        past_bytes tie.cell tie.skip (key_at cells (get_or spans j d)) (key_at cells (get_or spans k d)) p (omega (arith, on.some, on.wide, to.0, wide j d at_j)) (omega (arith, on.some, on.wide, to.0, wide k d at_k)) pair (one j d at_j) (one k d at_k) e in
-        subst (λ c. TieUpTo c next.skip (key_at cells (get_or spans j d)) (key_at cells (get_or spans k d))) (sym to.0)
-        (subst (λ s. TieUpTo tie.cell s (key_at cells (get_or spans j d)) (key_at cells (get_or spans k d))) (sym to.1) at)
-    both j k d at_j at_k false e =
-        let to = on.other e in
-        let pair = pair_ties cells tie spans tied j k d at_j at_k in
-        let place : next.cell ≡ suc tie.cell = omega (arith, to.0) in
-        let at : TieUpTo (suc tie.cell) 0 (key_at cells (get_or spans j d)) (key_at cells (get_or spans k d)) =
-        past_cell tie.cell tie.skip (key_at cells (get_or spans j d)) (key_at cells (get_or spans k d)) p (omega (arith, on.some, on.wide, to.0, wide j d at_j)) (omega (arith, on.some, on.wide, to.0, wide k d at_k)) pair (one j d at_j) (one k d at_k) e in
-        subst (λ c. TieUpTo c next.skip (key_at cells (get_or spans j d)) (key_at cells (get_or spans k d))) (sym place)
-        (subst (λ s. TieUpTo (suc tie.cell) s (key_at cells (get_or spans j d)) (key_at cells (get_or spans k d))) (sym to.1) at)
+    both : (j k : ℕ) (d : GroupSpan) → j < length spans → k < length spans → TieUpTo next.cell next.skip (key_at cells (get_or spans j d)) (key_at cells (get_or spans k d))
+    both j k d at_j at_k =
+        subst (λ (at : Place). TieUpTo at.0 at.1 (key_at cells (get_or spans j d)) (key_at cells (get_or spans k d))) (sym on.further)
+        (past_prefix tie.cell tie.skip (key_at cells (get_or spans j d)) (key_at cells (get_or spans k d)) p (pair_ties cells tie spans tied j k d at_j at_k) (one j d at_j) (one k d at_k) (within j d at_j) (within k d at_k))
 
 -- all groups tie in nothing
 pub start_tied : (cells : List Value) (tie : Tie) (spans : List GroupSpan) → tie.cell ≡ 0 → tie.skip ≡ 0 → All (IsGroupAt cells) spans → All (λ (g : GroupSpan). tie.width ≤ g.key) spans → AreTied cells tie spans
@@ -249,8 +237,8 @@ start_tied cells tie spans none nothing at wide = record {
 pub start_prefixed : (cells : List Value) (tie : Tie) (spans : List GroupSpan) → tie.cell ≡ 0 → tie.skip ≡ 0 → All (IsGroupAt cells) spans → All (HasRestPrefix cells tie) spans
 start_prefixed cells tie spans none nothing at k d lt =
     let s = get_or spans k d in
-    subst (λ c. IsValuePrefix (without_bytes tie.skip (cell (key_at cells s) c)) s.prefix) (sym none)
-    (subst (λ n. IsValuePrefix (without_bytes n (cell (key_at cells s) 0)) s.prefix) (sym nothing) (subst (λ v. IsValuePrefix v s.prefix) (sym (none_without (cell (key_at cells s) 0))) (at k d lt).prefixed))
+    subst (λ c. IsPairPrefix (without_bytes tie.skip (cell (key_at cells s) c)) (cell (key_at cells s) (suc c)) s.prefix) (sym none)
+    (subst (λ n. IsPairPrefix (without_bytes n (cell (key_at cells s) 0)) (cell (key_at cells s) 1) s.prefix) (sym nothing) (subst (λ v. IsPairPrefix v (cell (key_at cells s) 1) s.prefix) (sym (none_without (cell (key_at cells s) 0))) (at k d lt).prefixed))
 
 -- the key of a span whose prefix was changed
 pub key_kept : (cells : List Value) (p : SortPrefix) (xs ys : List GroupSpan) (k : ℕ) (d : GroupSpan) → map (with_prefix p) xs ≡ map (with_prefix p) ys → k < length xs → key_at cells (get_or xs k d) ≡ key_at cells (get_or ys k d)

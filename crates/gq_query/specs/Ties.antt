@@ -1,5 +1,5 @@
 -- How far the keys of groups tie, and what follows.
-use Rattle.std.specs.Prelude.{◌≡◌, ◌<◌, ◌≤◌, ◌+◌, ℕ, true, false, List, [], ◌∷◌, All, drop, length, map}
+use Rattle.std.specs.Prelude.{◌≡◌, ◌<◌, ◌≤◌, ℕ, suc, List, [], ◌∷◌, All, drop, length, map}
 use Rattle.std.specs.Cmp.Lexicographic.{slice_cmp}
 use Rattle.gq_row.specs.declared.value.Value.{Value}
 use Rattle.gq_row.specs.Order.{folded_order}
@@ -8,7 +8,7 @@ use Rattle.gq_query.specs.declared.sort_prefix.SortPrefix.{SortPrefix}
 use Rattle.gq_query.specs.declared.group_list.GroupSpan.{GroupSpan}
 use Rattle.gq_query.specs.declared.tie_sort.Tie.{Tie}
 use Rattle.gq_query.specs.GroupSpans.{key_at}
-use Rattle.gq_query.specs.SortPrefixes.{IsValuePrefix, is_full, without_bytes}
+use Rattle.gq_query.specs.SortPrefixes.{IsPairPrefix, past, without_bytes}
 
 -- values, the first of them without the first `n` bytes of its text
 abbrev pub first_without : ℕ → List Value → List Value
@@ -34,12 +34,11 @@ AreTied cells tie groups = KeysTie tie (map (key_at cells) groups)
 
 -- a group has the prefix of the rest of its key
 abbrev pub HasRestPrefix : List Value → Tie → GroupSpan → Type 0
-HasRestPrefix cells tie group = IsValuePrefix (without_bytes tie.skip (cell (key_at cells group) tie.cell)) group.prefix
+HasRestPrefix cells tie group = IsPairPrefix (without_bytes tie.skip (cell (key_at cells group) tie.cell)) (cell (key_at cells group) (suc tie.cell)) group.prefix
 
--- how far those tie that also have this prefix: fourteen bytes further in a longer text, else one cell further
+-- how far those tie that also have this prefix
 pub record GoesOn (tie : Tie) (prefix : SortPrefix) (next : Tie) : Type 0 where
   pub some : next.cell < next.width
   pub wide : next.width ≡ tie.width
   pub deeper : next.depth < tie.depth
-  pub longer : is_full prefix ≡ true → (next.cell ≡ tie.cell) × (next.skip ≡ tie.skip + 14)
-  pub other : is_full prefix ≡ false → (next.cell ≡ tie.cell + 1) × (next.skip ≡ 0)
+  pub further : (next.cell, next.skip) ≡ past prefix (tie.cell, tie.skip)

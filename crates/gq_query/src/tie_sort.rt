@@ -1,9 +1,9 @@
 //! Sorts groups by their keys: by prefixes first, then by what follows them, depth first.
 //!
-//! Those that tie are sorted by the prefixes of the next cell of their keys, or of the next bytes of a text
-//! that is longer than a prefix; then those that tie again by what follows, and so on. Prefixes that
-//! differ decide, so whole keys are compared only among a few groups, or where no cell is left.
-ghost use Rattle.std.specs.Prelude.{◌≡◌, ◌<◌, ◌≤◌, ◌-◌, ℕ, not, All, IfSome, IsTrue, IsPermutation, length, map, slice_index_or};
+//! Those that tie are sorted by the prefixes of what follows in their keys: further cells, or the rest of a
+//! text that is longer than a prefix; then those that tie again, and so on. Prefixes that differ decide,
+//! so whole keys are compared only among a few groups, or where no cell is left.
+ghost use Rattle.std.specs.Prelude.{◌≡◌, ◌<◌, ◌≤◌, ◌+◌, ◌-◌, ℕ, not, All, IfSome, IsTrue, IsPermutation, length, map, slice_index_or};
 ghost use Rattle.std.specs.List.Sorted.{IsSorted};
 ghost use Rattle.std.specs.Ordering.{is_lt};
 ghost use Rattle.gq_row.specs.Rows.{cell};
@@ -13,7 +13,7 @@ ghost use Rattle.gq_query.specs.GroupSpans.{HasPrefix, IsGroupAt, compare_at, ke
 ghost use Rattle.gq_query.specs.Ties.{AreTied, GoesOn, HasRestPrefix};
 
 use crate::group_list::{GroupSpan, compare_keys_at, compare_spans};
-use crate::sort_prefix::{SortPrefix, TEXT_BYTES, cell_prefix};
+use crate::sort_prefix::{SortPrefix, is_whole, rest_word, word_of};
 use gq_cells::{CellRef, Cells};
 use std::cmp::Ordering;
 
@@ -43,13 +43,7 @@ impl Tie {
         ensures { IfSome result (GoesOn self.now prefix) }
     {
         let depth = self.depth.checked_sub(1)?;
-        let longer = self.skip.checked_add(TEXT_BYTES)?;
-        let next = self.cell.checked_add(1)?;
-        let (cell, skip) = if prefix.is_full() {
-            (self.cell, longer)
-        } else {
-            (next, 0)
-        };
+        let (cell, skip) = prefix.past((self.cell, self.skip))?;
         if cell >= self.width {
             return None;
         }
@@ -209,8 +203,34 @@ fn write_prefixes(cells: &Cells, groups: &mut [GroupSpan], tie: Tie)
 {
     let found = cells_at(cells, groups, tie.cell);
     for i in 0..groups.len() {
-        groups[i].prefix = cell_prefix(found[i], tie.skip);
+        groups[i].prefix = rest_prefix(cells, &groups[i], found[i], tie);
     }
+}
+
+// The prefix of what follows in a group's key, the first cell of which was found.
+#[inline]
+fn rest_prefix(cells: &Cells, group: &GroupSpan, found: CellRef<'_>, tie: Tie) -> SortPrefix
+    requires { value_of found ≡ cell (key_at cells.now group.now) tie.cell }
+    ensures { HasRestPrefix cells.now tie (with_prefix result group.now) }
+{
+    let high = word_of(found, tie.skip);
+    let low = if is_whole(high) {
+        word_of(cell_after(cells, group, tie.cell), 0)
+    } else {
+        rest_word(found, tie.skip)
+    };
+    SortPrefix { high, low }
+}
+
+// The cell of a group's key after a position, or null if the key is too short.
+#[inline]
+fn cell_after<'a>(cells: &'a Cells, group: &GroupSpan, position: usize) -> CellRef<'a>
+    ensures { value_of result ≡ cell (key_at cells.now group.now) (position + 1) }
+{
+    if position >= group.key as usize {
+        return CellRef::Null;
+    }
+    cell_at(cells, group, position + 1)
 }
 
 // The cells of the keys of a block's groups at a position. They are looked up before the first of
