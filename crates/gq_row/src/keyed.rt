@@ -1,16 +1,18 @@
 //! Keys as the keys of maps: the bytes that are hashed of them, and borrowed forms.
-ghost use Rattle.std.specs.Prelude.{◌≡◌, ◌++◌, ◌<◌, ◌%◌, ◌^◌, All, length, map, fold};
+ghost use Rattle.std.specs.Prelude.{◌≡◌, ◌++◌, ◌∷◌, ◌<◌, ◌%◌, ◌^◌, [], ℤ, All, IfNone, IfSome, OnErr, OnOk, length, map, fold};
 ghost use Rattle.std.specs.Int.{w32, to_be_bytes};
+ghost use Rattle.gq_row.specs.declared.value.Value.TheVariants.{Int};
 ghost use Rattle.gq_row.specs.Folding.{fold_case, folded};
 ghost use Rattle.gq_row.specs.Classes.{class_of, bytes_of, words_of_class, spelling, spelled, tag_of};
-ghost use Rattle.gq_row.specs.Order.{same_key};
-ghost use Rattle.gq_row.specs.Rows.{key_of};
+ghost use Rattle.gq_row.specs.Order.{equal_value, same_key};
+ghost use Rattle.gq_row.specs.Rows.{cell, key_of};
 
 use crate::folding::fold_byte;
-use crate::key::Key;
+use crate::key::{Key, push_fold};
 use crate::text::Text;
 use crate::value::Value;
 use crate::words::{fold_cell_words, fold_folded_words, fold_row_words};
+use std::alloc::{AllocError, Global};
 use std::marker::Model;
 use sw_probe::{Keyed, Names, Step, WordStep};
 
@@ -67,6 +69,59 @@ impl<'a> KeyRef<'a> {
     {
         KeyRef { row, positions }
     }
+
+    /// The number of values.
+    #[inline(always)]
+    pub fn len(&self) -> usize
+        ensures { result ≡ length self.now }
+    {
+        self.positions.len()
+    }
+
+    /// The number at a position, if the value there is one.
+    #[inline(always)]
+    pub fn number(&self, position: usize) -> Option<i64>
+        requires { position < length self.now }
+        ensures some { IfSome result (λ n. cell self.now position ≡ Int n) }
+        ensures none { IfNone result ((n : ℤ) → cell self.now position ≡ Int n → ⊥) }
+    {
+        number_of(self.value(position))
+    }
+
+    /// Whether the value at a position is equal to another.
+    #[inline(always)]
+    pub fn has(&self, position: usize, value: &Value) -> bool
+        requires { position < length self.now }
+        ensures { result ≡ equal_value (cell self.now position) value.now }
+    {
+        self.value(position).folds_to(value)
+    }
+
+    /// Appends the value at a position to a list.
+    #[inline(always)]
+    pub fn push_to(
+        &self,
+        alloc: Global,
+        position: usize,
+        values: &mut Vec<Value>,
+    ) -> Result<(), AllocError>
+        requires { position < length self.now }
+        ensures ok { OnOk result (values.new.items ≡
+            values.old.items ++ cell self.now position ∷ []) }
+        ensures err { OnErr result (values.new.items ≡ values.old.items) }
+    {
+        push_fold(alloc, values, self.value(position))
+    }
+
+    // The value of the row whose fold is at a position.
+    #[inline(always)]
+    fn value(&self, position: usize) -> &Value
+        requires { position < length self.now }
+        ensures { folded result.now ≡ cell self.now position }
+    {
+        let positions = self.positions;
+        &self.row[positions[position]]
+    }
 }
 
 impl Names<Key> for KeyRef<'_> {
@@ -108,6 +163,18 @@ impl Names<Key> for KeyCells<'_> {
     #[inline]
     fn fold_words<F: WordStep>(&self, start: u64, f: &F) -> u64 {
         fold_folded_words(self.0, start, f)
+    }
+}
+
+// The number that a value is.
+#[inline(always)]
+fn number_of(value: &Value) -> Option<i64>
+    ensures some { IfSome result (λ n. folded value.now ≡ Int n) }
+    ensures none { IfNone result ((n : ℤ) → folded value.now ≡ Int n → ⊥) }
+{
+    match value {
+        Value::Int(n) => Some(*n),
+        Value::Null | Value::Text(_) | Value::NoCase(_) => None,
     }
 }
 
