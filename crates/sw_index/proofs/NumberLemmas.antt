@@ -126,6 +126,9 @@ module _ {K : Type 0} (class : K → List ℕ) where
             let less = slice_get_within keys p.0.number known.1.0 known.1.1 in
             absurd (omega (arith, same, less))
 
+    pub no_number_after : (keys : List K) (numbers : Entries Numbered (Unit {0})) (told n : ℕ) → IsIndexed class hash keys numbers → n ≡ length keys → get numbers (told ∷ n ∷ []) ≡ None
+    no_number_after keys numbers told n indexed is = ap (λ m. get numbers (told ∷ m ∷ [])) is ∙ no_number keys numbers told indexed
+
 -- ---- one key more
 
 get_front : {K : Type 0} (keys : List K) (k : K) (i : ℕ) (l : K) → slice_get keys i ≡ Some l → slice_get (keys ++ k ∷ []) i ≡ Some l

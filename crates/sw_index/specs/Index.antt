@@ -6,11 +6,12 @@ use Rattle.std.specs.Int.{bytes_high_first}
 use Rattle.std.specs.Ordering.{nat_cmp, eq_by_cmp}
 use Rattle.std.specs.Cmp.Lexicographic.{slice_cmp}
 use Rattle.std.specs.FinMap.{get}
-use Rattle.sw_table.specs.Entries.{Entries}
+use Rattle.sw_table.specs.Entries.{Entries, entries}
 use Rattle.sw_index.specs.declared.found.Absence.{Absence}
 use Rattle.sw_index.specs.declared.found.Found.{Found}
 use Rattle.sw_index.specs.declared.found.Found.TheVariants.{At, Absent}
 use Rattle.sw_index.specs.declared.numbered.Numbered.{Numbered}
+use Rattle.sw_index.specs.declared.numbers.Numbers.{Numbers}
 
 -- what contracts see of an index: the keys in insertion order, and the hasher
 pub record IndexView (K H : Type 0) : Type 0 where
@@ -46,6 +47,10 @@ module _ {K : Type 0} where
 -- the class of a number in the table: the hash of its key, and itself
 abbrev pub class_of_number : Numbered → List ℕ
 class_of_number n = n.hash ∷ n.number ∷ []
+
+-- the numbers that a table has
+abbrev pub numbers_of : Numbers → Entries Numbered (Unit {0})
+numbers_of n = entries class_of_number n.table
 
 -- the bytes that are hashed of a number: those of its key's hash, big-endian
 abbrev pub hash_bytes : List ℕ → List ℕ

@@ -4,31 +4,29 @@ ghost use Rattle.std.specs.List.{slice_get};
 ghost use Rattle.sw_index.specs.Index.{IsFound, IsAbsent, IsAbsence, AreDifferent};
 
 use crate::found::{Absence, Found};
-use crate::numbered::{Known, Numbered};
-use crate::sought::Sought;
+use crate::numbers::Numbers;
+use crate::sought::InList;
 use std::alloc::{AllocError, Global};
 use std::marker::Model;
 use sw_probe::{KeyHash, Keyed, Names};
-use sw_table::Table;
 
 /// Distinct keys in insertion order, each found by its hash. Contracts see the list of keys, and the hasher.
 #[derive(Drop)]
 pub struct Index<K: Keyed, H: KeyHash<K>> {
     pub(crate) keys: Vec<K>,
-    pub(crate) numbers: Table<Numbered, (), Known>,
+    pub(crate) numbers: Numbers,
     pub(crate) hasher: H,
 }
 
 impl<K: Keyed, H: KeyHash<K>> Model for Index<K, H> {
-    ghost use Rattle.sw_table.specs.Entries.{entries};
-    ghost use Rattle.sw_index.specs.Index.{IndexView, IsIndexed, class_of_number};
+    ghost use Rattle.sw_index.specs.Index.{IndexView, IsIndexed, numbers_of};
 
     ghost Value = { IndexView K H };
 
     ghost view = { λ x. record { keys = x.keys.items; hasher = x.hasher } };
 
     ghost invariant = { λ x. IsIndexed K.class (H.hash_of x.hasher)
-        x.keys.items (entries class_of_number x.numbers) };
+        x.keys.items (numbers_of x.numbers) };
 }
 
 impl<K: Keyed, H: KeyHash<K>> Index<K, H> {
@@ -39,7 +37,7 @@ impl<K: Keyed, H: KeyHash<K>> Index<K, H> {
     {
         Index {
             keys: Vec::new(alloc),
-            numbers: Table::new(alloc, Known),
+            numbers: Numbers::new(alloc),
             hasher,
         }
     }
@@ -93,27 +91,18 @@ impl<K: Keyed, H: KeyHash<K>> Index<K, H> {
         ensures absent { IsAbsent K.class (H.hash_of self.now.hasher) self.now.keys
             (Q.named q.now) result }
     {
-        let sought = Sought {
+        let sought = InList {
             keys: self.keys.as_slice(),
             key: q,
-            hash,
         };
-        match self.numbers.find(&sought) {
-            Some(slot) => Found::At(self.numbers.at(slot).0.number),
-            None => Found::Absent(Absence { hash }),
-        }
+        self.numbers.find::<K, InList<'_, K, Q>>(&sought, hash)
     }
 
     /// The number that a look-up with this hash reads first, if that is the hash of its key: probably the number
     /// of the key. No contract covers it.
     #[inline]
     pub fn candidate(&self, hash: u64) -> Option<usize> {
-        let numbered = self.numbers.candidate(hash)?;
-        if numbered.hash == hash {
-            Some(numbered.number)
-        } else {
-            None
-        }
+        self.numbers.candidate(hash)
     }
 
     /// Whether the key that `q` names has this number.
@@ -139,12 +128,9 @@ impl<K: Keyed, H: KeyHash<K>> Index<K, H> {
         ensures unchanged { OnErr result (self.new ≡ self.old) }
         ensures hasher { self.new.hasher ≡ self.old.hasher }
     {
-        let numbered = Numbered {
-            hash: absence.hash,
-            number: self.keys.len(),
-        };
+        let number = self.keys.len();
         self.keys.push(key)?;
-        let Ok(_) = self.numbers.place(numbered, ()) else {
+        let Ok(()) = self.numbers.add(absence, number) else {
             let _ = self.keys.pop();
             return Err(AllocError);
         };
@@ -155,7 +141,7 @@ impl<K: Keyed, H: KeyHash<K>> Index<K, H> {
     pub fn make_room(&mut self, keys: usize)
         ensures { self.new ≡ self.old }
     {
-        let _ = self.numbers.reserve(keys);
+        self.numbers.make_room(keys);
         let _ = self.keys.reserve(keys.saturating_sub(self.keys.len()));
     }
 

@@ -24,10 +24,13 @@
 mod found;
 mod index;
 mod numbered;
+mod numbers;
 mod removal;
 mod room;
 mod sought;
 
 pub use found::{Absence, Found};
 pub use index::Index;
+pub use numbers::Numbers;
 pub use room::expects_new_keys;
+pub use sought::Seeks;

@@ -4,8 +4,9 @@ ghost use Rattle.std.specs.FinMap.{get, insert, remove};
 ghost use Rattle.sw_probe.specs.Hashes.{number_of, read_step};
 ghost use Rattle.sw_table.specs.Entries.{entries};
 ghost use Rattle.sw_table.specs.View.{entry_at, IsFull};
-ghost use Rattle.sw_index.specs.Index.{class_of_number, hash_bytes, hash_word};
+ghost use Rattle.sw_index.specs.Index.{class_of_number, hash_bytes, hash_word, numbers_of};
 
+use crate::numbers::Numbers;
 use sw_probe::{KeyHash, Keyed, Names, Step, WordStep};
 use sw_table::{SlotNo, Table};
 
@@ -68,30 +69,25 @@ impl Step for ReadStep {
 
 /// Removes a number that is in the table.
 #[inline]
-pub(crate) fn forget(numbers: &mut Table<Numbered, (), Known>, numbered: Numbered)
-    requires { get (entries class_of_number numbers.old) (class_of_number numbered) ≡
-        Some (numbered, tt) }
-    ensures { entries class_of_number numbers.new ≡
-        remove (entries class_of_number numbers.old) (class_of_number numbered) }
+pub(crate) fn forget(numbers: &mut Numbers, numbered: Numbered)
+    requires { get (numbers_of numbers.old) (class_of_number numbered) ≡ Some (numbered, tt) }
+    ensures { numbers_of numbers.new ≡ remove (numbers_of numbers.old) (class_of_number numbered) }
 {
-    let slot = slot_of(numbers, &numbered);
-    numbers.remove(slot);
+    let slot = slot_of(&numbers.table, &numbered);
+    numbers.table.remove(slot);
 }
 
 /// Replaces a number that is in the table by another with the same hash.
 #[inline]
-pub(crate) fn renumber(numbers: &mut Table<Numbered, (), Known>, from: Numbered, to: Numbered)
-    requires there { get (entries class_of_number numbers.old) (class_of_number from) ≡
-        Some (from, tt) }
-    requires free { get (remove (entries class_of_number numbers.old) (class_of_number from))
-        (class_of_number to) ≡ None }
+pub(crate) fn renumber(numbers: &mut Numbers, from: Numbered, to: Numbered)
+    requires there { get (numbers_of numbers.old) (class_of_number from) ≡ Some (from, tt) }
+    requires free { get (remove (numbers_of numbers.old) (class_of_number from)) (class_of_number to) ≡ None }
     requires hash { to.hash ≡ from.hash }
-    ensures { entries class_of_number numbers.new ≡
-        insert (remove (entries class_of_number numbers.old) (class_of_number from))
-        (class_of_number to) (to, tt) }
+    ensures { numbers_of numbers.new ≡
+        insert (remove (numbers_of numbers.old) (class_of_number from)) (class_of_number to) (to, tt) }
 {
-    let slot = slot_of(numbers, &from);
-    numbers.rekey(slot, to);
+    let slot = slot_of(&numbers.table, &from);
+    numbers.table.rekey(slot, to);
 }
 
 // The slot of a number that is in the table.
