@@ -1,4 +1,5 @@
 pub mod TaggedCellLemmas
+pub mod KeyLemmas
 pub mod OrderLemmas
 pub mod RowsLemmas
 pub mod WordTextLemmas

@@ -1,3 +1,4 @@
 pub mod Cells
+pub mod Keys
 pub mod Lists
 pub mod Words

@@ -7,6 +7,8 @@ ghost use Rattle.gq_cells.specs.Cells.{HaveUtf8, IsText, slice_values, number_ce
 ghost use Rattle.gq_cells.specs.Lists.{IsPart, part, row_at};
 
 use crate::cell_ref::CellRef;
+use crate::cells_left::CellsLeft;
+use crate::keys::KeysLeft;
 use crate::order::{compare_nullable, compare_numbers};
 use crate::row_ref::CellSlice;
 use crate::rows::Span;
@@ -220,6 +222,43 @@ impl Cells {
     {
         for i in 0..values.len() {
             self.push(alloc, &mut values[i])?;
+        }
+        Ok(())
+    }
+
+    /// Moves the first of the keys that are left to the end. On error a prefix of it may have been appended, and
+    /// the others are unspecified.
+    #[inline(always)]
+    pub fn push_key(&mut self, alloc: Global, keys: &mut KeysLeft) -> Result<(), AllocError>
+        requires { 0 < length keys.old }
+        ensures pushed { OnOk result (self.new ≡ self.old ++ slice_index_or keys.old 0 []) }
+        ensures left { OnOk result (keys.new ≡ drop 1 keys.old) }
+        ensures fewer { length keys.new + 1 ≡ length keys.old }
+        ensures kept { self.new ≡ self.old ++ drop (length self.old) self.new }
+    {
+        keys.len -= 1;
+        if let Stored::Tagged(cells) = &mut self.stored {
+            return push_tagged(cells, &mut keys.cells, keys.width);
+        }
+        self.push_left(alloc, &mut keys.cells, keys.width)
+    }
+
+    // Moves the first `count` of the values that are left to the end, in each layout.
+    #[inline(always)]
+    fn push_left(
+        &mut self,
+        alloc: Global,
+        left: &mut CellsLeft,
+        count: usize,
+    ) -> Result<(), AllocError>
+        requires { count ≤ length left.old }
+        ensures pushed { OnOk result (self.new ≡ self.old ++ take count left.old) }
+        ensures left { OnOk result (left.new ≡ drop count left.old) }
+        ensures most { length left.old ≤ length left.new + count }
+        ensures kept { self.new ≡ self.old ++ drop (length self.old) self.new }
+    {
+        for i in 0..count {
+            self.push(alloc, &mut left.next())?;
         }
         Ok(())
     }
@@ -457,6 +496,25 @@ pub(crate) fn push_value(values: &mut Vec<Value>, value: &mut Value) -> Result<(
     ensures unchanged { OnErr result (values.new.items ≡ values.old.items) }
 {
     values.push(mem::replace(value, Value::Null))?;
+    Ok(())
+}
+
+// As `Cells::push_left`, to words.
+#[inline(always)]
+fn push_tagged(
+    cells: &mut TaggedCells,
+    left: &mut CellsLeft,
+    count: usize,
+) -> Result<(), AllocError>
+    requires { count ≤ length left.old }
+    ensures pushed { OnOk result (cells.new ≡ cells.old ++ take count left.old) }
+    ensures left { OnOk result (left.new ≡ drop count left.old) }
+    ensures most { length left.old ≤ length left.new + count }
+    ensures kept { cells.new ≡ cells.old ++ drop (length cells.old) cells.new }
+{
+    for i in 0..count {
+        left.move_to(cells)?;
+    }
     Ok(())
 }
 

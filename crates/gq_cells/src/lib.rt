@@ -9,6 +9,8 @@
 
 mod cell_ref;
 mod cells;
+mod cells_left;
+mod keys;
 mod order;
 mod row_ref;
 mod rows;
@@ -17,6 +19,7 @@ mod text_ref;
 
 pub use cell_ref::CellRef;
 pub use cells::Cells;
+pub use keys::{Keys, KeysLeft};
 pub use row_ref::RowRef;
 pub use rows::{RowSpan, Rows, Span};
 pub use text_ref::{TextRef, WordText};

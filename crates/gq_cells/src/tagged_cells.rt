@@ -22,15 +22,15 @@ use std::marker::Model;
 /// into `overflow`, biased by 2^63; else a text of up to seven bytes. `overflow` has all other values.
 #[derive(Drop)]
 pub(crate) struct TaggedCells {
-    words: Vec<u64>,
+    pub(crate) words: Vec<u64>,
     overflow: Vec<Value>,
 }
 
 // The bias of numbers.
-const ZERO: i64 = 1 << 62;
+pub(crate) const ZERO: i64 = 1 << 62;
 
 // The bias of indices into `overflow`.
-const OVERFLOW: u64 = 1 << 63;
+pub(crate) const OVERFLOW: u64 = 1 << 63;
 
 // The word of the empty text. The highest byte of a text's word has its length too, and the text follows.
 const TEXT: u64 = 3 << 62;
@@ -209,7 +209,7 @@ fn word_of_place(place: usize) -> Result<u64, AllocError>
 
 // The word of a number, if it fits in one.
 #[inline(always)]
-fn word_of_number(n: i64) -> Option<u64>
+pub(crate) fn word_of_number(n: i64) -> Option<u64>
     ensures some { IfSome result (λ word. (word < 2 ^ 63) × (pos word -ℤ pos (2 ^ 62) ≡ n)) }
     ensures none { IfNone result ((word : ℕ) → word < 2 ^ 63 → pos word -ℤ pos (2 ^ 62) ≡ n → ⊥) }
 {

@@ -1,0 +1,255 @@
+//! Keys of one width in one list.
+ghost use Rattle.std.specs.Prelude.{◌≡◌, ◌+◌, ◌<◌, ◌++◌, ◌∷◌, [], IfOk, OnErr, OnOk, drop, length, map, slice_index_or, take};
+ghost use Rattle.std.specs.List.{slice_get};
+ghost use Rattle.gq_row.specs.Order.{equal_value, same_key};
+ghost use Rattle.gq_row.specs.Rows.{cell};
+ghost use Rattle.gq_cells.specs.Keys.{AreInOrder, is_same, key_value};
+
+use crate::cells_left::CellsLeft;
+use crate::tagged_cells::{OVERFLOW, ZERO, word_of_number};
+use gq_row::{Key, KeyRef, Value};
+use std::alloc::{AllocError, Global};
+use std::marker::Model;
+
+/// Keys of one width, one after the other. A number takes eight bytes, and any other value a [`Value`] more.
+#[derive(Drop)]
+pub struct Keys {
+    // Below 2^63 an integer biased by 2^62, else an index into `overflow`, biased by 2^63.
+    words: Vec<u64>,
+    overflow: Vec<Value>,
+    width: usize,
+    len: usize,
+    alloc: Global,
+}
+
+impl Model for Keys {
+    ghost use Rattle.std.specs.Prelude.{List, map};
+    ghost use Rattle.gq_row.specs.declared.value.Value.{Value as Cell};
+    ghost use Rattle.gq_cells.specs.Keys.{AreKeys, key_value, keys_in};
+
+    ghost Value = { List (List Cell) };
+
+    ghost view = { λ k. keys_in k.width k.len (map (key_value k.overflow.items) k.words.items) };
+
+    ghost invariant = { λ k. AreKeys k.width k.len k.words.items k.overflow.items };
+}
+
+impl Keys {
+    /// No keys, for keys of this width. It takes no memory.
+    pub fn new(alloc: Global, width: usize) -> Keys
+        ensures { result ≡ [] }
+    {
+        Keys {
+            words: Vec::new(alloc),
+            overflow: Vec::new(alloc),
+            width,
+            len: 0,
+            alloc,
+        }
+    }
+
+    /// The number of keys.
+    #[inline]
+    pub fn len(&self) -> usize
+        ensures { result ≡ length self.now }
+    {
+        self.len
+    }
+
+    /// Reserves room for this number of keys, if memory allows and all their values are numbers.
+    pub fn expect(&mut self, keys: usize)
+        ensures { self.new ≡ self.old }
+    {
+        let _ = self.words.reserve(keys.saturating_mul(self.width));
+    }
+
+    /// Whether the key at a position, counted from 0, is the same as this one.
+    #[inline(always)]
+    pub fn is_at(&self, position: usize, key: &KeyRef<'_>) -> bool
+        ensures { result ≡ is_same key.now (slice_get self.now position) }
+    {
+        if position >= self.len {
+            return false;
+        }
+        if key.len() != self.width {
+            return false;
+        }
+        let start = position * self.width;
+        let words = &self.words[start..start + self.width];
+        has_values(words, self.overflow.as_slice(), key)
+    }
+
+    /// Appends a key. On error, of a key of another width too, the list doesn't change.
+    pub fn push(&mut self, key: &KeyRef<'_>) -> Result<(), AllocError>
+        ensures pushed { OnOk result (self.new ≡ self.old ++ key.now ∷ []) }
+        ensures unchanged { OnErr result (self.new ≡ self.old) }
+    {
+        let len = match self.len.checked_add(1) {
+            Some(len) if key.len() == self.width => len,
+            _ => return Err(AllocError),
+        };
+        let start = self.words.len();
+        let places = self.overflow.len();
+        let Ok(()) = push_values(self.alloc, key, &mut self.words, &mut self.overflow) else {
+            self.words.truncate(start);
+            self.overflow.truncate(places);
+            return Err(AllocError);
+        };
+        self.len = len;
+        Ok(())
+    }
+
+    /// The keys, which leave one by one.
+    pub fn leave(self) -> KeysLeft
+        ensures { result ≡ self }
+    {
+        KeysLeft {
+            cells: CellsLeft::new(self.words, self.overflow),
+            width: self.width,
+            len: self.len,
+            alloc: self.alloc,
+        }
+    }
+}
+
+// Whether the values of words are those of a key.
+#[inline(always)]
+fn has_values(words: &[u64], overflow: &[Value], key: &KeyRef<'_>) -> bool
+    requires { length words.now ≡ length key.now }
+    ensures { result ≡ same_key key.now (map (key_value overflow.now) words.now) }
+{
+    if words.len() == 1 {
+        return has_value(words[0], overflow, key, 0);
+    }
+    has_each(words, overflow, key)
+}
+
+// As `has_values`. Not inlined, so that look-ups of single values stay short.
+#[inline(never)]
+fn has_each(words: &[u64], overflow: &[Value], key: &KeyRef<'_>) -> bool
+    requires { length words.now ≡ length key.now }
+    ensures { result ≡ same_key key.now (map (key_value overflow.now) words.now) }
+{
+    for i in 0..words.len() {
+        if !has_value(words[i], overflow, key, i) {
+            return false;
+        }
+    }
+    true
+}
+
+// Whether the value of a word is that of a key at a position. A number takes no `Value`.
+#[inline(always)]
+fn has_value(word: u64, overflow: &[Value], key: &KeyRef<'_>, position: usize) -> bool
+    requires { position < length key.now }
+    ensures { result ≡ equal_value (cell key.now position) (key_value overflow.now word) }
+{
+    if word < OVERFLOW {
+        return match key.number(position) {
+            Some(n) => word as i64 - ZERO == n,
+            None => false,
+        };
+    }
+    match overflow.get((word - OVERFLOW) as usize) {
+        Some(value) => key.has(position, value),
+        None => key.has(position, &Value::Null),
+    }
+}
+
+// Appends the values of a key. What was there stays whatever the outcome.
+#[inline]
+fn push_values(
+    alloc: Global,
+    key: &KeyRef<'_>,
+    words: &mut Vec<u64>,
+    overflow: &mut Vec<Value>,
+) -> Result<(), AllocError>
+    requires { AreInOrder 0 words.old.items (length overflow.old.items) }
+    ensures pushed { OnOk result (map (key_value overflow.new.items) words.new.items ≡
+        map (key_value overflow.old.items) words.old.items ++ key.now) }
+    ensures ordered { OnOk result (AreInOrder 0 words.new.items (length overflow.new.items)) }
+    ensures words { take (length words.old.items) words.new.items ≡ words.old.items }
+    ensures overflow { take (length overflow.old.items) overflow.new.items ≡ overflow.old.items }
+{
+    for i in 0..key.len() {
+        push_value(alloc, key, i, words, overflow)?;
+    }
+    Ok(())
+}
+
+// Appends the value of a key at a position. What was there stays whatever the outcome.
+#[inline(always)]
+fn push_value(
+    alloc: Global,
+    key: &KeyRef<'_>,
+    position: usize,
+    words: &mut Vec<u64>,
+    overflow: &mut Vec<Value>,
+) -> Result<(), AllocError>
+    requires position { position < length key.now }
+    requires ordered { AreInOrder 0 words.old.items (length overflow.old.items) }
+    ensures pushed { OnOk result (map (key_value overflow.new.items) words.new.items ≡
+        map (key_value overflow.old.items) words.old.items ++ cell key.now position ∷ []) }
+    ensures ordered { OnOk result (AreInOrder 0 words.new.items (length overflow.new.items)) }
+    ensures words { words.new.items ≡ words.old.items ++ drop (length words.old.items) words.new.items }
+    ensures overflow { overflow.new.items ≡
+        overflow.old.items ++ drop (length overflow.old.items) overflow.new.items }
+{
+    if let Some(n) = key.number(position)
+        && let Some(word) = word_of_number(n)
+    {
+        words.push(word)?;
+        return Ok(());
+    }
+    let place = overflow.len() as u64;
+    key.push_to(alloc, position, overflow)?;
+    words.push(OVERFLOW + place)?;
+    Ok(())
+}
+
+/// Keys that leave a list one by one.
+#[derive(Drop)]
+pub struct KeysLeft {
+    pub(crate) cells: CellsLeft,
+    pub(crate) width: usize,
+    pub(crate) len: usize,
+    alloc: Global,
+}
+
+impl Model for KeysLeft {
+    ghost use Rattle.std.specs.Prelude.{◌≤◌, ◌*◌, List, length};
+    ghost use Rattle.gq_row.specs.declared.value.Value.{Value as Cell};
+    ghost use Rattle.gq_cells.specs.Keys.{keys_in};
+
+    ghost Value = { List (List Cell) };
+
+    ghost view = { λ k. keys_in k.width k.len k.cells };
+
+    // A key that was refused is gone, or a part of it.
+    ghost invariant = { λ k. k.len * k.width ≤ length k.cells };
+}
+
+impl KeysLeft {
+    /// The number of keys.
+    #[inline]
+    pub fn len(&self) -> usize
+        ensures { result ≡ length self.now }
+    {
+        self.len
+    }
+
+    /// Takes the first key. On error the others are unspecified.
+    pub fn take(&mut self) -> Result<Key, AllocError>
+        requires { 0 < length self.old }
+        ensures first { IfOk result (λ key. key ≡ slice_index_or self.old 0 []) }
+        ensures left { OnOk result (self.new ≡ drop 1 self.old) }
+        ensures fewer { length self.new + 1 ≡ length self.old }
+    {
+        self.len -= 1;
+        let mut values = Vec::with_capacity(self.alloc, self.width)?;
+        for i in 0..self.width {
+            values.push(self.cells.next())?;
+        }
+        Ok(Key::of_folds(values))
+    }
+}
