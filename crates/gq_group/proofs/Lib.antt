@@ -8,6 +8,7 @@ pub mod FirstLemmas
 pub mod FittingLemmas
 pub mod GoneLemmas
 pub mod KeptAggLemmas
+pub mod KeyIndexLemmas
 pub mod KeptLemmas
 pub mod PassLemmas
 pub mod PassResultLemmas

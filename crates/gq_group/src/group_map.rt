@@ -14,11 +14,12 @@ ghost use Rattle.gq_group.specs.Maps.{IsGroup, IsNoGroup, HasNoGroup};
 use crate::aggs::{add_cells, append_aggs, start_aggs};
 use crate::drain::Drain;
 use crate::group_spec::GroupSpec;
+use crate::key_index::KeyIndex;
 use gq_agg::{Agg, AggKind};
 use gq_row::{Key, KeyRef, Row};
 use std::alloc::{AllocError, Global};
 use std::marker::Model;
-use sw_index::{Absence, Found, Index};
+use sw_index::{Absence, Found};
 use sw_probe::KeyHash;
 
 // Where the group of a key may be. Only speed depends on it.
@@ -33,11 +34,11 @@ pub(crate) enum Hint {
 }
 
 // Groups in the order in which they came, with `each` running aggregates each. All of these are in
-// one list in the order of the keys, so that a key's number says where its own begin, and a group
-// allocates nothing but its key.
+// one list in the order of the keys, which are in another, so that a key's number says where its own
+// begin, and a group allocates nothing but long texts.
 #[derive(Drop)]
 pub(crate) struct GroupMap<H: KeyHash<Key>> {
-    index: Index<Key, H>,
+    index: KeyIndex<H>,
     running: Vec<Agg>,
     each: usize,
 }
@@ -68,7 +69,7 @@ impl<H: KeyHash<Key> + Copy> GroupMap<H> {
             return GroupMap::start_alone(alloc, hasher, spec);
         }
         Ok(GroupMap {
-            index: Index::new(alloc, hasher),
+            index: KeyIndex::new(alloc, spec.by().len(), hasher),
             running: Vec::new(alloc),
             each: spec.aggs().len(),
         })
@@ -81,14 +82,14 @@ impl<H: KeyHash<Key> + Copy> GroupMap<H> {
         ensures each { IfOk result (λ groups. groups.each ≡ length spec.now.aggs) }
         ensures hasher { IfOk result (λ groups. groups.hasher ≡ hasher) }
     {
-        let key = Key::of(alloc, &[], &[])?;
-        let mut index = Index::new(alloc, hasher);
-        let Found::Absent(absence) = index.find(&key) else {
+        let key = KeyRef::new(&[], &[]);
+        let mut index = KeyIndex::new(alloc, 0, hasher);
+        let Found::Absent(absence) = index.find_hashed(&key, index.hash(&key)) else {
             unreachable!();
         };
         let mut running = Vec::new(alloc);
         start_aggs(alloc, spec.aggs(), &mut running)?;
-        index.add(absence, key)?;
+        index.add(absence, &key)?;
         Ok(GroupMap {
             index,
             running,
@@ -96,7 +97,7 @@ impl<H: KeyHash<Key> + Copy> GroupMap<H> {
         })
     }
 
-    // Reserves room for the aggregates of this number of groups, if memory allows. Pages that are
+    // Reserves room for the keys and aggregates of this number of groups, if memory allows. Pages that are
     // never written take addresses alone.
     pub(crate) fn expect(&mut self, groups: usize)
         ensures { self.new ≡ self.old }
@@ -105,6 +106,7 @@ impl<H: KeyHash<Key> + Copy> GroupMap<H> {
         let _ = self
             .running
             .reserve(wanted.saturating_sub(self.running.len()));
+        self.index.expect(groups);
     }
 
     // The number of groups.
@@ -218,10 +220,10 @@ impl<H: KeyHash<Key> + Copy> GroupMap<H> {
         ensures hasher { self.new.hasher ≡ self.old.hasher }
         ensures err { OnErr result (self.new ≡ self.old) }
     {
-        let key = Key::of(alloc, row.cells(), spec.by())?;
+        let key = KeyRef::new(row.cells(), spec.by());
         let start = self.running.len();
         append_aggs(alloc, spec.aggs(), row, &mut self.running)?;
-        let Ok(()) = self.index.add(absence, key) else {
+        let Ok(()) = self.index.add(absence, &key) else {
             self.running.truncate(start);
             return Err(AllocError);
         };
@@ -240,6 +242,6 @@ impl<H: KeyHash<Key> + Copy> GroupMap<H> {
             running,
             each,
         } = self;
-        Drain::new(index.into_keys(), running, each, asked)
+        Drain::new(index.leave(), running, each, asked)
     }
 }

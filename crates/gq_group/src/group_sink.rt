@@ -1,10 +1,11 @@
 //! Where groups go.
-ghost use Rattle.std.specs.Prelude.{◌≡◌, ◌++◌, ◌∷◌, [], ℕ, Bool, false, IsTrue, List, OnOk, IfErr};
+ghost use Rattle.std.specs.Prelude.{◌≡◌, ◌+◌, ◌<◌, ◌++◌, ◌∷◌, [], ℕ, Bool, false, IsTrue, List, OnOk, IfErr, drop, length, slice_index_or};
 ghost use Rattle.gq_spill.specs.Runs.{Runs};
 ghost use Rattle.gq_group.specs.Access.{RunSet, LeavesOthers, KeepsOwn, HasCause};
 ghost use Rattle.gq_group.specs.Groups.{Group};
 
 use crate::refusal::Refusal;
+use gq_cells::KeysLeft;
 use gq_row::{Key, Value};
 use gq_spill::RunStore;
 
@@ -39,6 +40,34 @@ pub trait GroupSink<S: RunStore> {
         ensures others { LeavesOthers (owns self.old) (owns self.new) (S.runs store.old)
             (S.runs store.new) }
         ensures made { makes_runs ≡ false → (S.runs store.new).made ≡ (S.runs store.old).made };
+
+    /// As [`GroupSink::push`]; the key is the first of those that leave a list, and is taken from it. After a
+    /// refusal the other keys are unspecified too.
+    fn push_first(
+        &mut self,
+        store: &mut S,
+        keys: &mut KeysLeft,
+        values: &mut Vec<Value>,
+    ) -> Result<(), Refusal>
+        requires sink { is_ready self.old (S.runs store.old) }
+        requires some { 0 < length keys.old }
+        ensures groups { IsTrue (S.runs store.old).honest →
+            OnOk result ((groups : List Group) → holds self.old (S.runs store.old) groups →
+            holds self.new (S.runs store.new)
+            (groups ++ (slice_index_or keys.old 0 [], values.old.items) ∷ [])) }
+        ensures left { OnOk result (keys.new ≡ drop 1 keys.old) }
+        ensures fewer { length keys.new + 1 ≡ length keys.old }
+        ensures ready { OnOk result (is_ready self.new (S.runs store.new)) }
+        ensures cause { IfErr result (λ e. HasCause e (S.runs store.old) (S.runs store.new)) }
+        ensures others { LeavesOthers (owns self.old) (owns self.new) (S.runs store.old)
+            (S.runs store.new) }
+        ensures made { makes_runs ≡ false → (S.runs store.new).made ≡ (S.runs store.old).made }
+    {
+        let Ok(key) = keys.take() else {
+            return Err(Refusal::Memory);
+        };
+        self.push(store, key, values)
+    }
 
     /// Its runs are live.
     ghost own_live: { (s : Self) (runs : Runs) → is_ready s runs → (run : ℕ) →

@@ -74,8 +74,8 @@ pub(crate) fn push_all<H: KeyHash<Key> + Copy, S: RunStore, K: GroupSink<S>>(
     sink.make_room(groups.saturating_add(waiting as usize));
     let mut left = all.drain(spec.aggs());
     let mut values = Vec::new(alloc);
-    'groups: while let Some(key) = left.next(&mut values)? {
-        sink.push(store, key, &mut values)?;
+    'groups: while !left.is_empty() {
+        left.send(&mut values, sink, store)?;
     }
     Ok(groups as u64)
 }

@@ -18,8 +18,8 @@
 //! row's key is hashed once and looked up in the row; only the key of a new group is copied. All keys
 //! are in one list, in the order in which they came, and the running aggregates of all groups in
 //! another, the same number for each, so that a key's number says where its own begin: a group
-//! allocates nothing but its key. No `count(*)` is kept with other aggregates, since each of these
-//! knows how many rows it was given.
+//! allocates nothing but long texts of its key. No `count(*)` is kept with other aggregates, since
+//! each of these knows how many rows it was given.
 //!
 //! [`group_distinct`] pushes, for each key, the number of distinct values that its rows have in a
 //! column, without nulls. It calls [`group`] twice: first it groups the rows by the key and the value,
@@ -64,6 +64,7 @@ mod group_map;
 mod group_sink;
 mod group_spec;
 mod grouping;
+mod key_index;
 mod key_run;
 mod partition;
 mod pass;

@@ -1,4 +1,5 @@
-use Rattle.std.proofs.Common.{◌≡◌, ◌∙◌, List, Some, map, refl, sym, subst, rules, true}
+use Rattle.std.proofs.Common.{arith, ◌≡◌, ◌∙◌, List, Some, map, refl, sym, subst, rules, true}
+use Rattle.std.proofs.lemmas.Bool.Decides.{nat_tests}
 use Rattle.std.specs.List.{list_any}
 use Rattle.gq_row.specs.declared.value.Value.{Value}
 use Rattle.gq_group.proofs.Results.{on_ok_err}
@@ -9,6 +10,7 @@ use Rattle.gq_group.specs.Groups.{answers, is_none}
 use Rattle.gq_group.specs.KeptAggs.{kept_aggs}
 use Rattle.gq_group.proofs.AccessLemmas.{leaves-trans, leaves-refl}
 use Rattle.gq_group.proofs.Sending.{sent-none, sent-step, sent-groups, sent-fine, count_groups, refused_one}
+use Rattle.gq_group.proofs.KeyIndexLemmas.{none_left}
 use Rattle.gq_group.proofs.grouping.push_all.Goals as goal
 
 pub groups-init : goal.groups-init
@@ -30,34 +32,35 @@ groups-init g c =
       made = λ none. refl;
     }
 
-pub returns-in_err-key-clause-overflow : goal.returns-in_err-key-clause-overflow
-returns-in_err-key-clause-overflow g c = λ e rows grouped.
-    let it = c.in_err-key.ensures.overflow (search rules) in
+pub returns-in_err-send-clause-overflow : goal.returns-in_err-send-clause-overflow
+returns-in_err-send-clause-overflow g c = λ e rows grouped.
+    let it = c.in_err-send.ensures.overflow (search rules) in
     let sent = c.groups.invariant.sent in
     refused_one c.args.spec.now _ _ _ sent.0 c.groups.left.pairs it.rest it.pair c.args.all.pairs rows sent.2 it.first sent.1 grouped
     (subst (λ asked. (its : List (List Value)) → it.pair.1 ≡ tallies (kept_aggs asked) its → list_any is_none (answers asked its) ≡ true) c.groups.invariant.asked it.refused)
 
 pub groups-preserved : goal.groups-preserved
 groups-preserved g c =
-    let takes = rw c.in-Some.is at c.in_ok-key.ensures.taken in
+    let it = c.in_ok-send.ensures.sent in
+    let takes = it.2 in
     let sent = c.groups.invariant.sent in
     record {
-      ready = c.in_ok-push.ensures.ready;
+      ready = c.in_ok-send.ensures.ready;
       sent = (
         sent.0,
         sent.1,
-        sent-step c.args.spec.now _ _ _ _ sent.0 c.groups.left.pairs c.next.new.self.pairs (c.in-Some.key, takes.running) c.next.new.values.items sent.2 takes.first
-            (subst (λ asked. (rows : List (List Value)) → takes.running ≡ tallies (kept_aggs asked) rows → answers asked rows ≡ map Some c.next.new.values.items) c.groups.invariant.asked takes.answered)
-            (λ h. c.in_ok-push.ensures.groups (c.groups.invariant.others.same_honest ∙ h)),
+        sent-step c.args.spec.now _ _ _ _ sent.0 c.groups.left.pairs c.send.new.self.pairs (it.0, takes.running) it.1 sent.2 takes.first
+            (subst (λ asked. (rows : List (List Value)) → takes.running ≡ tallies (kept_aggs asked) rows → answers asked rows ≡ map Some it.1) c.groups.invariant.asked takes.answered)
+            (λ h. it.3 (c.groups.invariant.others.same_honest ∙ h)),
       );
       asked = takes.same_asked ∙ c.groups.invariant.asked;
-      others = leaves-trans _ _ _ _ _ _ c.groups.invariant.others c.in_ok-push.ensures.others;
-      made = λ none. c.in_ok-push.ensures.made none ∙ c.groups.invariant.made none;
+      others = leaves-trans _ _ _ _ _ _ c.groups.invariant.others c.in_ok-send.ensures.others;
+      made = λ none. c.in_ok-send.ensures.made none ∙ c.groups.invariant.made none;
     }
 
 pub returns-clause-sent : goal.returns-clause-sent
 returns-clause-sent g c = λ rows grouped.
-    let none = rw c.in_default.is at c.in_ok-key.ensures.end in
+    let none = none_left c.groups.left.pairs (let empty = c.is_empty.ensures in let test = c.groups-test.false in grind (arith, nat_tests)) in
     let sent = c.groups.invariant.sent in
     let it = sent-groups c.args.spec.now _ _ _ sent.0 c.args.all.pairs rows (rw none at sent.2) sent.1 grouped in
     (it.0, it.1, it.2)
@@ -67,51 +70,30 @@ returns-clause-count g c = λ rows grouped. let sent = c.groups.invariant.sent i
 
 pub returns-clause-no_overflow : goal.returns-clause-no_overflow
 returns-clause-no_overflow g c = λ rows grouped.
-    let none = rw c.in_default.is at c.in_ok-key.ensures.end in
+    let none = none_left c.groups.left.pairs (let empty = c.is_empty.ensures in let test = c.groups-test.false in grind (arith, nat_tests)) in
     let sent = c.groups.invariant.sent in
     sent-fine c.args.spec.now _ _ _ sent.0 c.args.all.pairs rows (rw none at sent.2) sent.1 grouped
 
-pub returns-in_err-key-clause-count : goal.returns-in_err-key-clause-count
-returns-in_err-key-clause-count g c = IfOk-from_err c.from_residual.result _ c.from_residual.ensures.0
+pub returns-in_err-send-clause-count : goal.returns-in_err-send-clause-count
+returns-in_err-send-clause-count g c = IfOk-from_err c.from_residual.result _ c.from_residual.ensures.0
 
-pub returns-in_err-key-clause-entries : goal.returns-in_err-key-clause-entries
-returns-in_err-key-clause-entries g c = IfOk-from_err c.from_residual.result _ c.from_residual.ensures.0
+pub returns-in_err-send-clause-entries : goal.returns-in_err-send-clause-entries
+returns-in_err-send-clause-entries g c = IfOk-from_err c.from_residual.result _ c.from_residual.ensures.0
 
-pub returns-in_err-key-clause-sent : goal.returns-in_err-key-clause-sent
-returns-in_err-key-clause-sent g c = on_ok_err _ c.from_residual.result c.from_residual.ensures.0
+pub returns-in_err-send-clause-sent : goal.returns-in_err-send-clause-sent
+returns-in_err-send-clause-sent g c = on_ok_err _ c.from_residual.result c.from_residual.ensures.0
 
-pub returns-in_err-key-clause-no_overflow : goal.returns-in_err-key-clause-no_overflow
-returns-in_err-key-clause-no_overflow g c = on_ok_err _ c.from_residual.result c.from_residual.ensures.0
+pub returns-in_err-send-clause-no_overflow : goal.returns-in_err-send-clause-no_overflow
+returns-in_err-send-clause-no_overflow g c = on_ok_err _ c.from_residual.result c.from_residual.ensures.0
 
-pub returns-in_err-key-clause-sink : goal.returns-in_err-key-clause-sink
-returns-in_err-key-clause-sink g c = on_ok_err _ c.from_residual.result c.from_residual.ensures.0
+pub returns-in_err-send-clause-sink : goal.returns-in_err-send-clause-sink
+returns-in_err-send-clause-sink g c = on_ok_err _ c.from_residual.result c.from_residual.ensures.0
 
-pub returns-in_err-push-clause-count : goal.returns-in_err-push-clause-count
-returns-in_err-push-clause-count g c = IfOk-from_err c.from_residual-in_err-push.result _ c.from_residual-in_err-push.ensures.0
+pub returns-in_err-send-clause-others : goal.returns-in_err-send-clause-others
+returns-in_err-send-clause-others g c = leaves-trans _ _ _ _ _ _ c.groups.invariant.others c.in_err-send.ensures.others
 
-pub returns-in_err-push-clause-entries : goal.returns-in_err-push-clause-entries
-returns-in_err-push-clause-entries g c = IfOk-from_err c.from_residual-in_err-push.result _ c.from_residual-in_err-push.ensures.0
-
-pub returns-in_err-push-clause-sent : goal.returns-in_err-push-clause-sent
-returns-in_err-push-clause-sent g c = on_ok_err _ c.from_residual-in_err-push.result c.from_residual-in_err-push.ensures.0
-
-pub returns-in_err-push-clause-no_overflow : goal.returns-in_err-push-clause-no_overflow
-returns-in_err-push-clause-no_overflow g c = on_ok_err _ c.from_residual-in_err-push.result c.from_residual-in_err-push.ensures.0
-
-pub returns-in_err-push-clause-sink : goal.returns-in_err-push-clause-sink
-returns-in_err-push-clause-sink g c = on_ok_err _ c.from_residual-in_err-push.result c.from_residual-in_err-push.ensures.0
-
-pub returns-in_err-key-clause-others : goal.returns-in_err-key-clause-others
-returns-in_err-key-clause-others g c = c.groups.invariant.others
-
-pub returns-in_err-key-clause-made : goal.returns-in_err-key-clause-made
-returns-in_err-key-clause-made g c = c.groups.invariant.made
-
-pub returns-in_err-push-clause-others : goal.returns-in_err-push-clause-others
-returns-in_err-push-clause-others g c = leaves-trans _ _ _ _ _ _ c.groups.invariant.others c.in_err-push.ensures.others
-
-pub returns-in_err-push-clause-made : goal.returns-in_err-push-clause-made
-returns-in_err-push-clause-made g c = λ none. c.in_err-push.ensures.made none ∙ c.groups.invariant.made none
+pub returns-in_err-send-clause-made : goal.returns-in_err-send-clause-made
+returns-in_err-send-clause-made g c = λ none. c.in_err-send.ensures.made none ∙ c.groups.invariant.made none
 
 pub returns-clause-entries : goal.returns-clause-entries
 returns-clause-entries g c = c.len-groups.ensures

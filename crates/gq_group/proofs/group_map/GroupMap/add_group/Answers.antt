@@ -28,10 +28,10 @@ pub add-requires : goal.add-requires
 add-requires g c =
     let own = c.self.inside in
     let key = key_of c.args.spec.now.by c.args.row.now in
-    let key_is : c.in_ok-key.key ≡ key = c.in_ok-key.ensures ∙ (λ z. key_of (c.by.ensures z) (c.cells.ensures z)) in
+    let key_is : c.new-key.result ≡ key = c.new-key.ensures ∙ (λ z. key_of (c.by.ensures z) (c.cells.ensures z)) in
     let none = subst (λ (v : MapView _). HasNoGroup (g.H.KeyHash.hash_of v.hasher) v.pairs (class_of key) c.args.absence) (sym c.self.view_is) c.requires.absent in
     record {
-      none = no_key own.each own.running.items own.index.keys c.in_ok-key.key (ap (λ k. get (listed (pairs_from own.each 0 own.running.items own.index.keys)) (class_of k)) key_is ∙ none.absent) c.self.invariant.different;
+      none = no_key own.each own.running.items own.index.keys c.new-key.result (ap (λ k. get (listed (pairs_from own.each 0 own.running.items own.index.keys)) (class_of k)) key_is ∙ none.absent) c.self.invariant.different;
       hashed = none.hashed ∙ ap (λ k. g.H.KeyHash.hash_of own.index.hasher (class_of k)) (sym key_is);
     }
 
@@ -40,11 +40,11 @@ invariant_of-self-2 g c =
     let own = c.self.inside in
     let aggs = c.args.spec.now.aggs in
     let key = key_of c.args.spec.now.by c.args.row.now in
-    let key_is : c.in_ok-key.key ≡ key = c.in_ok-key.ensures ∙ (λ z. key_of (c.by.ensures z) (c.cells.ensures z)) in
+    let key_is : c.new-key.result ≡ key = c.new-key.ensures ∙ (λ z. key_of (c.by.ensures z) (c.cells.ensures z)) in
     let none = subst (λ (v : MapView _). get (listed v.pairs) (class_of key) ≡ None) (sym c.self.view_is) c.requires.absent.absent in
     let more = tallies aggs (c.args.row.now ∷ []) in
     subst (AreKept own.each c.append_aggs.new.running.items) (sym (ap (λ (v : IndexView _ _). v.keys) c.make_room.ensures ∙ c.in-Ok.ensures.added))
-    (kept_more own.each own.index.keys own.running.items c.append_aggs.new.running.items more c.in_ok-key.key
+    (kept_more own.each own.index.keys own.running.items c.append_aggs.new.running.items more c.new-key.result
     (length-tallies aggs (c.args.row.now ∷ []) ∙ sym c.requires.each ∙ sym (ap (λ (v : MapView _). v.each) c.self.view_is))
     (c.in_ok-append_aggs.ensures.ok ∙ ap (λ asked. own.running.items ++ tallies asked (c.args.row.now ∷ [])) c.aggs.ensures)
     c.self.invariant
@@ -56,44 +56,29 @@ returns-clause-entries g c =
     let aggs = c.args.spec.now.aggs in
     let row = c.args.row.now in
     let key = key_of c.args.spec.now.by row in
-    let key_is : c.in_ok-key.key ≡ key = c.in_ok-key.ensures ∙ (λ z. key_of (c.by.ensures z) (c.cells.ensures z)) in
+    let key_is : c.new-key.result ≡ key = c.new-key.ensures ∙ (λ z. key_of (c.by.ensures z) (c.cells.ensures z)) in
     let none = subst (λ (v : MapView _). get (listed v.pairs) (class_of key) ≡ None) (sym c.self.view_is) c.requires.absent.absent in
     let more = tallies aggs (row ∷ []) in
     ap (λ ks. listed (pairs_from own.each 0 c.append_aggs.new.running.items ks)) (ap (λ (v : IndexView _ _). v.keys) c.make_room.ensures ∙ c.in-Ok.ensures.added)
-    ∙ listed_more own.each own.index.keys own.running.items c.append_aggs.new.running.items more c.in_ok-key.key
+    ∙ listed_more own.each own.index.keys own.running.items c.append_aggs.new.running.items more c.new-key.result
     (length-tallies aggs (row ∷ []) ∙ sym c.requires.each ∙ sym (ap (λ (v : MapView _). v.each) c.self.view_is))
     (c.in_ok-append_aggs.ensures.ok ∙ ap (λ asked. own.running.items ++ tallies asked (row ∷ [])) c.aggs.ensures)
     c.self.invariant
     (ap (λ k. get (listed (pairs_from own.each 0 own.running.items own.index.keys)) (class_of k)) key_is ∙ none)
     ∙ (λ i. insert (listed (c.self.view_is i).pairs) (class_of (key_is i)) (key_is i, more))
 
-pub of-requires : goal.of-requires
-of-requires g c = columns_fit c.args.spec.now c.args.row.now c.cells.result.now c.by.result.now c.by.ensures c.cells.ensures c.requires.fits
+pub new-key-requires : goal.new-key-requires
+new-key-requires g c = columns_fit c.args.spec.now c.args.row.now c.cells.result.now c.by.result.now c.by.ensures c.cells.ensures c.requires.fits
 
 pub append_aggs-requires : goal.append_aggs-requires
 append_aggs-requires g c = record { fits = cells_fit c.args.spec.now c.args.row.now c.aggs.result.now c.aggs.ensures c.requires.fits }
-
-pub returns-in_err-key-clause-entries : goal.returns-in_err-key-clause-entries
-returns-in_err-key-clause-entries g c = on_ok_err _ c.from_residual.result c.from_residual.ensures.0
-
-pub returns-in_err-key-clause-each : goal.returns-in_err-key-clause-each
-returns-in_err-key-clause-each g c = refl
-
-pub returns-in_err-key-clause-hasher : goal.returns-in_err-key-clause-hasher
-returns-in_err-key-clause-hasher g c = refl
-
-pub returns-in_err-key-clause-err : goal.returns-in_err-key-clause-err
-returns-in_err-key-clause-err g c = on_err_so _ c.from_residual.result refl
-
-pub same-key : goal.same-key
-same-key g c = refl
 
 pub invariant_of-self : goal.invariant_of-self
 invariant_of-self g c =
     subst (λ (xs : List Running). AreKept c.self.inside.each xs c.self.inside.index.keys) (sym c.in_err-append_aggs.ensures.err) c.self.invariant
 
 pub returns-in_err-append_aggs-clause-entries : goal.returns-in_err-append_aggs-clause-entries
-returns-in_err-append_aggs-clause-entries g c = on_ok_err _ c.from_residual-in_err-append_aggs.result c.from_residual-in_err-append_aggs.ensures.0
+returns-in_err-append_aggs-clause-entries g c = on_ok_err _ c.from_residual.result c.from_residual.ensures.0
 
 pub returns-in_err-append_aggs-clause-each : goal.returns-in_err-append_aggs-clause-each
 returns-in_err-append_aggs-clause-each g c = ap (λ (v : MapView _). v.each) c.self.view_is
@@ -103,7 +88,7 @@ returns-in_err-append_aggs-clause-hasher g c = ap (λ (v : MapView _). v.hasher)
 
 pub returns-in_err-append_aggs-clause-err : goal.returns-in_err-append_aggs-clause-err
 returns-in_err-append_aggs-clause-err g c =
-    on_err_so _ c.from_residual-in_err-append_aggs.result (seen_same c.self.inside.each c.append_aggs.new.running.items c.self.inside.running.items c.self.inside.index c.self.inside.index c.args.self.now c.in_err-append_aggs.ensures.err refl c.self.view_is)
+    on_err_so _ c.from_residual.result (seen_same c.self.inside.each c.append_aggs.new.running.items c.self.inside.running.items c.self.inside.index c.self.inside.index c.args.self.now c.in_err-append_aggs.ensures.err refl c.self.view_is)
 
 pub invariant_of-self-in_default : goal.invariant_of-self-in_default
 invariant_of-self-in_default g c =

@@ -14,7 +14,7 @@ returns-clause-groups g c =
     let own = c.self.inside in
     subst (λ (v : MapView _). ListsAll class_of c.new.result.pairs (listed v.pairs)) c.self.view_is
     (subst (λ (l : List Pair). ListsAll class_of l (listed (pairs_from own.each 0 own.running.items own.index.keys)))
-    (sym (c.new.ensures.pairs ∙ ap (pairs_from own.each 0 own.running.items) c.into_keys.ensures.list))
+    (sym (c.new.ensures.pairs ∙ ap (pairs_from own.each 0 own.running.items) c.leave.ensures.list))
     (lists_kept own.each own.running.items own.index.keys c.self.invariant.different))
 
 pub returns-clause-asked : goal.returns-clause-asked

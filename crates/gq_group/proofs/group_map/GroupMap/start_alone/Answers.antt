@@ -29,11 +29,11 @@ first aggs asked again before running none keys key asked_is again_is before_is 
       long = ap length tallied ∙ length-tallies aggs [] ∙ sym (ap length again_is);
     }
 
-pub slice_bounds-of-end : goal.slice_bounds-of-end
-slice_bounds-of-end g c = refl
+pub slice_bounds-new-end : goal.slice_bounds-new-end
+slice_bounds-new-end g c = refl
 
-pub of-requires : goal.of-requires
-of-requires g c = λ k d less. omega (arith, less)
+pub new-key-requires : goal.new-key-requires
+new-key-requires g c = λ k d less. omega (arith, less)
 
 pub unreachable-requires : goal.unreachable-requires
 unreachable-requires g c =
@@ -48,9 +48,6 @@ unreachable-unreachable g c =
 pub same-index : goal.same-index
 same-index g c = refl
 
-pub same-key : goal.same-key
-same-key g c = refl
-
 pub add-requires : goal.add-requires
 add-requires g c = c.in-Absent.ensures.absent
 
@@ -59,14 +56,14 @@ same-index-2 g c = refl
 
 pub invariant_of-result : goal.invariant_of-result
 invariant_of-result g c =
-    let it = first c.args.spec.now.aggs c.aggs.result.now c.aggs-2.result.now c.new-running.result.items c.start_aggs.new.running.items c.new-index.result.keys c.add.new.self.keys c.in_ok-key.key
-    c.aggs.ensures c.aggs-2.ensures c.new-running.ensures.items c.in_ok-start_aggs.ensures.ok c.new-index.ensures.keys c.in_ok-add.ensures.added c.in_ok-key.ensures in
+    let it = first c.args.spec.now.aggs c.aggs.result.now c.aggs-2.result.now c.new-running.result.items c.start_aggs.new.running.items c.new-index.result.keys c.add.new.self.keys c.new-key.result
+    c.aggs.ensures c.aggs-2.ensures c.new-running.ensures.items c.in_ok-start_aggs.ensures.ok c.new-index.ensures.keys c.in_ok-add.ensures.added c.new-key.ensures in
     kept_alone (length c.aggs-2.result.now) c.start_aggs.new.running.items c.add.new.self.keys [] it.alone it.long
 
 pub returns-clause-entries : goal.returns-clause-entries
 returns-clause-entries g c =
-    let it = first c.args.spec.now.aggs c.aggs.result.now c.aggs-2.result.now c.new-running.result.items c.start_aggs.new.running.items c.new-index.result.keys c.add.new.self.keys c.in_ok-key.key
-    c.aggs.ensures c.aggs-2.ensures c.new-running.ensures.items c.in_ok-start_aggs.ensures.ok c.new-index.ensures.keys c.in_ok-add.ensures.added c.in_ok-key.ensures in
+    let it = first c.args.spec.now.aggs c.aggs.result.now c.aggs-2.result.now c.new-running.result.items c.start_aggs.new.running.items c.new-index.result.keys c.add.new.self.keys c.new-key.result
+    c.aggs.ensures c.aggs-2.ensures c.new-running.ensures.items c.in_ok-start_aggs.ensures.ok c.new-index.ensures.keys c.in_ok-add.ensures.added c.new-key.ensures in
     listed_alone (length c.aggs-2.result.now) c.start_aggs.new.running.items c.add.new.self.keys [] it.alone it.long ∙ ap (λ l. insert empty (class_of []) ([], l)) it.tallied
 
 pub returns-clause-each : goal.returns-clause-each
@@ -75,23 +72,14 @@ returns-clause-each g c = ap length c.aggs-2.ensures
 pub returns-clause-hasher : goal.returns-clause-hasher
 returns-clause-hasher g c = c.add.ensures.hasher ∙ c.new-index.ensures.hasher
 
-pub returns-in_err-key-clause-entries : goal.returns-in_err-key-clause-entries
-returns-in_err-key-clause-entries g c = IfOk-from_err c.from_residual.result _ c.from_residual.ensures.0
-
-pub returns-in_err-key-clause-each : goal.returns-in_err-key-clause-each
-returns-in_err-key-clause-each g c = IfOk-from_err c.from_residual.result _ c.from_residual.ensures.0
-
-pub returns-in_err-key-clause-hasher : goal.returns-in_err-key-clause-hasher
-returns-in_err-key-clause-hasher g c = IfOk-from_err c.from_residual.result _ c.from_residual.ensures.0
-
 pub returns-in_err-start_aggs-clause-entries : goal.returns-in_err-start_aggs-clause-entries
-returns-in_err-start_aggs-clause-entries g c = IfOk-from_err c.from_residual-in_err-start_aggs.result _ c.from_residual-in_err-start_aggs.ensures.0
+returns-in_err-start_aggs-clause-entries g c = IfOk-from_err c.from_residual.result _ c.from_residual.ensures.0
 
 pub returns-in_err-start_aggs-clause-each : goal.returns-in_err-start_aggs-clause-each
-returns-in_err-start_aggs-clause-each g c = IfOk-from_err c.from_residual-in_err-start_aggs.result _ c.from_residual-in_err-start_aggs.ensures.0
+returns-in_err-start_aggs-clause-each g c = IfOk-from_err c.from_residual.result _ c.from_residual.ensures.0
 
 pub returns-in_err-start_aggs-clause-hasher : goal.returns-in_err-start_aggs-clause-hasher
-returns-in_err-start_aggs-clause-hasher g c = IfOk-from_err c.from_residual-in_err-start_aggs.result _ c.from_residual-in_err-start_aggs.ensures.0
+returns-in_err-start_aggs-clause-hasher g c = IfOk-from_err c.from_residual.result _ c.from_residual.ensures.0
 
 pub returns-in_err-add-clause-entries : goal.returns-in_err-add-clause-entries
 returns-in_err-add-clause-entries g c = IfOk-from_err c.from_residual-in_err-add.result _ c.from_residual-in_err-add.ensures.0
