@@ -11,7 +11,7 @@ use crate::cells_left::CellsLeft;
 use crate::keys::KeysLeft;
 use crate::order::{compare_nullable, compare_numbers};
 use crate::row_ref::CellSlice;
-use crate::rows::Span;
+use crate::rows::{RowSpan, Span};
 use crate::tagged_cells::TaggedCells;
 use gq_row::{Value, compare_cells};
 use std::alloc::{AllocError, Global};
@@ -132,6 +132,15 @@ impl Cells {
                 let (words, overflow) = values.lend(part);
                 CellSlice::Tagged(words, overflow)
             }
+        }
+    }
+
+    // Whether all of these rows are known to begin and end with numbers. No contract covers it.
+    pub(crate) fn have_number_ends(&self, rows: &[RowSpan]) -> bool {
+        match &self.stored {
+            Stored::Numbers(numbers) => least_end(numbers.as_slice(), rows) > i64::MIN,
+            Stored::Nullable(_) | Stored::Values(_) => false,
+            Stored::Tagged(values) => values.have_number_ends(rows),
         }
     }
 
@@ -333,6 +342,18 @@ impl Cells {
             Stored::Tagged(values) => values.truncate(cells),
         }
     }
+}
+
+// The least number at an end of one of these rows, or zero. No contract covers it.
+fn least_end(numbers: &[i64], rows: &[RowSpan]) -> i64 {
+    let mut least = 0;
+    for row in rows {
+        let row = row.get();
+        if row.start < row.end && row.end <= numbers.len() {
+            least = numbers[row.start].min(numbers[row.end - 1]).min(least);
+        }
+    }
+    least
 }
 
 impl Stored {

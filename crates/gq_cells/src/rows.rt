@@ -154,6 +154,15 @@ impl Rows {
         RowRef::new(&self.cells, self.spans[position].get())
     }
 
+    /// Whether all rows from `start` up to `end` are known to begin and end with numbers. It reads both ends of each
+    /// in so short a loop that many of these reads of memory overlap. No contract covers it.
+    pub fn have_number_ends(&self, start: usize, end: usize) -> bool {
+        match self.spans.get(start..end) {
+            Some(rows) => self.cells.have_number_ends(rows),
+            None => false,
+        }
+    }
+
     /// Overwrites `row` with the row at a position. If both have one length, only texts longer than 22 bytes may
     /// allocate.
     pub fn copy_row(

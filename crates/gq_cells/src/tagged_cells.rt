@@ -11,7 +11,7 @@ ghost use Rattle.gq_cells.specs.Words.{HasUtf8, IsWord, text_in, value_order, wo
 
 use crate::cell_ref::CellRef;
 use crate::cells::push_value;
-use crate::rows::Span;
+use crate::rows::{RowSpan, Span};
 use crate::text_ref::{TextRef, WordText};
 use gq_row::{Text, Value, compare, compare_folded};
 use std::alloc::{AllocError, Global};
@@ -146,6 +146,20 @@ impl TaggedCells {
         ensures utf8 { All HasUtf8 result.0.now }
     {
         (&self.words[part.start..part.end], self.overflow.as_slice())
+    }
+
+    // Whether all of these rows begin and end with numbers. All words at their ends are read without
+    // a branch. No contract covers it.
+    pub(crate) fn have_number_ends(&self, rows: &[RowSpan]) -> bool {
+        let words = self.words.as_slice();
+        let mut all = 0;
+        for row in rows {
+            let row = row.get();
+            if row.start < row.end && row.end <= words.len() {
+                all |= words[row.start] | words[row.end - 1];
+            }
+        }
+        all < OVERFLOW
     }
 
     // Compares two ranges as keys.

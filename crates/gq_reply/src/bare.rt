@@ -37,32 +37,21 @@ pub(crate) fn block_end(start: usize, rows: usize) -> usize
 }
 
 // False only if a row from `start` up to `end` isn't bare, by its ends. Reading them all first saves
-// time: texts may be out of line, so rows that begin with one are checked at their last values first.
+// time: first the cells, then the texts, which may be out of line.
 pub(crate) fn ends_may_be_bare(rows: &Rows, start: usize, end: usize) -> bool
     requires { end ≤ length rows.now }
     ensures { result ≡ false → AreBare rows.now start end → ⊥ }
 {
-    if begins_with_number(rows, start, end) {
-        return may_be_bare(rows, start, end, Ends::Both);
-    }
-    may_be_bare(rows, start, end, Ends::Last) && may_be_bare(rows, start, end, Ends::First)
-}
-
-// Which values of a row are checked.
-#[derive(Clone, Copy)]
-enum Ends {
-    First,
-    Last,
-    Both,
+    rows.have_number_ends(start, end) || may_be_bare(rows, start, end)
 }
 
 #[inline(always)]
-fn may_be_bare(rows: &Rows, start: usize, end: usize, ends: Ends) -> bool
+fn may_be_bare(rows: &Rows, start: usize, end: usize) -> bool
     requires { end ≤ length rows.now }
     ensures { result ≡ false → AreBare rows.now start end → ⊥ }
 {
     for i in start..end {
-        if !row_may_be_bare(&rows.row(i), ends) {
+        if !row_may_be_bare(&rows.row(i)) {
             return false;
         }
     }
@@ -70,29 +59,13 @@ fn may_be_bare(rows: &Rows, start: usize, end: usize, ends: Ends) -> bool
 }
 
 #[inline(always)]
-fn row_may_be_bare(row: &RowRef<'_>, ends: Ends) -> bool
+fn row_may_be_bare(row: &RowRef<'_>) -> bool
     ensures { result ≡ false → IsBare row.now → ⊥ }
 {
-    let Some(last) = row.len().checked_sub(1) else {
-        return false;
-    };
-    match ends {
-        Ends::First => cell_may_be_bare(row.cell(0)),
-        Ends::Last => cell_may_be_bare(row.cell(last)),
-        Ends::Both => cell_may_be_bare(row.cell(0)) && cell_may_be_bare(row.cell(last)),
+    match row.len().checked_sub(1) {
+        Some(last) => cell_may_be_bare(row.cell(0)) && cell_may_be_bare(row.cell(last)),
+        None => false,
     }
-}
-
-// Whether the first of these rows begins with a number; then most others do, too.
-#[inline(always)]
-fn begins_with_number(rows: &Rows, start: usize, end: usize) -> bool
-    requires { end ≤ length rows.now }
-{
-    if start >= end {
-        return false;
-    }
-    let row = rows.row(start);
-    !row.is_empty() && matches!(row.cell(0), CellRef::Int(_))
 }
 
 // False only if a cell isn't bare; of a text only the last byte is checked.
