@@ -1,5 +1,5 @@
 -- Texts that fit in 22 bytes: how they are made, and when two are equal.
-use Rattle.std.proofs.Common.{◌≡◌, ◌+◌, ◌-◌, ◌≤◌, ℕ, Bool, true, false, List, ◌++◌, length, take, drop, replicate, bytes_eq, ◌&&◌, refl, sym, ap, subst, ◌∙◌, arith, append_assoc, length-append, length-drop, length-take-le}
+use Rattle.std.proofs.Common.{◌≡◌, ◌+◌, ◌-◌, ◌≤◌, ℕ, Bool, true, false, List, [], ◌++◌, length, take, drop, replicate, bytes_eq, ◌&&◌, refl, sym, ap, subst, ◌∙◌, arith, append_assoc, length-append, length-drop, length-take-le}
 use Rattle.std.specs.Prelude.{IsUtf8}
 use lib.Lanes.{put_chunk}
 use Rattle.std.proofs.lemmas.List.{drop-replicate, take_all, drop-drop, length-replicate, take-append-drop, take-append-le, take-take}
@@ -24,6 +24,10 @@ made text fits utf8 =
       text = ∣ subst IsUtf8 (sym (take-append_seam text (drop (length text) (blank 22)))) utf8 ∣₁;
       zeros = drop-append_seam text (drop (length text) (blank 22)) ∙ rest;
     }
+
+-- the empty text has only zeros
+pub all_zeros : (len : ℕ) (bytes : List ℕ) → IsShort len bytes → take len bytes ≡ [] → bytes ≡ blank 22
+all_zeros len bytes h e = sym (whole_again len bytes h).1 ∙ ap (λ l. l ++ replicate (22 - length l) 0) e
 
 agree : (p q : Bool) → (p ≡ true → q ≡ true) → (q ≡ true → p ≡ true) → p ≡ q
 agree true true f g = refl

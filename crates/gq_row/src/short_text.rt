@@ -72,7 +72,17 @@ impl ShortText {
         requires { length chars.now ≤ MOST }
         ensures { self.new ≡ chars.now }
     {
-        self.bytes = [0; MOST];
+        *self = ShortText::empty();
+        self.fill_empty(chars);
+    }
+
+    /// The same, if this text is empty.
+    #[inline(always)]
+    pub(crate) fn fill_empty(&mut self, chars: &str)
+        requires short { length chars.now ≤ MOST }
+        requires empty { self.old ≡ [] }
+        ensures { self.new ≡ chars.now }
+    {
         copy_over(&mut self.bytes, chars.as_bytes());
         self.len = chars.len() as u8;
     }
