@@ -2,17 +2,20 @@
 //!
 //! One list holds the cells of all groups, group after group: its key, then its shown values.
 //! Sorting moves spans and no cells.
-ghost use Rattle.std.specs.Prelude.{◌≡◌, ◌<◌, ◌^◌, ◌++◌, ◌∷◌, [], IfOk, IsOk, IsPermutation, OnOk, drop, length, slice_index_or, map};
+ghost use Rattle.std.specs.Prelude.{◌≡◌, ◌+◌, ◌<◌, ◌^◌, ◌++◌, ◌∷◌, [], IfOk, IsOk, IsPermutation, OnOk, drop, length, slice_index_or, map};
 ghost use Rattle.std.specs.List.Sorted.{IsSortedByKey};
 ghost use Rattle.gq_row.specs.Order.{compare_keys};
+ghost use Rattle.gq_row.specs.Rows.{cell};
+ghost use Rattle.gq_cells.specs.Cells.{value_of};
 ghost use Rattle.gq_cells.specs.Lists.{IsPart, part, row_at};
 ghost use Rattle.gq_group.specs.Groups.{Group};
 ghost use Rattle.gq_query.specs.GroupSpans.{IsSpan, compare_at, end_of, middle_of};
+ghost use Rattle.gq_query.specs.SortPrefixes.{IsSortPrefix};
 ghost use Rattle.gq_query.specs.Joining.{row_of};
 
-use crate::sort_prefix::{SortPrefix, prefix_in};
+use crate::sort_prefix::{SortPrefix, pair_prefix, prefix_in};
 use crate::tie_sort::sort_groups;
-use gq_cells::{Cells, RowSpan, Rows, Span};
+use gq_cells::{CellRef, Cells, KeysLeft, RowSpan, Rows, Span};
 use gq_group::{GroupSink, Refusal};
 use gq_row::{Key, Value};
 use gq_spill::RunStore;
@@ -166,6 +169,25 @@ impl GroupList {
         Ok(())
     }
 
+    // Appends a group whose key is the first of those that leave a list.
+    #[inline(always)]
+    fn add_first(&mut self, keys: &mut KeysLeft, values: &mut Vec<Value>) -> Result<(), AllocError>
+        requires { 0 < length keys.old }
+        ensures added { OnOk result (self.new ≡
+            self.old ++ (slice_index_or keys.old 0 [], values.old.items) ∷ []) }
+        ensures left { OnOk result (keys.new ≡ drop 1 keys.old) }
+        ensures fewer { length keys.new + 1 ≡ length keys.old }
+    {
+        let start = self.cells.len();
+        self.cells.push_key(self.alloc, keys)?;
+        let width = self.cells.len() - start;
+        let span = GroupSpan::new(prefix_at(&self.cells, start), start, width, values.len())?;
+        self.cells.push_all(self.alloc, values.as_mut_slice())?;
+        self.groups.push(span)?;
+        self.make_room(start);
+        Ok(())
+    }
+
     /// Appends a group. The values move out of the borrowed lists, whose contents are then
     /// unspecified.
     pub fn push_group(
@@ -245,6 +267,26 @@ impl GroupList {
             spans.push(RowSpan::new(span)?)?;
         }
         Ok(Rows::of(self.cells, spans))
+    }
+}
+
+// The prefix of a key that is the cells from a position on.
+#[inline(always)]
+fn prefix_at(cells: &Cells, start: usize) -> SortPrefix
+    ensures { IsSortPrefix (drop start cells.now) result }
+{
+    pair_prefix(cell_after(cells, start, 0), cell_after(cells, start, 1))
+}
+
+// The cell `count` cells after a position, or null past the end.
+#[inline(always)]
+fn cell_after(cells: &Cells, start: usize, count: usize) -> CellRef<'_>
+    ensures { value_of result ≡ cell (drop start cells.now) count }
+{
+    let len = cells.len();
+    match start.checked_add(count) {
+        Some(place) if place < len => cells.get(place),
+        _ => CellRef::Null,
     }
 }
 
@@ -342,6 +384,19 @@ impl<S: RunStore> GroupSink<S> for GroupList {
     fn push(&mut self, store: &mut S, key: Key, values: &mut Vec<Value>) -> Result<(), Refusal> {
         let _ = store;
         match self.add(key, values) {
+            Ok(()) => Ok(()),
+            Err(_) => Err(Refusal::Memory),
+        }
+    }
+
+    fn push_first(
+        &mut self,
+        store: &mut S,
+        keys: &mut KeysLeft,
+        values: &mut Vec<Value>,
+    ) -> Result<(), Refusal> {
+        let _ = store;
+        match self.add_first(keys, values) {
             Ok(()) => Ok(()),
             Err(_) => Err(Refusal::Memory),
         }

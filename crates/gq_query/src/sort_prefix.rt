@@ -147,9 +147,9 @@ fn column_in<'a>(columns: &[usize], row: &'a [Value], position: usize) -> CellRe
     }
 }
 
-// The prefix of two values.
+/// The prefix of two values.
 #[inline]
-fn pair_prefix(first: CellRef<'_>, second: CellRef<'_>) -> SortPrefix
+pub fn pair_prefix(first: CellRef<'_>, second: CellRef<'_>) -> SortPrefix
     ensures { IsPairPrefix (value_of first.entry) (value_of second.entry) result }
 {
     let high = word_of(first, 0);
