@@ -14,7 +14,7 @@ ghost use Rattle.gq_reply.specs.Replies.{cell_text};
 
 use crate::digits::write_number;
 use crate::plain::{MOST, copy_plain, is_plain, needs_byte};
-use gq_cells::{CellRef, RowRef, Rows};
+use gq_cells::{CellRef, RowRef, Rows, TextRef};
 use std::alloc::AllocError;
 
 /// The size of the buffer. It is cleared for each reply, so a small one must not pay for much.
@@ -36,22 +36,33 @@ pub(crate) fn block_end(start: usize, rows: usize) -> usize
     }
 }
 
-// False only if a row from `start` up to `end` isn't bare, by its ends. Reading them all first saves
-// time: first the cells, then the texts, which may be out of line.
-pub(crate) fn ends_may_be_bare(rows: &Rows, start: usize, end: usize) -> bool
+// False only if a row from `start` up to `end` isn't bare, by some of its values. Reading them all first
+// saves time: both ends of all rows, and then one text of each that is out of line.
+pub(crate) fn may_be_bare(rows: &Rows, start: usize, end: usize) -> bool
     requires { end ≤ length rows.now }
     ensures { result ≡ false → AreBare rows.now start end → ⊥ }
 {
-    rows.have_number_ends(start, end) || may_be_bare(rows, start, end)
+    let have_number_ends = rows.have_number_ends(start, end);
+    match borrowed_column(rows, start, end) {
+        Some(column) => all_may_be_bare(rows, start, end, Checked::At(column)),
+        None => have_number_ends || all_may_be_bare(rows, start, end, Checked::Ends),
+    }
+}
+
+// Which values of a row are checked.
+#[derive(Clone, Copy)]
+enum Checked {
+    Ends,
+    At(usize),
 }
 
 #[inline(always)]
-fn may_be_bare(rows: &Rows, start: usize, end: usize) -> bool
+fn all_may_be_bare(rows: &Rows, start: usize, end: usize, checked: Checked) -> bool
     requires { end ≤ length rows.now }
     ensures { result ≡ false → AreBare rows.now start end → ⊥ }
 {
     for i in start..end {
-        if !row_may_be_bare(&rows.row(i)) {
+        if !row_may_be_bare(&rows.row(i), checked) {
             return false;
         }
     }
@@ -59,12 +70,42 @@ fn may_be_bare(rows: &Rows, start: usize, end: usize) -> bool
 }
 
 #[inline(always)]
-fn row_may_be_bare(row: &RowRef<'_>) -> bool
+fn row_may_be_bare(row: &RowRef<'_>, checked: Checked) -> bool
     ensures { result ≡ false → IsBare row.now → ⊥ }
 {
-    match row.len().checked_sub(1) {
-        Some(last) => cell_may_be_bare(row.cell(0)) && cell_may_be_bare(row.cell(last)),
-        None => false,
+    let Some(last) = row.len().checked_sub(1) else {
+        return false;
+    };
+    match checked {
+        Checked::Ends => cell_may_be_bare(row.cell(0)) && cell_may_be_bare(row.cell(last)),
+        Checked::At(column) => cell_may_be_bare(row.cell(column.min(last))),
+    }
+}
+
+// The column of the first borrowed text in the first of these rows; most others have one there, too. No
+// contract covers it: it only saves time.
+#[inline(always)]
+fn borrowed_column(rows: &Rows, start: usize, end: usize) -> Option<usize>
+    requires { end ≤ length rows.now }
+{
+    if start >= end {
+        return None;
+    }
+    let row = rows.row(start);
+    for column in 0..row.len() {
+        if is_borrowed(row.cell(column)) {
+            return Some(column);
+        }
+    }
+    None
+}
+
+#[inline(always)]
+fn is_borrowed(cell: CellRef<'_>) -> bool {
+    match cell {
+        CellRef::Text(TextRef::Stored(_)) | CellRef::NoCase(TextRef::Stored(_)) => true,
+        CellRef::Text(TextRef::Short(_)) | CellRef::NoCase(TextRef::Short(_)) => false,
+        CellRef::Null | CellRef::Int(_) => false,
     }
 }
 

@@ -6,7 +6,7 @@ ghost use Rattle.gq_reply.specs.Bare.{records};
 ghost use Rattle.gq_reply.specs.Records.{HasWritten};
 ghost use Rattle.gq_reply.specs.Replies.{text, cell_text, record_text, records_text};
 
-use crate::bare::{CAPACITY, block_end, ends_may_be_bare, write_block};
+use crate::bare::{CAPACITY, block_end, may_be_bare, write_block};
 use crate::reply::Reply;
 use crate::reply_line::{accepted_line, line_of};
 use csv::{ByteRecord, Writer, WriterBuilder};
@@ -99,7 +99,7 @@ fn with_rows(
     ensures { (front : List ℕ) → text.items ≡ front ++ records (take from rows.now)
         → IfOk result (λ bytes. bytes.items ≡ front ++ records (take to rows.now)) }
 {
-    if !ends_may_be_bare(rows, from, to) {
+    if !may_be_bare(rows, from, to) {
         return with_records(alloc, text, rows, from, to);
     }
     let mut text = text;
