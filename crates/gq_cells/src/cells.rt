@@ -195,20 +195,14 @@ impl Cells {
             }
         }
         match &mut self.stored {
-            Stored::Numbers(_) => {}
-            Stored::Nullable(numbers) => {
-                if let Some(number) = number_of(value) {
-                    return push_nullable(numbers, number);
-                }
-            }
-            Stored::Values(values) => {
-                return push_value(values, value);
-            }
-            Stored::Tagged(values) => {
-                return values.push(value);
-            }
+            Stored::Numbers(_) => self.stored.push_wide(alloc, self.apart, value),
+            Stored::Nullable(numbers) => match number_of(value) {
+                Some(number) => push_nullable(numbers, number),
+                None => self.stored.push_wide(alloc, self.apart, value),
+            },
+            Stored::Values(values) => push_value(values, value),
+            Stored::Tagged(values) => values.push(value),
         }
-        self.stored.push_wide(alloc, self.apart, value)
     }
 
     /// Moves `values` to the end. On error a prefix of them may have been appended; what they hold then is unspecified.
