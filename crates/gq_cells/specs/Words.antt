@@ -1,5 +1,5 @@
 -- Tagged words: numbers, indices of values in the overflow, or short texts.
-use Rattle.std.specs.Prelude.{◌*◌, ◌^◌, ◌%◌, ◌<◌, ◌≤◌, ◌-◌, ◌-ℤ◌, ℕ, Bool, true, false, List, cond, drop, nat_lt, pos, slice_index_or, take, IsUtf8}
+use Rattle.std.specs.Prelude.{◌+◌, ◌*◌, ◌^◌, ◌%◌, ◌<◌, ◌≤◌, ◌-◌, ◌-ℤ◌, ℕ, Bool, true, false, List, All, cond, drop, nat_lt, pos, slice_index_or, take, IsUtf8}
 use Rattle.std.specs.Int.{w64, to_be_bytes}
 use Rattle.std.specs.declared.cmp.Ordering.{Ordering}
 use Rattle.gq_row.specs.Order.{compare_values, folded_order}
@@ -26,10 +26,15 @@ word_value overflow word = cond (nat_lt word (2 ^ 63)) (Int (pos word -ℤ pos (
 abbrev pub HasUtf8 : ℕ → Type 0
 HasUtf8 word = 3 * 2 ^ 62 ≤ word → IsValid (text_in word)
 
--- a word is a number, an index into an overflow of this length, or a text
+-- a word is a number, an index into an overflow of this length, the last index of all, which no overflow has, or a text
 pub record IsWord (places word : ℕ) : Type 0 where
-  pub within : 2 ^ 63 ≤ word → word < 3 * 2 ^ 62 → word - 2 ^ 63 < places
+  pub within : 2 ^ 63 ≤ word → word + 1 < 3 * 2 ^ 62 → word - 2 ^ 63 < places
   pub utf8 : HasUtf8 word
+
+-- words, and the length of their overflow
+pub record AreWords (places : ℕ) (words : List ℕ) : Type 0 where
+  pub all : All (IsWord places) words
+  pub few : places < 2 ^ 62
 
 -- the order of values by their folds, or their own order
 abbrev pub value_order : Bool → Value → Value → Ordering

@@ -12,16 +12,16 @@ use crate::keys::KeysLeft;
 use crate::order::{compare_nullable, compare_numbers};
 use crate::row_ref::CellSlice;
 use crate::rows::{RowSpan, Span};
-use crate::tagged_cells::TaggedCells;
+use crate::tagged_cells::{TaggedCells, word_of};
 use gq_row::{Value, compare_cells};
 use std::alloc::{AllocError, Global};
 use std::cmp::Ordering;
 use std::marker::Model;
 use std::mem;
 
-/// A list of values. Each takes eight bytes while all are numbers, sixteen from the first null on, and a [`Value`]'s
-/// size from the first text on. If texts are out of line, each takes eight bytes then, and those without a word a
-/// [`Value`] more.
+/// A list of values. Each takes eight bytes while all are numbers, or texts of up to seven bytes and nulls; sixteen from
+/// the first null among numbers on; and a [`Value`]'s size from the first other text on. If texts are out of line, each
+/// takes eight bytes then, and those without a word a [`Value`] more.
 #[derive(Drop)]
 pub struct Cells {
     stored: Stored,
@@ -86,7 +86,7 @@ impl Cells {
             Stored::Numbers(numbers) => values_of(alloc, numbers.as_slice()),
             Stored::Nullable(numbers) => values_of_nullable(alloc, numbers.as_slice()),
             Stored::Values(values) => Ok(values),
-            Stored::Tagged(values) => values.to_values(alloc),
+            Stored::Tagged(values) => values.to_values(alloc, values.len()),
         }
     }
 
@@ -201,7 +201,11 @@ impl Cells {
                 None => self.stored.push_wide(alloc, self.apart, value),
             },
             Stored::Values(values) => push_value(values, value),
-            Stored::Tagged(values) => values.push(value),
+            Stored::Tagged(values) if self.apart => values.push(value),
+            Stored::Tagged(values) => match word_of(value) {
+                Some(word) => values.push_word(word),
+                None => self.stored.push_wide(alloc, false, value),
+            },
         }
     }
 
@@ -368,8 +372,8 @@ impl Stored {
                 }
             }
             _ => {
-                if apart {
-                    self.admit_texts_apart(alloc)?;
+                if apart || word_of(value).is_some() {
+                    self.admit_words(alloc)?;
                 } else {
                     self.admit_texts(alloc)?;
                 }
@@ -394,8 +398,8 @@ impl Stored {
         Ok(())
     }
 
-    // Changes the layout to one with texts out of line, unless it stores texts already.
-    fn admit_texts_apart(&mut self, alloc: Global) -> Result<(), AllocError>
+    // Changes the layout to tagged words, unless it stores texts already.
+    fn admit_words(&mut self, alloc: Global) -> Result<(), AllocError>
         ensures wide { OnOk result (HasTexts self.new) }
         ensures same { cells_of self.new ≡ cells_of self.old }
     {
@@ -424,14 +428,15 @@ impl Stored {
                 *self = Stored::Values(values_of_nullable(alloc, numbers.as_slice())?);
             }
             Stored::Tagged(values) => {
-                *self = Stored::Values(values.to_values(alloc)?);
+                *self = Stored::Values(values.to_values(alloc, values.room())?);
             }
             Stored::Values(_) => {}
         }
         Ok(())
     }
 
-    // Appends all of `more`. Numbers and nulls stay so; in any other layout all become `Value`s.
+    // Appends all of `more`. Numbers, nulls, and words without an overflow stay so; in any other layout all become
+    // `Value`s.
     fn append(&mut self, alloc: Global, more: &mut Stored) -> Result<(), AllocError>
         ensures appended { OnOk result (cells_of self.new ≡ cells_of self.old ++ cells_of more.old) }
         ensures unchanged { OnErr result (cells_of self.new ≡ cells_of self.old) }
@@ -451,6 +456,11 @@ impl Stored {
                 all.append(behind)?;
                 *self = Stored::Nullable(all);
                 return Ok(());
+            }
+            (Stored::Tagged(cells), Stored::Tagged(behind)) => {
+                if cells.append_words(behind)? {
+                    return Ok(());
+                }
             }
             _ => {}
         }

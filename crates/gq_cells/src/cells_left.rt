@@ -78,16 +78,3 @@ fn next_or_null(values: &mut vec::IntoIter<Value>) -> Value
         None => Value::Null,
     }
 }
-
-impl TaggedCells {
-    // Appends a number that is a word.
-    #[inline(always)]
-    fn push_word(&mut self, word: u64) -> Result<(), AllocError>
-        requires { word < 2 ^ 63 }
-        ensures pushed { OnOk result (self.new ≡ self.old ++ Int (pos word -ℤ pos (2 ^ 62)) ∷ []) }
-        ensures unchanged { OnErr result (self.new ≡ self.old) }
-    {
-        self.words.push(word)?;
-        Ok(())
-    }
-}

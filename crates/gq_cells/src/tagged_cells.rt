@@ -1,5 +1,5 @@
 //! Numbers and short texts in eight bytes each, and longer texts out of line.
-ghost use Rattle.std.specs.Prelude.{◌≡◌, ◌<◌, ◌≤◌, ◌+◌, ◌*◌, ◌^◌, ◌++◌, ◌∷◌, ◌-ℤ◌, [], ℕ, pos, All, IfOk, IfNone, IfSome, IsOk, OnOk, OnErr, drop, length, map, take, slice_index_or};
+ghost use Rattle.std.specs.Prelude.{◌≡◌, ◌<◌, ◌≤◌, ◌+◌, ◌*◌, ◌^◌, ◌++◌, ◌∷◌, ◌-ℤ◌, [], ℕ, false, pos, All, IfOk, IfNone, IfSome, IsOk, IsTrue, OnOk, OnErr, drop, length, map, take, slice_index_or};
 ghost use Rattle.gq_row.specs.declared.value.Value.TheVariants.{Null};
 ghost use Rattle.gq_row.specs.Order.{compare_keys};
 ghost use Rattle.gq_row.specs.Written.{IsInPlace};
@@ -19,7 +19,8 @@ use std::cmp::Ordering;
 use std::marker::Model;
 
 /// A list of values, each with a tagged word: below 2^63 an integer biased by 2^62; below 3 · 2^62 an index
-/// into `overflow`, biased by 2^63; else a text of up to seven bytes. `overflow` has all other values.
+/// into `overflow`, biased by 2^63, or null if that has no such place; else a text of up to seven bytes.
+/// `overflow` has all other values.
 #[derive(Drop)]
 pub(crate) struct TaggedCells {
     pub(crate) words: Vec<u64>,
@@ -32,19 +33,22 @@ pub(crate) const ZERO: i64 = 1 << 62;
 // The bias of indices into `overflow`.
 pub(crate) const OVERFLOW: u64 = 1 << 63;
 
+// The word of null: the last index, for which there is never a place.
+const NULL: u64 = (3 << 62) - 1;
+
 // The word of the empty text. The highest byte of a text's word has its length too, and the text follows.
 const TEXT: u64 = 3 << 62;
 
 impl Model for TaggedCells {
-    ghost use Rattle.std.specs.Prelude.{List, All, length, map};
+    ghost use Rattle.std.specs.Prelude.{List, length, map};
     ghost use Rattle.gq_row.specs.declared.value.Value.{Value as Cell};
-    ghost use Rattle.gq_cells.specs.Words.{IsWord, word_value};
+    ghost use Rattle.gq_cells.specs.Words.{AreWords, word_value};
 
     ghost Value = { List Cell };
 
     ghost view = { λ m. map (word_value m.overflow.items) m.words.items };
 
-    ghost invariant = { λ m. All (IsWord (length m.overflow.items)) m.words.items };
+    ghost invariant = { λ m. AreWords (length m.overflow.items) m.words.items };
 }
 
 impl TaggedCells {
@@ -89,13 +93,37 @@ impl TaggedCells {
         ensures unchanged { OnErr result (self.new ≡ self.old) }
     {
         if let Some(word) = word_of(value) {
-            self.words.push(word)?;
-            return Ok(());
+            return self.push_word(word);
         }
         let word = word_of_place(self.overflow.len())?;
         push_value(&mut self.overflow, value)?;
         self.words.push(word)?;
         Ok(())
+    }
+
+    // Appends the value of a word that takes no place in the overflow.
+    #[inline(always)]
+    pub(crate) fn push_word(&mut self, word: u64) -> Result<(), AllocError>
+        requires { IsWord 0 word }
+        ensures pushed { OnOk result (self.new ≡ self.old ++ word_value [] word ∷ []) }
+        ensures unchanged { OnErr result (self.new ≡ self.old) }
+    {
+        self.words.push(word)?;
+        Ok(())
+    }
+
+    // Moves all values of another list to the end, if none of them is in its overflow. Returns whether they moved.
+    pub(crate) fn append_words(&mut self, more: &mut TaggedCells) -> Result<bool, AllocError>
+        ensures moved { IfOk result (λ moved. IsTrue moved → self.new ≡ self.old ++ more.old) }
+        ensures left { IfOk result (λ moved. moved ≡ false →
+            (self.new ≡ self.old) × (more.new ≡ more.old)) }
+        ensures unchanged { OnErr result (self.new ≡ self.old) }
+    {
+        if !more.overflow.is_empty() {
+            return Ok(false);
+        }
+        self.words.append(&mut more.words)?;
+        Ok(true)
     }
 
     // Moves `values` to the end. On error a prefix of them may have been appended.
@@ -125,11 +153,16 @@ impl TaggedCells {
         self.get(position).copy_to(alloc, over)
     }
 
-    // A copy of the values.
-    pub(crate) fn to_values(&self, alloc: Global) -> Result<Vec<Value>, AllocError>
+    // How many values there may be before the list grows. No contract covers it.
+    pub(crate) fn room(&self) -> usize {
+        self.words.capacity()
+    }
+
+    // A copy of the values, in a vector with this capacity at first.
+    pub(crate) fn to_values(&self, alloc: Global, room: usize) -> Result<Vec<Value>, AllocError>
         ensures { IfOk result (λ values. values.items ≡ self.now) }
     {
-        let mut values = Vec::with_capacity(alloc, self.words.len())?;
+        let mut values = Vec::with_capacity(alloc, room)?;
         for i in 0..self.words.len() {
             let mut value = Value::Null;
             self.copy_to(alloc, i, &mut value)?;
@@ -186,14 +219,15 @@ impl TaggedCells {
 
 // The word of a value that takes no place in the overflow.
 #[inline(always)]
-fn word_of(value: &Value) -> Option<u64>
+pub(crate) fn word_of(value: &Value) -> Option<u64>
     ensures word { IfSome result (IsWord 0) }
     ensures value { IfSome result (λ word. word_value [] word ≡ value.now) }
 {
     match value {
         Value::Int(n) => word_of_number(*n),
         Value::Text(text) => word_of_text(text),
-        Value::Null | Value::NoCase(_) => None,
+        Value::Null => Some(NULL),
+        Value::NoCase(_) => None,
     }
 }
 
@@ -208,13 +242,13 @@ fn word_of_text(text: &Text) -> Option<u64>
     Some(TEXT + ((text.len() as u64) << 56) + number / 256)
 }
 
-// The word of a place in the overflow. A place from 2^62 on counts as out of memory.
+// The word of a place in the overflow. A place from 2^62 - 1 on counts as out of memory.
 #[inline(always)]
 fn word_of_place(place: usize) -> Result<u64, AllocError>
-    ensures word { IfOk result (λ word. (place < 2 ^ 62) × (word ≡ 2 ^ 63 + place)) }
-    ensures fits { place < 2 ^ 62 → IsOk result }
+    ensures word { IfOk result (λ word. (place + 1 < 2 ^ 62) × (word ≡ 2 ^ 63 + place)) }
+    ensures fits { place + 1 < 2 ^ 62 → IsOk result }
 {
-    if place < 1 << 62 {
+    if place < (1 << 62) - 1 {
         Ok(OVERFLOW + place as u64)
     } else {
         Err(AllocError)

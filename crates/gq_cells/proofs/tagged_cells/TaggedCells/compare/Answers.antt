@@ -13,8 +13,8 @@ compare_words-requires c =
     let words = c.self.inside.words.items in
     let a = c.args.a in
     let b = c.args.b in (
-      subst (λ l. All HasUtf8 (part l a.start a.end)) (sym c.deref.ensures.value) (utf8_at places words a c.self.invariant),
-      subst (λ l. All HasUtf8 (part l b.start b.end)) (sym c.deref-2.ensures.value) (utf8_at places words b c.self.invariant),
+      subst (λ l. All HasUtf8 (part l a.start a.end)) (sym c.deref.ensures.value) (utf8_at places words a c.self.invariant.all),
+      subst (λ l. All HasUtf8 (part l b.start b.end)) (sym c.deref-2.ensures.value) (utf8_at places words b c.self.invariant.all),
     )
 
 pub compare_words-requires-in-Equal : goal.compare_words-requires-in-Equal
@@ -23,8 +23,8 @@ compare_words-requires-in-Equal c =
     let words = c.self.inside.words.items in
     let a = c.args.a in
     let b = c.args.b in (
-      subst (λ l. All HasUtf8 (part l a.start a.end)) (sym c.deref.ensures.value) (utf8_at places words a c.self.invariant),
-      subst (λ l. All HasUtf8 (part l b.start b.end)) (sym c.deref-2.ensures.value) (utf8_at places words b c.self.invariant),
+      subst (λ l. All HasUtf8 (part l a.start a.end)) (sym c.deref.ensures.value) (utf8_at places words a c.self.invariant.all),
+      subst (λ l. All HasUtf8 (part l b.start b.end)) (sym c.deref-2.ensures.value) (utf8_at places words b c.self.invariant.all),
     )
 
 pub returns-in-Equal : goal.returns-in-Equal

@@ -8,4 +8,4 @@ lend_word-requires c =
     let words = c.self.inside.words.items in
     let long = sym (length-map words (word_value c.self.inside.overflow.items)) ∙ ap length c.self.view_is in
     let within : c.args.position < length words = omega (arith, long, c.requires) in
-    subst HasUtf8 (sym c.index.ensures) (c.self.invariant c.args.position c.index.result.now within).utf8
+    subst HasUtf8 (sym c.index.ensures) (c.self.invariant.all c.args.position c.index.result.now within).utf8
