@@ -173,6 +173,29 @@ impl Cells {
                 over.write_number(numbers[position]);
                 Ok(())
             }
+            Stored::Nullable(_) | Stored::Values(_) | Stored::Tagged(_) => {
+                self.copy_other_to(alloc, position, over)
+            }
+        }
+    }
+
+    // As `copy_to`, in each layout. It is called from two places, for the same reason as `push_other`.
+    #[inline(never)]
+    fn copy_other_to(
+        &self,
+        alloc: Global,
+        position: usize,
+        over: &mut Value,
+    ) -> Result<(), AllocError>
+        requires { position < length self.now }
+        ensures copied { OnOk result (over.new ≡ slice_index_or self.now position Null) }
+        ensures in_place { IsInPlace (slice_index_or self.now position Null) → IsOk result }
+    {
+        match &self.stored {
+            Stored::Numbers(numbers) => {
+                over.write_number(numbers[position]);
+                Ok(())
+            }
             Stored::Nullable(numbers) => {
                 *over = cell_of(numbers[position]);
                 Ok(())
@@ -188,14 +211,35 @@ impl Cells {
         ensures pushed { OnOk result (self.new ≡ self.old ++ value.old ∷ []) }
         ensures unchanged { OnErr result (self.new ≡ self.old) }
     {
-        // Most columns have only numbers, so these are tried first.
-        if let Value::Int(n) = value {
-            if let Stored::Numbers(numbers) = &mut self.stored {
-                return push_number(numbers, *n);
-            }
+        match value {
+            Value::Int(n) => match &mut self.stored {
+                Stored::Numbers(numbers) if numbers.len() < numbers.capacity() => {
+                    numbers.push_reserved(*n);
+                    Ok(())
+                }
+                Stored::Numbers(_)
+                | Stored::Nullable(_)
+                | Stored::Values(_)
+                | Stored::Tagged(_) => self.push_other(alloc, value),
+            },
+            Value::Null | Value::Text(_) | Value::NoCase(_) => self.push_other(alloc, value),
         }
+    }
+
+    // As `push`, in each layout. It is called from two places, or the compiler would make it a part of loops over
+    // columns of numbers.
+    #[inline(never)]
+    fn push_other(&mut self, alloc: Global, value: &mut Value) -> Result<(), AllocError>
+        ensures pushed { OnOk result (self.new ≡ self.old ++ value.old ∷ []) }
+        ensures unchanged { OnErr result (self.new ≡ self.old) }
+    {
         match &mut self.stored {
-            Stored::Numbers(_) => self.stored.push_wide(alloc, self.apart, value),
+            Stored::Numbers(numbers) => match value {
+                Value::Int(n) => push_number(numbers, *n),
+                Value::Null | Value::Text(_) | Value::NoCase(_) => {
+                    self.stored.push_wide(alloc, self.apart, value)
+                }
+            },
             Stored::Nullable(numbers) => match number_of(value) {
                 Some(number) => push_nullable(numbers, number),
                 None => self.stored.push_wide(alloc, self.apart, value),
@@ -305,7 +349,7 @@ impl Cells {
         // All positions are within a list in memory, so this sum can't overflow.
         let _all = self.len();
         for i in 0..over.len() {
-            self.copy_to(alloc, start + i, &mut over[i])?;
+            self.copy_other_to(alloc, start + i, &mut over[i])?;
         }
         Ok(())
     }
