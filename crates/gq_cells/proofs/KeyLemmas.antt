@@ -1,6 +1,6 @@
 -- Keys of one width, and the words of their values.
-use Rattle.std.proofs.Common.{◌≡◌, ℕ, zero, suc, ◌+◌, ◌-◌, ◌*◌, ◌^◌, ◌≤◌, ◌<◌, ◌-ℤ◌, Bool, true, false, cond, List, [], ◌∷◌, ◌++◌, All, length, map, take, drop, pos, Some, None, refl, sym, ap, ◌∙◌, arith}
-use Rattle.std.specs.Prelude.{◌&&◌, Result, Ok, Err, OnOk, nat_lt, slice_index_or}
+use Rattle.std.proofs.Common.{◌≡◌, ℕ, zero, suc, ◌+◌, ◌-◌, ◌*◌, ◌^◌, ◌≤◌, ◌<◌, ◌-ℤ◌, Bool, true, false, cond, List, [], ◌∷◌, ◌++◌, All, length, map, take, drop, pos, Option, Some, None, refl, subst, sym, ap, ◌∙◌, arith}
+use Rattle.std.specs.Prelude.{◌&&◌, IfSome, Result, Ok, Err, OnOk, nat_lt, option_to_list, slice_index_or}
 use Rattle.std.specs.List.{slice_get}
 use Rattle.std.proofs.lemmas.Bool.Decides.{nat_tests}
 use Rattle.std.proofs.lemmas.List.{drop-drop, get_or-drop, get_or_append_left, length-drop, length-take-le, map-append, take-append-le, drop-append-le, take_all, take-map, drop-map}
@@ -8,79 +8,119 @@ use Rattle.std.proofs.lemmas.Option.{slice_get_past}
 use Rattle.std.proofs.lemmas.List.Elements.{All-cons, All-head, All-nil, All-tail}
 use Rattle.std.proofs.Math.Seq.{drop-cons, get_or-append_seam}
 use Rattle.gq_row.specs.declared.value.Value.{Value}
-use Rattle.gq_row.specs.declared.value.Value.TheVariants.{Int, Null}
+use Rattle.gq_row.specs.declared.value.Value.TheVariants.{Int, Null, Text}
 use Rattle.gq_row.specs.Order.{equal_value, same_key}
 use Rattle.gq_row.specs.Rows.{cell}
-use Rattle.gq_cells.specs.Keys.{AreInOrder, IsKeyWord, key_value, keys_in, values_in_order}
+use Rattle.gq_cells.specs.Keys.{AreInOrder, HasPlace, keys_in, values_in_order}
+use Rattle.gq_cells.specs.Words.{HasUtf8, is_index, text_in, word_value}
 
 -- ---- words in order
 
--- the words are the values that leave in order
-pub in_order : (from to : ℕ) (words : List ℕ) (overflow : List Value) → AreInOrder from words to → map (key_value overflow) words ≡ values_in_order words (drop from overflow)
-in_order from to [] overflow is = refl
-in_order from to (word ∷ words) overflow is = told (nat_lt word (2 ^ 63)) refl is.1 (λ m. in_order m to words overflow)
+-- a word that is no index has its value in any overflow
+own_anywhere : (overflow : List Value) (word : ℕ) → is_index word ≡ false → word_value overflow word ≡ word_value [] word
+own_anywhere overflow word = by_tests (nat_lt word (2 ^ 63)) (nat_lt word (3 * 2 ^ 62))
   where
-    told : (b : Bool) → nat_lt word (2 ^ 63) ≡ b → AreInOrder (cond b from (suc from)) words to
-        → ((m : ℕ) → AreInOrder m words to → map (key_value overflow) words ≡ values_in_order words (drop m overflow))
-        → cond b (Int (pos word -ℤ pos (2 ^ 62))) (slice_index_or overflow (word - 2 ^ 63) Null) ∷ map (key_value overflow) words
-        ≡ cond b (Int (pos word -ℤ pos (2 ^ 62)) ∷ values_in_order words (drop from overflow)) (slice_index_or (drop from overflow) 0 Null ∷ values_in_order words (drop 1 (drop from overflow)))
-    told true small rest later = ap (λ l. Int (pos word -ℤ pos (2 ^ 62)) ∷ l) (later from rest)
-    told false large rest later =
-        let place : word - 2 ^ 63 ≡ from + 0 = let at = is.0 (grind (arith, nat_tests)) in omega (arith, at) in
+    by_tests : (b c : Bool) → cond b false c ≡ false
+        → cond b (Int (pos word -ℤ pos (2 ^ 62))) (cond c (slice_index_or overflow (word - 2 ^ 63) Null) (Text (text_in word)))
+        ≡ cond b (Int (pos word -ℤ pos (2 ^ 62))) (cond c (slice_index_or [] (word - 2 ^ 63) Null) (Text (text_in word)))
+    by_tests true c is = refl
+    by_tests false true is = let bad : ⊥ = cc in absurd bad
+    by_tests false false is = refl
+
+-- one that is has that of its place
+value_there : (overflow : List Value) (word : ℕ) → is_index word ≡ true → word_value overflow word ≡ slice_index_or overflow (word - 2 ^ 63) Null
+value_there overflow word = by_tests (nat_lt word (2 ^ 63)) (nat_lt word (3 * 2 ^ 62))
+  where
+    by_tests : (b c : Bool) → cond b false c ≡ true
+        → cond b (Int (pos word -ℤ pos (2 ^ 62))) (cond c (slice_index_or overflow (word - 2 ^ 63) Null) (Text (text_in word))) ≡ slice_index_or overflow (word - 2 ^ 63) Null
+    by_tests true c is = let bad : ⊥ = cc in absurd bad
+    by_tests false true is = refl
+    by_tests false false is = let bad : ⊥ = cc in absurd bad
+
+-- the words are the values that leave in order
+pub in_order : (from to : ℕ) (words : List ℕ) (overflow : List Value) → AreInOrder from words to → map (word_value overflow) words ≡ values_in_order words (drop from overflow)
+in_order from to [] overflow is = refl
+in_order from to (word ∷ words) overflow is = told (is_index word) refl is.2 (λ m. in_order m to words overflow)
+  where
+    told : (b : Bool) → is_index word ≡ b → AreInOrder (cond b (suc from) from) words to
+        → ((m : ℕ) → AreInOrder m words to → map (word_value overflow) words ≡ values_in_order words (drop m overflow))
+        → word_value overflow word ∷ map (word_value overflow) words
+        ≡ cond b (slice_index_or (drop from overflow) 0 Null ∷ values_in_order words (drop 1 (drop from overflow))) (word_value [] word ∷ values_in_order words (drop from overflow))
+    told false own rest later = λ i. own_anywhere overflow word own i ∷ later from rest i
+    told true index rest later =
+        let place : word - 2 ^ 63 ≡ from + 0 = let at = is.0 index in omega (arith, at) in
         let more : drop (suc from) overflow ≡ drop 1 (drop from overflow) = ap (λ n. drop n overflow) (let next : suc from ≡ from + 1 = omega arith in next) ∙ sym (drop-drop 1 from overflow) in
-        λ i. (ap (λ n. slice_index_or overflow n Null) place ∙ sym (get_or-drop from overflow 0 Null)) i ∷ (later (suc from) rest ∙ ap (values_in_order words) more) i
+        λ i. (value_there overflow word index ∙ ap (λ n. slice_index_or overflow n Null) place ∙ sym (get_or-drop from overflow 0 Null)) i ∷ (later (suc from) rest ∙ ap (values_in_order words) more) i
 
 ordered_least : (from to : ℕ) (words : List ℕ) → AreInOrder from words to → from ≤ to
 ordered_least from to [] is = omega (arith, is)
-ordered_least from to (word ∷ words) is = told (nat_lt word (2 ^ 63)) (ordered_least (cond (nat_lt word (2 ^ 63)) from (suc from)) to words is.1)
+ordered_least from to (word ∷ words) is = told (is_index word) (ordered_least (cond (is_index word) (suc from) from) to words is.2)
   where
-    told : (b : Bool) → cond b from (suc from) ≤ to → from ≤ to
-    told true least = least
-    told false least = omega (arith, least)
+    told : (b : Bool) → cond b (suc from) from ≤ to → from ≤ to
+    told false least = least
+    told true least = omega (arith, least)
 
-pub ordered_words : (from to : ℕ) (words : List ℕ) → AreInOrder from words to → All (IsKeyWord to) words
-ordered_words from to [] is = All-nil (IsKeyWord to)
-ordered_words from to (word ∷ words) is = All-cons (IsKeyWord to) word words (first (nat_lt word (2 ^ 63)) refl is.1) (ordered_words (cond (nat_lt word (2 ^ 63)) from (suc from)) to words is.1)
+pub ordered_words : (from to : ℕ) (words : List ℕ) → AreInOrder from words to → All (HasPlace to) words
+ordered_words from to [] is = All-nil (HasPlace to)
+ordered_words from to (word ∷ words) is = All-cons (HasPlace to) word words (first (is_index word) refl is.2) (ordered_words (cond (is_index word) (suc from) from) to words is.2)
   where
-    first : (b : Bool) → nat_lt word (2 ^ 63) ≡ b → AreInOrder (cond b from (suc from)) words to → IsKeyWord to word
-    first true small rest = λ large. absurd (let less : word < 2 ^ 63 = grind (arith, nat_tests) in omega (arith, less, large))
-    first false test rest = λ large. let at = is.0 large in let least = ordered_least (suc from) to words rest in omega (arith, at, least)
+    first : (b : Bool) → is_index word ≡ b → AreInOrder (cond b (suc from) from) words to → HasPlace to word
+    first false test rest = λ index. let bad : ⊥ = cc in absurd bad
+    first true test rest = λ index. let at = is.0 index in let least = ordered_least (suc from) to words rest in omega (arith, at, least)
 
-pub ordered_number : (from to word : ℕ) (words : List ℕ) → word < 2 ^ 63 → AreInOrder from words to → AreInOrder from (words ++ word ∷ []) to
-ordered_number from to word [] small is =
-    let test : nat_lt word (2 ^ 63) ≡ true = grind (arith, nat_tests) in (λ large. absurd (omega (arith, small, large)), ap (λ b. cond b from (suc from)) test ∙ is)
-ordered_number from to word (w ∷ words) small is = (is.0, ordered_number (cond (nat_lt w (2 ^ 63)) from (suc from)) to word words small is.1)
+pub ordered_utf8 : (from to : ℕ) (words : List ℕ) → AreInOrder from words to → All HasUtf8 words
+ordered_utf8 from to [] is = All-nil HasUtf8
+ordered_utf8 from to (word ∷ words) is = All-cons HasUtf8 word words is.1 (ordered_utf8 (cond (is_index word) (suc from) from) to words is.2)
 
-pub ordered_index : (from to word : ℕ) (words : List ℕ) → word ≡ 2 ^ 63 + to → AreInOrder from words to → AreInOrder from (words ++ word ∷ []) (to + 1)
-ordered_index from to word [] at is =
-    let test : nat_lt word (2 ^ 63) ≡ false = grind (arith, nat_tests) in (λ large. omega (arith, at, is), ap (λ b. cond b from (suc from)) test ∙ (let one = is in omega (arith, one)))
-ordered_index from to word (w ∷ words) at is = (is.0, ordered_index (cond (nat_lt w (2 ^ 63)) from (suc from)) to word words at is.1)
+-- what is taken from words that are UTF-8 is, and so is what is left
+pub utf8_taken : (all rest : List ℕ) (first : Option ℕ) → all ≡ option_to_list first ++ rest → All HasUtf8 all → IfSome first HasUtf8 × All HasUtf8 rest
+utf8_taken all rest None is utf8 = (tt, subst (All HasUtf8) is utf8)
+utf8_taken all rest (Some word) is utf8 = let both = subst (All HasUtf8) is utf8 in (All-head HasUtf8 word rest both, All-tail HasUtf8 word rest both)
+
+pub ordered_own : (from to word : ℕ) (words : List ℕ) → is_index word ≡ false → HasUtf8 word → AreInOrder from words to → AreInOrder from (words ++ word ∷ []) to
+ordered_own from to word [] own utf8 is = (λ index. let bad : ⊥ = cc in absurd bad, utf8, ap (λ b. cond b (suc from) from) own ∙ is)
+ordered_own from to word (w ∷ words) own utf8 is = (is.0, is.1, ordered_own (cond (is_index w) (suc from) from) to word words own utf8 is.2)
+
+-- the last place has an index
+last_index : (to word : ℕ) → to < 2 ^ 62 → word ≡ 2 ^ 63 + to → is_index word ≡ true
+last_index to word few at =
+    let large : nat_lt word (2 ^ 63) ≡ false = grind (arith, nat_tests) in
+    let index : nat_lt word (3 * 2 ^ 62) ≡ true = grind (arith, nat_tests) in
+    λ i. cond (large i) false (index i)
+
+pub ordered_index : (from to word : ℕ) (words : List ℕ) → to < 2 ^ 62 → word ≡ 2 ^ 63 + to → AreInOrder from words to → AreInOrder from (words ++ word ∷ []) (to + 1)
+ordered_index from to word [] few at is =
+    (λ index. omega (arith, at, is), λ text. absurd (omega (arith, at, few, text)), ap (λ b. cond b (suc from) from) (last_index to word few at) ∙ (let one = is in omega (arith, one)))
+ordered_index from to word (w ∷ words) few at is = (is.0, is.1, ordered_index (cond (is_index w) (suc from) from) to word words few at is.2)
 
 -- what is appended to the overflow changes no value of a word
-kept_key : (overflow more : List Value) (word : ℕ) → IsKeyWord (length overflow) word → key_value (overflow ++ more) word ≡ key_value overflow word
-kept_key overflow more word is = by_test (nat_lt word (2 ^ 63)) (λ large. get_or_append_left overflow more Null (word - 2 ^ 63) (is (grind (arith, nat_tests))))
+kept_key : (overflow more : List Value) (word : ℕ) → HasPlace (length overflow) word → word_value (overflow ++ more) word ≡ word_value overflow word
+kept_key overflow more word is = told (is_index word) refl
   where
-    by_test : (b : Bool) → (b ≡ false → slice_index_or (overflow ++ more) (word - 2 ^ 63) Null ≡ slice_index_or overflow (word - 2 ^ 63) Null)
-        → cond b (Int (pos word -ℤ pos (2 ^ 62))) (slice_index_or (overflow ++ more) (word - 2 ^ 63) Null) ≡ cond b (Int (pos word -ℤ pos (2 ^ 62))) (slice_index_or overflow (word - 2 ^ 63) Null)
-    by_test true same = refl
-    by_test false same = same refl
+    told : (b : Bool) → is_index word ≡ b → word_value (overflow ++ more) word ≡ word_value overflow word
+    told false own = own_anywhere (overflow ++ more) word own ∙ sym (own_anywhere overflow word own)
+    told true index = value_there (overflow ++ more) word index ∙ get_or_append_left overflow more Null (word - 2 ^ 63) (is index) ∙ sym (value_there overflow word index)
 
-kept_keys : (overflow more : List Value) (words : List ℕ) → All (IsKeyWord (length overflow)) words → map (key_value (overflow ++ more)) words ≡ map (key_value overflow) words
+kept_keys : (overflow more : List Value) (words : List ℕ) → All (HasPlace (length overflow)) words → map (word_value (overflow ++ more)) words ≡ map (word_value overflow) words
 kept_keys overflow more [] all = refl
 kept_keys overflow more (word ∷ words) all = λ i.
-    kept_key overflow more word (All-head (IsKeyWord (length overflow)) word words all) i ∷ kept_keys overflow more words (All-tail (IsKeyWord (length overflow)) word words all) i
+    kept_key overflow more word (All-head (HasPlace (length overflow)) word words all) i ∷ kept_keys overflow more words (All-tail (HasPlace (length overflow)) word words all) i
 
 -- the word of the last of them
-last_key : (overflow : List Value) (value : Value) (word : ℕ) → word ≡ 2 ^ 63 + length overflow → key_value (overflow ++ value ∷ []) word ≡ value
-last_key overflow value word is =
-    let large : nat_lt word (2 ^ 63) ≡ false = grind (arith, nat_tests) in
+last_key : (overflow : List Value) (value : Value) (word : ℕ) → length overflow < 2 ^ 62 → word ≡ 2 ^ 63 + length overflow → word_value (overflow ++ value ∷ []) word ≡ value
+last_key overflow value word few is =
     let place : word - 2 ^ 63 ≡ length overflow = omega (arith, is) in
-    (λ i. cond (large i) (Int (pos word -ℤ pos (2 ^ 62))) (slice_index_or (overflow ++ value ∷ []) (place i) Null)) ∙ get_or-append_seam overflow value [] Null
+    value_there (overflow ++ value ∷ []) word (last_index (length overflow) word few is) ∙ (λ i. slice_index_or (overflow ++ value ∷ []) (place i) Null) ∙ get_or-append_seam overflow value [] Null
 
-pub key_pushed : (overflow : List Value) (value : Value) (words : List ℕ) (word : ℕ) → word ≡ 2 ^ 63 + length overflow → All (IsKeyWord (length overflow)) words
-    → map (key_value (overflow ++ value ∷ [])) (words ++ word ∷ []) ≡ map (key_value overflow) words ++ value ∷ []
-key_pushed overflow value words word is all =
-    map-append (key_value (overflow ++ value ∷ [])) words (word ∷ []) ∙ (λ i. kept_keys overflow (value ∷ []) words all i ++ last_key overflow value word is i ∷ [])
+pub key_pushed : (overflow : List Value) (value : Value) (words : List ℕ) (word : ℕ) → length overflow < 2 ^ 62 → word ≡ 2 ^ 63 + length overflow → All (HasPlace (length overflow)) words
+    → map (word_value (overflow ++ value ∷ [])) (words ++ word ∷ []) ≡ map (word_value overflow) words ++ value ∷ []
+key_pushed overflow value words word few is all =
+    map-append (word_value (overflow ++ value ∷ [])) words (word ∷ []) ∙ (λ i. kept_keys overflow (value ∷ []) words all i ++ last_key overflow value word few is i ∷ [])
+
+-- a word that takes no place
+pub own_key : (overflow : List Value) (words : List ℕ) (word : ℕ) → is_index word ≡ false
+    → map (word_value overflow) (words ++ word ∷ []) ≡ map (word_value overflow) words ++ word_value [] word ∷ []
+own_key overflow words word own = map-append (word_value overflow) words (word ∷ []) ∙ (λ i. map (word_value overflow) words ++ own_anywhere overflow word own i ∷ [])
 
 -- ---- keys
 
@@ -112,11 +152,11 @@ key_at width (suc n) (suc i) cells less =
 
 -- the words of the key at a number
 pub key_words : (width len position start : ℕ) (overflow : List Value) (words : List ℕ) → position < len → start ≡ position * width
-    → slice_get (keys_in width len (map (key_value overflow) words)) position ≡ Some (map (key_value overflow) (take width (drop start words)))
+    → slice_get (keys_in width len (map (word_value overflow) words)) position ≡ Some (map (word_value overflow) (take width (drop start words)))
 key_words width len position start overflow words less at =
-    key_at width len position (map (key_value overflow) words) less
-    ∙ ap (λ l. Some (take width l)) (ap (λ k. drop k (map (key_value overflow) words)) (sym at) ∙ drop-map (key_value overflow) start words)
-    ∙ ap (λ l. Some l) (take-map (key_value overflow) width (drop start words))
+    key_at width len position (map (word_value overflow) words) less
+    ∙ ap (λ l. Some (take width l)) (ap (λ k. drop k (map (word_value overflow) words)) (sym at) ∙ drop-map (word_value overflow) start words)
+    ∙ ap (λ l. Some l) (take-map (word_value overflow) width (drop start words))
 
 -- it has the width of all
 pub key_long : (width len position : ℕ) (words : List ℕ) → length words ≡ len * width → position < len → length (take width (drop (position * width) words)) ≡ width
@@ -133,12 +173,12 @@ no_key width len position cells past = slice_get_past (keys_in width len cells) 
 
 -- a key of one value
 pub same_alone : (overflow key : List Value) (words : List ℕ) (d : ℕ) → length key ≡ 1 → length words ≡ 1
-    → equal_value (cell key 0) (key_value overflow (slice_index_or words 0 d)) ≡ same_key key (map (key_value overflow) words)
+    → equal_value (cell key 0) (word_value overflow (slice_index_or words 0 d)) ≡ same_key key (map (word_value overflow) words)
 same_alone overflow [] words d one one' = absurd (omega (arith, one))
 same_alone overflow (k ∷ key) [] d one one' = absurd (omega (arith, one'))
 same_alone overflow (k ∷ k' ∷ key) (w ∷ words) d one one' = absurd (omega (arith, one))
 same_alone overflow (k ∷ []) (w ∷ w' ∷ words) d one one' = absurd (omega (arith, one'))
-same_alone overflow (k ∷ []) (w ∷ []) d one one' = and_true (equal_value k (key_value overflow w))
+same_alone overflow (k ∷ []) (w ∷ []) d one one' = and_true (equal_value k (word_value overflow w))
   where
     and_true : (b : Bool) → b ≡ (b && true)
     and_true true = refl
@@ -170,8 +210,8 @@ first_room width n m cells is all = let more : (m + 1) * width ≡ m * width + w
 
 -- a key one value after another
 pub same_step : (overflow key : List Value) (words : List ℕ) (i d : ℕ) → i < length key → i < length words
-    → same_key (drop i key) (map (key_value overflow) (drop i words)) ≡ (equal_value (cell key i) (key_value overflow (slice_index_or words i d)) && same_key (drop (suc i) key) (map (key_value overflow) (drop (suc i) words)))
-same_step overflow key words i d less less' = λ z. same_key (drop-cons key i Null less z) (map (key_value overflow) (drop-cons words i d less' z))
+    → same_key (drop i key) (map (word_value overflow) (drop i words)) ≡ (equal_value (cell key i) (word_value overflow (slice_index_or words i d)) && same_key (drop (suc i) key) (map (word_value overflow) (drop (suc i) words)))
+same_step overflow key words i d less less' = λ z. same_key (drop-cons key i Null less z) (map (word_value overflow) (drop-cons words i d less' z))
 
 -- one value after another
 value_taken : {X : Type 0} (xs : List X) (i : ℕ) (x : X) (rest : List X) → drop i xs ≡ x ∷ rest → (take (suc i) xs ≡ take i xs ++ x ∷ []) × (drop (suc i) xs ≡ rest)

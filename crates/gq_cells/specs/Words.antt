@@ -22,6 +22,10 @@ text_in word = short_in (to_be_bytes w64 word)
 abbrev pub word_value : List Value → ℕ → Value
 word_value overflow word = cond (nat_lt word (2 ^ 63)) (Int (pos word -ℤ pos (2 ^ 62))) (cond (nat_lt word (3 * 2 ^ 62)) (slice_index_or overflow (word - 2 ^ 63) Null) (Text (text_in word)))
 
+-- a word is an index
+abbrev pub is_index : ℕ → Bool
+is_index word = cond (nat_lt word (2 ^ 63)) false (nat_lt word (3 * 2 ^ 62))
+
 -- if a word is a text, its bytes are UTF-8
 abbrev pub HasUtf8 : ℕ → Type 0
 HasUtf8 word = 3 * 2 ^ 62 ≤ word → IsValid (text_in word)

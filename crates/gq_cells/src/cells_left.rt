@@ -1,10 +1,11 @@
 //! Values that leave a list one by one.
-ghost use Rattle.std.specs.Prelude.{◌≡◌, ◌<◌, ◌^◌, ◌++◌, ◌∷◌, ◌-ℤ◌, [], OnErr, OnOk, drop, length, map, pos, slice_index_or, take};
+ghost use Rattle.std.specs.Prelude.{◌≡◌, ◌<◌, ◌++◌, ◌∷◌, [], All, IfNone, IfSome, OnErr, OnOk, drop, length, map, option_to_list, slice_index_or, take};
 ghost use Rattle.std.specs.Vec.Iter.{into_iter_items};
-ghost use Rattle.gq_row.specs.declared.value.Value.TheVariants.{Int, Null};
-ghost use Rattle.gq_cells.specs.Keys.{AreInOrder, key_value};
+ghost use Rattle.gq_row.specs.declared.value.Value.TheVariants.{Null};
+ghost use Rattle.gq_cells.specs.Keys.{AreInOrder};
+ghost use Rattle.gq_cells.specs.Words.{HasUtf8, word_value};
 
-use crate::tagged_cells::{OVERFLOW, TaggedCells, ZERO};
+use crate::tagged_cells::{OVERFLOW, TEXT, TaggedCells, own_value};
 use gq_row::Value;
 use std::alloc::AllocError;
 use std::marker::Model;
@@ -19,20 +20,23 @@ pub(crate) struct CellsLeft {
 }
 
 impl Model for CellsLeft {
-    ghost use Rattle.std.specs.Prelude.{List};
+    ghost use Rattle.std.specs.Prelude.{List, All};
     ghost use Rattle.std.specs.Vec.Iter.{into_iter_items};
     ghost use Rattle.gq_row.specs.declared.value.Value.{Value as Cell};
     ghost use Rattle.gq_cells.specs.Keys.{values_in_order};
+    ghost use Rattle.gq_cells.specs.Words.{HasUtf8};
 
     ghost Value = { List Cell };
 
     ghost view = { λ c. values_in_order (into_iter_items c.words) (into_iter_items c.overflow) };
+
+    ghost invariant = { λ c. All HasUtf8 (into_iter_items c.words) };
 }
 
 impl CellsLeft {
     pub(crate) fn new(words: Vec<u64>, overflow: Vec<Value>) -> CellsLeft
         requires { AreInOrder 0 words.items (length overflow.items) }
-        ensures { result ≡ map (key_value overflow.items) words.items }
+        ensures { result ≡ map (word_value overflow.items) words.items }
     {
         CellsLeft {
             words: words.into_iter(),
@@ -46,13 +50,13 @@ impl CellsLeft {
         requires { 0 < length self.old }
         ensures { self.old ≡ result ∷ self.new }
     {
-        match self.words.next() {
-            Some(word) if word < OVERFLOW => Value::Int(word as i64 - ZERO),
+        match next_word(&mut self.words) {
+            Some(word) if word < OVERFLOW || word >= TEXT => own_value(word),
             _ => next_or_null(&mut self.overflow),
         }
     }
 
-    // Moves the first value to the end of a list. A number takes no `Value`.
+    // Moves the first value to the end of a list. A number or a short text takes no `Value`.
     #[inline(always)]
     pub(crate) fn move_to(&mut self, cells: &mut TaggedCells) -> Result<(), AllocError>
         requires { 0 < length self.old }
@@ -60,11 +64,23 @@ impl CellsLeft {
         ensures unchanged { OnErr result (cells.new ≡ cells.old) }
         ensures left { self.new ≡ drop 1 self.old }
     {
-        match self.words.next() {
-            Some(word) if word < OVERFLOW => cells.push_word(word),
+        match next_word(&mut self.words) {
+            Some(word) if word < OVERFLOW || word >= TEXT => cells.push_word(word),
             _ => cells.push(&mut next_or_null(&mut self.overflow)),
         }
     }
+}
+
+// The next word.
+#[inline(always)]
+fn next_word(words: &mut vec::IntoIter<u64>) -> Option<u64>
+    requires { All HasUtf8 (into_iter_items words.old) }
+    ensures taken { into_iter_items words.old ≡ option_to_list result ++ into_iter_items words.new }
+    ensures end { IfNone result (into_iter_items words.old ≡ []) }
+    ensures utf8 { IfSome result HasUtf8 }
+    ensures left { All HasUtf8 (into_iter_items words.new) }
+{
+    words.next()
 }
 
 // The next value, or null after the last one.

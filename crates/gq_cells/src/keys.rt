@@ -1,20 +1,22 @@
 //! Keys of one width in one list.
-ghost use Rattle.std.specs.Prelude.{◌≡◌, ◌+◌, ◌<◌, ◌++◌, ◌∷◌, [], IfOk, OnErr, OnOk, drop, length, map, slice_index_or, take};
+ghost use Rattle.std.specs.Prelude.{◌≡◌, ◌+◌, ◌<◌, ◌++◌, ◌∷◌, [], false, All, IfOk, IfSome, OnErr, OnOk, drop, length, map, slice_index_or, take};
 ghost use Rattle.std.specs.List.{slice_get};
 ghost use Rattle.gq_row.specs.Order.{equal_value, same_key};
 ghost use Rattle.gq_row.specs.Rows.{cell};
-ghost use Rattle.gq_cells.specs.Keys.{AreInOrder, is_same, key_value};
+ghost use Rattle.gq_cells.specs.Keys.{AreInOrder, is_same};
+ghost use Rattle.gq_cells.specs.Words.{HasUtf8, is_index, word_value};
 
 use crate::cells_left::CellsLeft;
-use crate::tagged_cells::{OVERFLOW, ZERO, word_of_number};
+use crate::tagged_cells::{OVERFLOW, TEXT, ZERO, own_value, word_of_number, word_of_place, word_of_text};
 use gq_row::{Key, KeyRef, Value};
 use std::alloc::{AllocError, Global};
 use std::marker::Model;
 
-/// Keys of one width, one after the other. A number takes eight bytes, and any other value a [`Value`] more.
+/// Keys of one width, one after the other. A number or a text of up to seven bytes takes eight bytes, and any other
+/// value a [`Value`] more.
 #[derive(Drop)]
 pub struct Keys {
-    // Below 2^63 an integer biased by 2^62, else an index into `overflow`, biased by 2^63.
+    // As the words of `TaggedCells`, but those that are indices are in the order of `overflow`.
     words: Vec<u64>,
     overflow: Vec<Value>,
     width: usize,
@@ -25,11 +27,12 @@ pub struct Keys {
 impl Model for Keys {
     ghost use Rattle.std.specs.Prelude.{List, map};
     ghost use Rattle.gq_row.specs.declared.value.Value.{Value as Cell};
-    ghost use Rattle.gq_cells.specs.Keys.{AreKeys, key_value, keys_in};
+    ghost use Rattle.gq_cells.specs.Keys.{AreKeys, keys_in};
+    ghost use Rattle.gq_cells.specs.Words.{word_value};
 
     ghost Value = { List (List Cell) };
 
-    ghost view = { λ k. keys_in k.width k.len (map (key_value k.overflow.items) k.words.items) };
+    ghost view = { λ k. keys_in k.width k.len (map (word_value k.overflow.items) k.words.items) };
 
     ghost invariant = { λ k. AreKeys k.width k.len k.words.items k.overflow.items };
 }
@@ -56,7 +59,7 @@ impl Keys {
         self.len
     }
 
-    /// Reserves room for this number of keys, if memory allows and all their values are numbers.
+    /// Reserves room for this number of keys, if memory allows and all their values have words.
     pub fn expect(&mut self, keys: usize)
         ensures { self.new ≡ self.old }
     {
@@ -115,8 +118,9 @@ impl Keys {
 // Whether the values of words are those of a key.
 #[inline(always)]
 fn has_values(words: &[u64], overflow: &[Value], key: &KeyRef<'_>) -> bool
-    requires { length words.now ≡ length key.now }
-    ensures { result ≡ same_key key.now (map (key_value overflow.now) words.now) }
+    requires long { length words.now ≡ length key.now }
+    requires utf8 { All HasUtf8 words.now }
+    ensures { result ≡ same_key key.now (map (word_value overflow.now) words.now) }
 {
     if words.len() == 1 {
         return has_value(words[0], overflow, key, 0);
@@ -127,8 +131,9 @@ fn has_values(words: &[u64], overflow: &[Value], key: &KeyRef<'_>) -> bool
 // As `has_values`. Not inlined, so that look-ups of single values stay short.
 #[inline(never)]
 fn has_each(words: &[u64], overflow: &[Value], key: &KeyRef<'_>) -> bool
-    requires { length words.now ≡ length key.now }
-    ensures { result ≡ same_key key.now (map (key_value overflow.now) words.now) }
+    requires long { length words.now ≡ length key.now }
+    requires utf8 { All HasUtf8 words.now }
+    ensures { result ≡ same_key key.now (map (word_value overflow.now) words.now) }
 {
     for i in 0..words.len() {
         if !has_value(words[i], overflow, key, i) {
@@ -141,8 +146,9 @@ fn has_each(words: &[u64], overflow: &[Value], key: &KeyRef<'_>) -> bool
 // Whether the value of a word is that of a key at a position. A number takes no `Value`.
 #[inline(always)]
 fn has_value(word: u64, overflow: &[Value], key: &KeyRef<'_>, position: usize) -> bool
-    requires { position < length key.now }
-    ensures { result ≡ equal_value (cell key.now position) (key_value overflow.now word) }
+    requires position { position < length key.now }
+    requires utf8 { HasUtf8 word }
+    ensures { result ≡ equal_value (cell key.now position) (word_value overflow.now word) }
 {
     if word < OVERFLOW {
         return match key.number(position) {
@@ -150,10 +156,29 @@ fn has_value(word: u64, overflow: &[Value], key: &KeyRef<'_>, position: usize) -
             None => false,
         };
     }
+    if word >= TEXT {
+        return has_text(word, key, position);
+    }
     match overflow.get((word - OVERFLOW) as usize) {
         Some(value) => key.has(position, value),
         None => key.has(position, &Value::Null),
     }
+}
+
+// Whether the text in a word is that of a key at a position. One that is takes no `Value`.
+#[inline(always)]
+fn has_text(word: u64, key: &KeyRef<'_>, position: usize) -> bool
+    requires position { position < length key.now }
+    requires utf8 { HasUtf8 word }
+    ensures { result ≡ equal_value (cell key.now position) (word_value [] word) }
+{
+    if let Some(text) = key.text(position)
+        && let Some(own) = word_of_text(text)
+        && own == word
+    {
+        return true;
+    }
+    key.has(position, &own_value(word))
 }
 
 // Appends the values of a key. What was there stays whatever the outcome.
@@ -165,8 +190,8 @@ fn push_values(
     overflow: &mut Vec<Value>,
 ) -> Result<(), AllocError>
     requires { AreInOrder 0 words.old.items (length overflow.old.items) }
-    ensures pushed { OnOk result (map (key_value overflow.new.items) words.new.items ≡
-        map (key_value overflow.old.items) words.old.items ++ key.now) }
+    ensures pushed { OnOk result (map (word_value overflow.new.items) words.new.items ≡
+        map (word_value overflow.old.items) words.old.items ++ key.now) }
     ensures ordered { OnOk result (AreInOrder 0 words.new.items (length overflow.new.items)) }
     ensures words { take (length words.old.items) words.new.items ≡ words.old.items }
     ensures overflow { take (length overflow.old.items) overflow.new.items ≡ overflow.old.items }
@@ -188,23 +213,34 @@ fn push_value(
 ) -> Result<(), AllocError>
     requires position { position < length key.now }
     requires ordered { AreInOrder 0 words.old.items (length overflow.old.items) }
-    ensures pushed { OnOk result (map (key_value overflow.new.items) words.new.items ≡
-        map (key_value overflow.old.items) words.old.items ++ cell key.now position ∷ []) }
+    ensures pushed { OnOk result (map (word_value overflow.new.items) words.new.items ≡
+        map (word_value overflow.old.items) words.old.items ++ cell key.now position ∷ []) }
     ensures ordered { OnOk result (AreInOrder 0 words.new.items (length overflow.new.items)) }
     ensures words { words.new.items ≡ words.old.items ++ drop (length words.old.items) words.new.items }
     ensures overflow { overflow.new.items ≡
         overflow.old.items ++ drop (length overflow.old.items) overflow.new.items }
 {
-    if let Some(n) = key.number(position)
-        && let Some(word) = word_of_number(n)
-    {
+    if let Some(word) = own_word(key, position) {
         words.push(word)?;
         return Ok(());
     }
-    let place = overflow.len() as u64;
+    let word = word_of_place(overflow.len())?;
     key.push_to(alloc, position, overflow)?;
-    words.push(OVERFLOW + place)?;
+    words.push(word)?;
     Ok(())
+}
+
+// The word of the value of a key at a position, if it takes no place in the overflow.
+#[inline(always)]
+fn own_word(key: &KeyRef<'_>, position: usize) -> Option<u64>
+    requires { position < length key.now }
+    ensures word { IfSome result (λ word. (is_index word ≡ false) × HasUtf8 word) }
+    ensures value { IfSome result (λ word. word_value [] word ≡ cell key.now position) }
+{
+    match key.number(position) {
+        Some(n) => word_of_number(n),
+        None => word_of_text(key.text(position)?),
+    }
 }
 
 /// Keys that leave a list one by one.

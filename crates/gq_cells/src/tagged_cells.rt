@@ -37,7 +37,7 @@ pub(crate) const OVERFLOW: u64 = 1 << 63;
 const NULL: u64 = (3 << 62) - 1;
 
 // The word of the empty text. The highest byte of a text's word has its length too, and the text follows.
-const TEXT: u64 = 3 << 62;
+pub(crate) const TEXT: u64 = 3 << 62;
 
 impl Model for TaggedCells {
     ghost use Rattle.std.specs.Prelude.{List, length, map};
@@ -233,7 +233,7 @@ pub(crate) fn word_of(value: &Value) -> Option<u64>
 
 // The word of a text, if it fits in one.
 #[inline(always)]
-fn word_of_text(text: &Text) -> Option<u64>
+pub(crate) fn word_of_text(text: &Text) -> Option<u64>
     ensures word { IfSome result (λ word. 3 * 2 ^ 62 ≤ word) }
     ensures text { IfSome result (λ word. text_in word ≡ text.now) }
     ensures utf8 { IfSome result HasUtf8 }
@@ -244,7 +244,7 @@ fn word_of_text(text: &Text) -> Option<u64>
 
 // The word of a place in the overflow. A place from 2^62 - 1 on counts as out of memory.
 #[inline(always)]
-fn word_of_place(place: usize) -> Result<u64, AllocError>
+pub(crate) fn word_of_place(place: usize) -> Result<u64, AllocError>
     ensures word { IfOk result (λ word. (place + 1 < 2 ^ 62) × (word ≡ 2 ^ 63 + place)) }
     ensures fits { place + 1 < 2 ^ 62 → IsOk result }
 {
@@ -353,7 +353,7 @@ fn compare_other(x: u64, y: u64, overflow: &[Value], by_folds: bool) -> Ordering
 }
 
 // The number or the text in a word, or null if the word is an index.
-fn own_value(word: u64) -> Value
+pub(crate) fn own_value(word: u64) -> Value
     requires { HasUtf8 word }
     ensures { result ≡ word_value [] word }
 {

@@ -2,6 +2,7 @@
 ghost use Rattle.std.specs.Prelude.{◌≡◌, ◌++◌, ◌∷◌, ◌<◌, ◌%◌, ◌^◌, [], ℤ, All, IfNone, IfSome, OnErr, OnOk, length, map, fold};
 ghost use Rattle.std.specs.Int.{w32, to_be_bytes};
 ghost use Rattle.gq_row.specs.declared.value.Value.TheVariants.{Int};
+ghost use Rattle.gq_row.specs.declared.value.Value.TheVariants as variant;
 ghost use Rattle.gq_row.specs.Folding.{fold_case, folded};
 ghost use Rattle.gq_row.specs.Classes.{class_of, bytes_of, words_of_class, spelling, spelled, tag_of};
 ghost use Rattle.gq_row.specs.Order.{equal_value, same_key};
@@ -86,6 +87,18 @@ impl<'a> KeyRef<'a> {
         ensures none { IfNone result ((n : ℤ) → cell self.now position ≡ Int n → ⊥) }
     {
         number_of(self.value(position))
+    }
+
+    /// The text at a position, if the value there is one with case.
+    #[inline(always)]
+    pub fn text(&self, position: usize) -> Option<&Text>
+        requires { position < length self.now }
+        ensures { IfSome result (λ text. cell self.now position ≡ variant.Text text.now) }
+    {
+        match self.value(position) {
+            Value::Text(text) => Some(text),
+            Value::Null | Value::Int(_) | Value::NoCase(_) => None,
+        }
     }
 
     /// Whether the value at a position is equal to another.
