@@ -142,7 +142,7 @@ push_next width (suc n) cells key whole long =
 pub keys_push : (width n m : ℕ) (cells key : List Value) → m ≡ n + 1 → length cells ≡ n * width → length key ≡ width → keys_in width m (cells ++ key) ≡ keys_in width n cells ++ key ∷ []
 keys_push width n m cells key is whole long = ap (λ k. keys_in width k (cells ++ key)) (let next : m ≡ suc n = omega (arith, is) in next) ∙ push_next width n cells key whole long
 
--- the key at a number, and behind the last one
+-- the key at a number, and after the last one
 pub key_at : (width n i : ℕ) (cells : List Value) → i < n → slice_get (keys_in width n cells) i ≡ Some (take width (drop (i * width) cells))
 key_at width zero i cells less = absurd (omega (arith, less))
 key_at width (suc n) zero cells less = ap (λ k. Some (take width (drop k cells))) (let none : 0 ≡ 0 * width = omega arith in none)

@@ -91,27 +91,27 @@ own_pushed overflow words word few is = map-append (word_value overflow) words (
 -- it is a word whatever places there are
 own_word : (places word : ℕ) → IsWord 0 word → IsWord places word
 own_word places word is = record {
-    within = λ low high. let there : word - 2 ^ 63 < 0 = is.within low high in absurd (omega (arith, there));
-    utf8 = is.utf8;
-  }
+  within = λ low high. let there : word - 2 ^ 63 < 0 = is.within low high in absurd (omega (arith, there));
+  utf8 = is.utf8;
+}
 
 pub own_with : (places : ℕ) (words : List ℕ) (word : ℕ) → IsWord 0 word → AreWords places words → AreWords places (words ++ word ∷ [])
 own_with places words word is all = record {
-    all = All-push (IsWord places) words word all.all (own_word places word is);
-    few = all.few;
-  }
+  all = All-push (IsWord places) words word all.all (own_word places word is);
+  few = all.few;
+}
 
 -- words without places after others
 pub words_appended : (overflow none : List Value) (words more : List ℕ) → length none ≡ 0 → AreWords (length overflow) words → AreWords (length none) more
     → (AreWords (length overflow) (words ++ more)) × (map (word_value overflow) (words ++ more) ≡ map (word_value overflow) words ++ map (word_value none) more)
 words_appended overflow (value ∷ none) words more empty all others = absurd (omega (arith, empty))
 words_appended overflow [] words more empty all others = (
-    record {
-      all = All-append (IsWord (length overflow)) words more all.all (λ k d lt. own_word (length overflow) (get_or more k d) (others.all k d lt));
-      few = all.few;
-    },
-    map-append (word_value overflow) words more ∙ (λ i. map (word_value overflow) words ++ kept_words [] overflow more all.few others.all i),
-  )
+  record {
+    all = All-append (IsWord (length overflow)) words more all.all (λ k d lt. own_word (length overflow) (get_or more k d) (others.all k d lt));
+    few = all.few;
+  },
+  map-append (word_value overflow) words more ∙ (λ i. map (word_value overflow) words ++ kept_words [] overflow more all.few others.all i),
+)
 
 -- the values of a part of the words
 pub words_at : (overflow : List Value) (words : List ℕ) (all : List Value) (s : Span) → map (word_value overflow) words ≡ all → map (word_value overflow) (part words s.start s.end) ≡ row_at all s

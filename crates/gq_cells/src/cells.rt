@@ -173,9 +173,8 @@ impl Cells {
                 over.write_number(numbers[position]);
                 Ok(())
             }
-            Stored::Nullable(_) | Stored::Values(_) | Stored::Tagged(_) => {
-                self.copy_other_to(alloc, position, over)
-            }
+            Stored::Values(values) => over.copy_from(alloc, &values[position]),
+            Stored::Nullable(_) | Stored::Tagged(_) => self.copy_other_to(alloc, position, over),
         }
     }
 
@@ -217,10 +216,8 @@ impl Cells {
                     numbers.push_reserved(*n);
                     Ok(())
                 }
-                Stored::Numbers(_)
-                | Stored::Nullable(_)
-                | Stored::Values(_)
-                | Stored::Tagged(_) => self.push_other(alloc, value),
+                Stored::Numbers(_) | Stored::Nullable(_) | Stored::Values(_) | Stored::Tagged(_) =>
+                    self.push_other(alloc, value),
             },
             Value::Null | Value::Text(_) | Value::NoCase(_) => self.push_other(alloc, value),
         }
@@ -422,7 +419,7 @@ impl Stored {
                     self.admit_texts(alloc)?;
                 }
                 match self {
-                    Stored::Values(values) => push_value(values, value),
+                    Stored::Values(values) => push_growing(values, value),
                     Stored::Tagged(values) => values.push(value),
                     _ => unreachable!(),
                 }
@@ -561,6 +558,19 @@ fn push_nullable(numbers: &mut Vec<Option<i64>>, number: Option<i64>) -> Result<
 
 #[inline(always)]
 pub(crate) fn push_value(values: &mut Vec<Value>, value: &mut Value) -> Result<(), AllocError>
+    ensures pushed { OnOk result (values.new.items ≡ values.old.items ++ value.old ∷ []) }
+    ensures unchanged { OnErr result (values.new.items ≡ values.old.items) }
+{
+    if values.len() < values.capacity() {
+        values.push_reserved(mem::replace(value, Value::Null));
+        return Ok(());
+    }
+    push_growing(values, value)
+}
+
+// As `push_value`, to a vector that may be full. It is called from two places, for the same reason as `push_other`.
+#[inline(never)]
+fn push_growing(values: &mut Vec<Value>, value: &mut Value) -> Result<(), AllocError>
     ensures pushed { OnOk result (values.new.items ≡ values.old.items ++ value.old ∷ []) }
     ensures unchanged { OnErr result (values.new.items ≡ values.old.items) }
 {

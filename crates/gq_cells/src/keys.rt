@@ -7,7 +7,9 @@ ghost use Rattle.gq_cells.specs.Keys.{AreInOrder, is_same};
 ghost use Rattle.gq_cells.specs.Words.{HasUtf8, is_index, word_value};
 
 use crate::cells_left::CellsLeft;
-use crate::tagged_cells::{OVERFLOW, TEXT, ZERO, own_value, word_of_number, word_of_place, word_of_text};
+use crate::tagged_cells::{
+    OVERFLOW, TEXT, ZERO, own_value, word_of_number, word_of_place, word_of_text,
+};
 use gq_row::{Key, KeyRef, Value};
 use std::alloc::{AllocError, Global};
 use std::marker::Model;
