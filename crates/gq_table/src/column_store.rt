@@ -12,7 +12,8 @@ use std::marker::Model;
 use std::mem;
 
 /// Rows of one width, seen as the list of rows. Their cells are stored by columns: a row takes no more than its
-/// cells, and a column of numbers a quarter of what it takes as values, or half if it has nulls.
+/// cells, and a column of numbers, or of texts of up to seven bytes, a quarter of what it takes as values; numbers
+/// with nulls take half.
 #[derive(Drop)]
 pub struct ColumnStore {
     columns: Vec<Cells>,
