@@ -20,6 +20,9 @@ FILES = {
     "bytes.csv": b"a\n\xff\n",
     "short.csv": "a,b,c\n1,2,3\n4\n5,6,7,8\n",
     "ragged.csv": "a,b,c\n1,x,3\n4\n",
+    "words.csv": "n,w\n1,abcdefg\n2,\n3,é\n4,\\N\n5,abc\n6,abcdefg\n7,abcdefgh\n8,abcdefg\n9,\\N\n",
+    "brief.csv": "n,w\n1,abcdefg\n2,\n3,é\n4,\\N\n5,abc\n6,abcdefg\n",
+    "more.csv": "n,w\n10,abc\n11,\\N\n12,\n",
 }
 def lines(*values: object) -> str:
     """One value a line."""
@@ -193,6 +196,18 @@ def several_files() -> list[Case]:
             ["-t", "log (x int, y text)=a.csv", "-t", "log (x int, y text)=b.csv", "-c", "show log"],
             status=1,
             stderr=Contains("groupsh: b.csv: err 4 TableExists"),
+            files=FILES,
+        ),
+        Case(
+            "short texts and nulls in two files",
+            ["-t", "t=brief.csv", "-t", "t=more.csv", "-c", "group t by w show count(*), sum(n)"],
+            stdout="ok 5\nw,count(*),sum(n)\n\\N,2,15\n,2,14\nabc,2,15\nabcdefg,2,7\né,1,3\n",
+            files=FILES,
+        ),
+        Case(
+            "a longer text after short ones, in two files",
+            ["-t", "t=words.csv", "-t", "t=more.csv", "-c", "group t by w show count(*), sum(n)"],
+            stdout="ok 6\nw,count(*),sum(n)\n\\N,3,24\n,2,14\nabc,2,15\nabcdefg,3,15\nabcdefgh,1,7\né,1,3\n",
             files=FILES,
         ),
         Case(
