@@ -1,5 +1,5 @@
 //! Keys as the keys of maps: the bytes that are hashed of them, and borrowed forms.
-ghost use Rattle.std.specs.Prelude.{◌≡◌, ◌++◌, ◌∷◌, ◌<◌, ◌%◌, ◌^◌, [], ℤ, All, IfNone, IfSome, OnErr, OnOk, length, map, fold};
+ghost use Rattle.std.specs.Prelude.{◌≡◌, ◌++◌, ◌∷◌, ◌<◌, ◌%◌, ◌^◌, [], ℕ, ℤ, List, All, IfNone, IfSome, OnErr, OnOk, length, map, fold};
 ghost use Rattle.std.specs.Int.{w32, to_be_bytes};
 ghost use Rattle.gq_row.specs.declared.value.Value.TheVariants.{Int};
 ghost use Rattle.gq_row.specs.declared.value.Value.TheVariants as variant;
@@ -93,7 +93,8 @@ impl<'a> KeyRef<'a> {
     #[inline(always)]
     pub fn text(&self, position: usize) -> Option<&Text>
         requires { position < length self.now }
-        ensures { IfSome result (λ text. cell self.now position ≡ variant.Text text.now) }
+        ensures some { IfSome result (λ text. cell self.now position ≡ variant.Text text.now) }
+        ensures none { IfNone result ((text : List ℕ) → cell self.now position ≡ variant.Text text → ⊥) }
     {
         match self.value(position) {
             Value::Text(text) => Some(text),
