@@ -3,20 +3,20 @@ use Rattle.std.proofs.Common.{◌≡◌, ℕ, zero, suc, ◌+◌, ◌-◌, ◌*�
 use Rattle.std.specs.Prelude.{◌&&◌, IfSome, Result, Ok, Err, OnOk, nat_lt, option_to_list, slice_index_or}
 use Rattle.std.specs.List.{slice_get}
 use Rattle.std.proofs.lemmas.Bool.Decides.{nat_tests}
-use Rattle.std.proofs.lemmas.List.{drop-drop, get_or-drop, get_or_append_left, length-drop, length-take-le, map-append, take-append-le, drop-append-le, take_all, take-map, drop-map}
+use Rattle.std.proofs.lemmas.List.{drop-drop, get_or-drop, length-drop, length-take-le, map-append, take-append-le, drop-append-le, take_all, take-map, drop-map}
 use Rattle.std.proofs.lemmas.Option.{slice_get_past}
 use Rattle.std.proofs.lemmas.List.Elements.{All-cons, All-head, All-nil, All-tail}
-use Rattle.std.proofs.Math.Seq.{drop-cons, get_or-append_seam}
+use Rattle.std.proofs.Math.Seq.{drop-cons}
 use Rattle.gq_row.specs.declared.value.Value.{Value}
 use Rattle.gq_row.specs.declared.value.Value.TheVariants.{Int, Null, Text}
 use Rattle.gq_row.specs.Order.{equal_value, same_key}
 use Rattle.gq_row.specs.Rows.{cell}
-use Rattle.gq_cells.specs.Keys.{AreInOrder, HasPlace, keys_in, values_in_order}
-use Rattle.gq_cells.specs.Words.{HasUtf8, is_index, text_in, word_value}
+use Rattle.gq_cells.specs.Keys.{AreInOrder, keys_in, values_in_order}
+use Rattle.gq_cells.specs.Words.{HasUtf8, IsWord, is_index, text_in, word_value}
 
 -- ---- words in order
 
--- a word that is no index has its value in any overflow
+-- a word that isn't an index has the same value with any overflow
 own_anywhere : (overflow : List Value) (word : ℕ) → is_index word ≡ false → word_value overflow word ≡ word_value [] word
 own_anywhere overflow word = by_tests (nat_lt word (2 ^ 63)) (nat_lt word (3 * 2 ^ 62))
   where
@@ -27,7 +27,7 @@ own_anywhere overflow word = by_tests (nat_lt word (2 ^ 63)) (nat_lt word (3 * 2
     by_tests false true is = let bad : ⊥ = cc in absurd bad
     by_tests false false is = refl
 
--- one that is has that of its place
+-- an index has the value at its place
 value_there : (overflow : List Value) (word : ℕ) → is_index word ≡ true → word_value overflow word ≡ slice_index_or overflow (word - 2 ^ 63) Null
 value_there overflow word = by_tests (nat_lt word (2 ^ 63)) (nat_lt word (3 * 2 ^ 62))
   where
@@ -60,19 +60,33 @@ ordered_least from to (word ∷ words) is = told (is_index word) (ordered_least 
     told false least = least
     told true least = omega (arith, least)
 
-pub ordered_words : (from to : ℕ) (words : List ℕ) → AreInOrder from words to → All (HasPlace to) words
-ordered_words from to [] is = All-nil (HasPlace to)
-ordered_words from to (word ∷ words) is = All-cons (HasPlace to) word words (first (is_index word) refl is.2) (ordered_words (cond (is_index word) (suc from) from) to words is.2)
+-- a word from the first index up to the last one but null is an index
+not_index : (word : ℕ) → 2 ^ 63 ≤ word → word + 1 < 3 * 2 ^ 62 → is_index word ≡ false → ⊥
+not_index word low high = by_tests (nat_lt word (2 ^ 63)) (nat_lt word (3 * 2 ^ 62)) refl refl
   where
-    first : (b : Bool) → is_index word ≡ b → AreInOrder (cond b (suc from) from) words to → HasPlace to word
-    first false test rest = λ index. let bad : ⊥ = cc in absurd bad
-    first true test rest = λ index. let at = is.0 index in let least = ordered_least (suc from) to words rest in omega (arith, at, least)
+    by_tests : (b c : Bool) → nat_lt word (2 ^ 63) ≡ b → nat_lt word (3 * 2 ^ 62) ≡ c → cond b false c ≡ false → ⊥
+    by_tests true c small index is = grind (arith, nat_tests)
+    by_tests false true small index is = cc
+    by_tests false false small index is = grind (arith, nat_tests)
+
+pub ordered_words : (from to : ℕ) (words : List ℕ) → AreInOrder from words to → All (IsWord to) words
+ordered_words from to [] is = All-nil (IsWord to)
+ordered_words from to (word ∷ words) is = All-cons (IsWord to) word words (first (is_index word) refl is.2) (ordered_words (cond (is_index word) (suc from) from) to words is.2)
+  where
+    first : (b : Bool) → is_index word ≡ b → AreInOrder (cond b (suc from) from) words to → IsWord to word
+    first false test rest = record {
+      within = λ low high. let bad : ⊥ = not_index word low high test in absurd bad;
+      utf8 = is.1;
+    }
+    first true test rest = record {
+      within = λ low high. let at = is.0 test in let least = ordered_least (suc from) to words rest in omega (arith, at, least);
+      utf8 = is.1;
+    }
 
 pub ordered_utf8 : (from to : ℕ) (words : List ℕ) → AreInOrder from words to → All HasUtf8 words
-ordered_utf8 from to [] is = All-nil HasUtf8
-ordered_utf8 from to (word ∷ words) is = All-cons HasUtf8 word words is.1 (ordered_utf8 (cond (is_index word) (suc from) from) to words is.2)
+ordered_utf8 from to words is = λ k d lt. (ordered_words from to words is k d lt).utf8
 
--- what is taken from words that are UTF-8 is, and so is what is left
+-- if words are UTF-8, so are the first one and the others
 pub utf8_taken : (all rest : List ℕ) (first : Option ℕ) → all ≡ option_to_list first ++ rest → All HasUtf8 all → IfSome first HasUtf8 × All HasUtf8 rest
 utf8_taken all rest None is utf8 = (tt, subst (All HasUtf8) is utf8)
 utf8_taken all rest (Some word) is utf8 = let both = subst (All HasUtf8) is utf8 in (All-head HasUtf8 word rest both, All-tail HasUtf8 word rest both)
@@ -93,30 +107,6 @@ ordered_index from to word [] few at is =
     (λ index. omega (arith, at, is), λ text. absurd (omega (arith, at, few, text)), ap (λ b. cond b (suc from) from) (last_index to word few at) ∙ (let one = is in omega (arith, one)))
 ordered_index from to word (w ∷ words) few at is = (is.0, is.1, ordered_index (cond (is_index w) (suc from) from) to word words few at is.2)
 
--- what is appended to the overflow changes no value of a word
-kept_key : (overflow more : List Value) (word : ℕ) → HasPlace (length overflow) word → word_value (overflow ++ more) word ≡ word_value overflow word
-kept_key overflow more word is = told (is_index word) refl
-  where
-    told : (b : Bool) → is_index word ≡ b → word_value (overflow ++ more) word ≡ word_value overflow word
-    told false own = own_anywhere (overflow ++ more) word own ∙ sym (own_anywhere overflow word own)
-    told true index = value_there (overflow ++ more) word index ∙ get_or_append_left overflow more Null (word - 2 ^ 63) (is index) ∙ sym (value_there overflow word index)
-
-kept_keys : (overflow more : List Value) (words : List ℕ) → All (HasPlace (length overflow)) words → map (word_value (overflow ++ more)) words ≡ map (word_value overflow) words
-kept_keys overflow more [] all = refl
-kept_keys overflow more (word ∷ words) all = λ i.
-    kept_key overflow more word (All-head (HasPlace (length overflow)) word words all) i ∷ kept_keys overflow more words (All-tail (HasPlace (length overflow)) word words all) i
-
--- the word of the last of them
-last_key : (overflow : List Value) (value : Value) (word : ℕ) → length overflow < 2 ^ 62 → word ≡ 2 ^ 63 + length overflow → word_value (overflow ++ value ∷ []) word ≡ value
-last_key overflow value word few is =
-    let place : word - 2 ^ 63 ≡ length overflow = omega (arith, is) in
-    value_there (overflow ++ value ∷ []) word (last_index (length overflow) word few is) ∙ (λ i. slice_index_or (overflow ++ value ∷ []) (place i) Null) ∙ get_or-append_seam overflow value [] Null
-
-pub key_pushed : (overflow : List Value) (value : Value) (words : List ℕ) (word : ℕ) → length overflow < 2 ^ 62 → word ≡ 2 ^ 63 + length overflow → All (HasPlace (length overflow)) words
-    → map (word_value (overflow ++ value ∷ [])) (words ++ word ∷ []) ≡ map (word_value overflow) words ++ value ∷ []
-key_pushed overflow value words word few is all =
-    map-append (word_value (overflow ++ value ∷ [])) words (word ∷ []) ∙ (λ i. kept_keys overflow (value ∷ []) words all i ++ last_key overflow value word few is i ∷ [])
-
 -- a word that takes no place
 pub own_key : (overflow : List Value) (words : List ℕ) (word : ℕ) → is_index word ≡ false
     → map (word_value overflow) (words ++ word ∷ []) ≡ map (word_value overflow) words ++ word_value [] word ∷ []
@@ -127,6 +117,14 @@ own_key overflow words word own = map-append (word_value overflow) words (word �
 pub length_keys : (width n : ℕ) (cells : List Value) → length (keys_in width n cells) ≡ n
 length_keys width zero cells = refl
 length_keys width (suc n) cells = ap (λ m. suc m) (length_keys width n (drop width cells))
+
+-- no key has any width
+pub no_width : (v w n : ℕ) (cells : List Value) → n ≡ 0 → keys_in v n cells ≡ keys_in w n cells
+no_width v w zero cells none = refl
+no_width v w (suc n) cells none = absurd (omega (arith, none))
+
+pub no_cells : (v w n : ℕ) → n ≡ 0 → n * v ≡ n * w
+no_cells v w n none = let some : n * v ≡ 0 * v = ap (λ k. k * v) none in let others : n * w ≡ 0 * w = ap (λ k. k * w) none in omega (arith, some, others)
 
 -- one key more
 push_next : (width n : ℕ) (cells key : List Value) → length cells ≡ n * width → length key ≡ width → keys_in width (suc n) (cells ++ key) ≡ keys_in width n cells ++ key ∷ []

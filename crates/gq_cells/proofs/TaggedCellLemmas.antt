@@ -88,7 +88,7 @@ pub own_pushed : (overflow : List Value) (words : List ℕ) (word : ℕ) → len
     → map (word_value overflow) (words ++ word ∷ []) ≡ map (word_value overflow) words ++ word_value [] word ∷ []
 own_pushed overflow words word few is = map-append (word_value overflow) words (word ∷ []) ∙ (λ i. map (word_value overflow) words ++ kept_word [] overflow word few is i ∷ [])
 
--- it is a word whatever places there are
+-- it is a word with an overflow of any length
 own_word : (places word : ℕ) → IsWord 0 word → IsWord places word
 own_word places word is = record {
   within = λ low high. let there : word - 2 ^ 63 < 0 = is.within low high in absurd (omega (arith, there));

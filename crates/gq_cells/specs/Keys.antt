@@ -1,13 +1,9 @@
 -- Keys of one width, one after the other in a list of cells.
-use Rattle.std.specs.Prelude.{◌≡◌, ◌^◌, ◌<◌, ◌+◌, ◌-◌, ◌*◌, ℕ, zero, suc, Bool, true, false, List, [], ◌∷◌, Option, Some, None, cond, drop, take, length, slice_index_or}
+use Rattle.std.specs.Prelude.{◌≡◌, ◌^◌, ◌+◌, ◌*◌, ℕ, zero, suc, Bool, true, false, List, [], ◌∷◌, Option, Some, None, cond, drop, take, length, slice_index_or}
 use Rattle.gq_row.specs.Order.{same_key}
 use Rattle.gq_row.specs.declared.value.Value.{Value}
 use Rattle.gq_row.specs.declared.value.Value.TheVariants.{Null}
 use Rattle.gq_cells.specs.Words.{HasUtf8, is_index, word_value}
-
--- if a word is an index, an overflow of this length has it
-abbrev pub HasPlace : ℕ → ℕ → Type 0
-HasPlace places word = is_index word ≡ true → word - 2 ^ 63 < places
 
 -- the first keys of a list of cells
 abbrev pub keys_in : ℕ → ℕ → List Value → List (List Value)

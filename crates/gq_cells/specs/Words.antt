@@ -1,4 +1,4 @@
--- Tagged words: numbers, indices of values in the overflow, or short texts.
+-- Tagged words: numbers, indices of values in the overflow, null, or short texts.
 use Rattle.std.specs.Prelude.{◌+◌, ◌*◌, ◌^◌, ◌%◌, ◌<◌, ◌≤◌, ◌-◌, ◌-ℤ◌, ℕ, Bool, true, false, List, All, cond, drop, nat_lt, pos, slice_index_or, take, IsUtf8}
 use Rattle.std.specs.Int.{w64, to_be_bytes}
 use Rattle.std.specs.declared.cmp.Ordering.{Ordering}
@@ -18,7 +18,7 @@ short_in bytes = take (slice_index_or bytes 0 0 % 8) (drop 1 bytes)
 abbrev pub text_in : ℕ → List ℕ
 text_in word = short_in (to_be_bytes w64 word)
 
--- the value of a word: below 2^63 the number biased by 2^62; below 3 · 2^62 the value of the overflow at the index biased by 2^63; else a text
+-- the value of a word: below 2^63 the number biased by 2^62; below 3 · 2^62 the value of the overflow at the index biased by 2^63, or null past its end; else a text
 abbrev pub word_value : List Value → ℕ → Value
 word_value overflow word = cond (nat_lt word (2 ^ 63)) (Int (pos word -ℤ pos (2 ^ 62))) (cond (nat_lt word (3 * 2 ^ 62)) (slice_index_or overflow (word - 2 ^ 63) Null) (Text (text_in word)))
 
@@ -30,12 +30,12 @@ is_index word = cond (nat_lt word (2 ^ 63)) false (nat_lt word (3 * 2 ^ 62))
 abbrev pub HasUtf8 : ℕ → Type 0
 HasUtf8 word = 3 * 2 ^ 62 ≤ word → IsValid (text_in word)
 
--- a word is a number, an index into an overflow of this length, the last index of all, which no overflow has, or a text
+-- a word is a number, an index into an overflow of this length, null, which is the last index of all, or a text in UTF-8
 pub record IsWord (places word : ℕ) : Type 0 where
   pub within : 2 ^ 63 ≤ word → word + 1 < 3 * 2 ^ 62 → word - 2 ^ 63 < places
   pub utf8 : HasUtf8 word
 
--- words, and the length of their overflow
+-- words with an overflow of this length, which is too short for the index that is null
 pub record AreWords (places : ℕ) (words : List ℕ) : Type 0 where
   pub all : All (IsWord places) words
   pub few : places < 2 ^ 62

@@ -178,7 +178,7 @@ impl Cells {
         }
     }
 
-    // As `copy_to`, in each layout. It is called from two places, for the same reason as `push_other`.
+    // As `copy_to`, in each layout. Not inlined, so that loops over columns of numbers stay short.
     #[inline(never)]
     fn copy_other_to(
         &self,
@@ -223,8 +223,7 @@ impl Cells {
         }
     }
 
-    // As `push`, in each layout. It is called from two places, or the compiler would make it a part of loops over
-    // columns of numbers.
+    // As `push`, in each layout. Not inlined, so that loops over columns of numbers stay short.
     #[inline(never)]
     fn push_other(&mut self, alloc: Global, value: &mut Value) -> Result<(), AllocError>
         ensures pushed { OnOk result (self.new ≡ self.old ++ value.old ∷ []) }
@@ -346,7 +345,7 @@ impl Cells {
         // All positions are within a list in memory, so this sum can't overflow.
         let _all = self.len();
         for i in 0..over.len() {
-            self.copy_other_to(alloc, start + i, &mut over[i])?;
+            self.copy_to(alloc, start + i, &mut over[i])?;
         }
         Ok(())
     }
@@ -419,7 +418,7 @@ impl Stored {
                     self.admit_texts(alloc)?;
                 }
                 match self {
-                    Stored::Values(values) => push_growing(values, value),
+                    Stored::Values(values) => push_value(values, value),
                     Stored::Tagged(values) => values.push(value),
                     _ => unreachable!(),
                 }
@@ -568,7 +567,7 @@ pub(crate) fn push_value(values: &mut Vec<Value>, value: &mut Value) -> Result<(
     push_growing(values, value)
 }
 
-// As `push_value`, to a vector that may be full. It is called from two places, for the same reason as `push_other`.
+// As `push_value`, to a vector that may be full. Not inlined, so that pushes to one with room stay short.
 #[inline(never)]
 fn push_growing(values: &mut Vec<Value>, value: &mut Value) -> Result<(), AllocError>
     ensures pushed { OnOk result (values.new.items ≡ values.old.items ++ value.old ∷ []) }

@@ -40,7 +40,7 @@ impl Model for Keys {
 }
 
 impl Keys {
-    /// No keys, for keys of this width. It takes no memory.
+    /// No keys. `width` is the expected number of values of a key. It takes no memory.
     pub fn new(alloc: Global, width: usize) -> Keys
         ensures { result ≡ [] }
     {
@@ -84,13 +84,14 @@ impl Keys {
         has_values(words, self.overflow.as_slice(), key)
     }
 
-    /// Appends a key. On error, of a key of another width too, the list doesn't change.
+    /// Appends a key. On error the list doesn't change; a key of another width than the first one is an error, too.
     pub fn push(&mut self, key: &KeyRef<'_>) -> Result<(), AllocError>
         ensures pushed { OnOk result (self.new ≡ self.old ++ key.now ∷ []) }
         ensures unchanged { OnErr result (self.new ≡ self.old) }
     {
+        let width = if self.len == 0 { key.len() } else { self.width };
         let len = match self.len.checked_add(1) {
-            Some(len) if key.len() == self.width => len,
+            Some(len) if key.len() == width => len,
             _ => return Err(AllocError),
         };
         let start = self.words.len();
@@ -101,6 +102,7 @@ impl Keys {
             return Err(AllocError);
         };
         self.len = len;
+        self.width = width;
         Ok(())
     }
 
@@ -167,7 +169,7 @@ fn has_value(word: u64, overflow: &[Value], key: &KeyRef<'_>, position: usize) -
     }
 }
 
-// Whether the text in a word is that of a key at a position. One that is takes no `Value`.
+// Whether the text in a word is that of a key at a position. If its word is the same, no `Value` is made.
 #[inline(always)]
 fn has_text(word: u64, key: &KeyRef<'_>, position: usize) -> bool
     requires position { position < length key.now }

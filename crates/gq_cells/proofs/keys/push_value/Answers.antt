@@ -2,7 +2,8 @@ use Rattle.std.proofs.Common.{◌≡◌, ◌+◌, ◌^◌, ◌<◌, ◌∙◌, �
 use Rattle.gq_row.specs.Rows.{cell}
 use Rattle.gq_cells.specs.Keys.{AreInOrder}
 use Rattle.gq_cells.specs.Words.{word_value}
-use Rattle.gq_cells.proofs.KeyLemmas.{key_pushed, ordered_index, ordered_own, ordered_words, own_key}
+use Rattle.gq_cells.proofs.KeyLemmas.{ordered_index, ordered_own, ordered_words, own_key}
+use Rattle.gq_cells.proofs.TaggedCellLemmas.{word_pushed}
 use Rattle.gq_cells.proofs.keys.push_value.Goals as goal
 
 pub returns-in-Some-clause-pushed : goal.returns-in-Some-clause-pushed
@@ -28,7 +29,7 @@ returns-clause-pushed c =
     let more : c.push-2.new.self.items ≡ words ++ word ∷ [] = search rules in
     let is : word ≡ 2 ^ 63 + length overflow = search rules in
     let few : length overflow + 1 < 2 ^ 62 = search rules in
-    (λ i. map (word_value (all i)) (more i)) ∙ key_pushed overflow value words word (omega (arith, few)) is (ordered_words 0 (length overflow) words c.requires.ordered)
+    (λ i. map (word_value (all i)) (more i)) ∙ word_pushed overflow value words word few is (ordered_words 0 (length overflow) words c.requires.ordered)
 
 pub returns-clause-ordered : goal.returns-clause-ordered
 returns-clause-ordered c =
