@@ -10,9 +10,10 @@ use std::marker::Model;
 use sw_index::{Absence, Found, Numbers, Seeks};
 use sw_probe::KeyHash;
 
-// As an `Index`, but a key has no memory of its own.
+/// As an [`Index`](sw_index::Index), but a key has no memory of its own. The first key says how many values each has;
+/// one of another width is refused as out of memory.
 #[derive(Drop)]
-pub(crate) struct KeyIndex<H: KeyHash<Key>> {
+pub struct KeyIndex<H: KeyHash<Key>> {
     keys: Keys,
     numbers: Numbers,
     hasher: H,
@@ -31,9 +32,9 @@ impl<H: KeyHash<Key>> Model for KeyIndex<H> {
     ghost invariant = { λ x. IsIndexed class_of (H.hash_of x.hasher) x.keys (numbers_of x.numbers) };
 }
 
-impl<H: KeyHash<Key> + Copy> KeyIndex<H> {
-    // An empty index, for keys of this width.
-    pub(crate) fn new(alloc: Global, width: usize, hasher: H) -> KeyIndex<H>
+impl<H: KeyHash<Key>> KeyIndex<H> {
+    /// An empty index. `width` is the expected number of values of a key. It takes no memory.
+    pub fn new(alloc: Global, width: usize, hasher: H) -> KeyIndex<H>
         ensures keys { result.keys ≡ [] }
         ensures hasher { result.hasher ≡ hasher }
     {
@@ -44,31 +45,41 @@ impl<H: KeyHash<Key> + Copy> KeyIndex<H> {
         }
     }
 
-    // The number of keys.
+    /// The number of keys.
     #[inline]
-    pub(crate) fn len(&self) -> usize
+    pub fn len(&self) -> usize
         ensures { result ≡ length self.now.keys }
     {
         self.keys.len()
     }
 
-    // How many keys there may be before the table of numbers grows.
+    /// How many keys there may be before the table of numbers grows. No contract covers it.
     #[inline]
-    pub(crate) fn room(&self) -> usize {
+    pub fn room(&self) -> usize {
         self.numbers.room()
     }
 
-    // The hash of a key.
+    /// The hash of a key.
     #[inline(always)]
-    pub(crate) fn hash(&self, key: &KeyRef<'_>) -> u64
+    pub fn hash(&self, key: &KeyRef<'_>) -> u64
         ensures { result ≡ H.hash_of self.now.hasher (class_of key.now) }
     {
         self.hasher.hash(key)
     }
 
-    // The number of a key with this hash, or its absence.
+    /// The number of a key, or its absence.
     #[inline]
-    pub(crate) fn find_hashed(&self, key: &KeyRef<'_>, hash: u64) -> Found
+    pub fn find(&self, key: &KeyRef<'_>) -> Found
+        ensures found { IsFound class_of self.now.keys (class_of key.now) result }
+        ensures absent { IsAbsent class_of (H.hash_of self.now.hasher) self.now.keys
+            (class_of key.now) result }
+    {
+        self.find_hashed(key, self.hash(key))
+    }
+
+    /// As [`KeyIndex::find`], with the hash of the key.
+    #[inline]
+    pub fn find_hashed(&self, key: &KeyRef<'_>, hash: u64) -> Found
         requires { hash ≡ H.hash_of self.now.hasher (class_of key.now) }
         ensures found { IsFound class_of self.now.keys (class_of key.now) result }
         ensures absent { IsAbsent class_of (H.hash_of self.now.hasher) self.now.keys
@@ -81,23 +92,23 @@ impl<H: KeyHash<Key> + Copy> KeyIndex<H> {
         self.numbers.find::<Key, InKeys<'_>>(&sought, hash)
     }
 
-    // The number that a look-up with this hash reads first. No contract covers it.
+    /// The number that a look-up with this hash reads first. No contract covers it.
     #[inline(always)]
-    pub(crate) fn candidate(&self, hash: u64) -> Option<usize> {
+    pub fn candidate(&self, hash: u64) -> Option<usize> {
         self.numbers.candidate(hash)
     }
 
-    // Whether a key has this number.
+    /// Whether a key has this number.
     #[inline(always)]
-    pub(crate) fn is_at(&self, number: usize, key: &KeyRef<'_>) -> bool
+    pub fn is_at(&self, number: usize, key: &KeyRef<'_>) -> bool
         ensures { IsTrue result ↔ IsFound class_of self.now.keys (class_of key.now) (Found.At number) }
     {
         self.keys.is_at(number, key)
     }
 
-    // Appends a key that `find_hashed` reported absent. On error the index doesn't change.
+    /// Appends a key that [`KeyIndex::find`] reported absent. On error the index doesn't change.
     #[inline]
-    pub(crate) fn add(&mut self, absence: Absence, key: &KeyRef<'_>) -> Result<(), AllocError>
+    pub fn add(&mut self, absence: Absence, key: &KeyRef<'_>) -> Result<(), AllocError>
         requires { IsAbsence class_of (H.hash_of self.old.hasher) self.old.keys
             (class_of key.now) absence }
         ensures added { OnOk result (self.new.keys ≡ self.old.keys ++ key.now ∷ []) }
@@ -113,22 +124,24 @@ impl<H: KeyHash<Key> + Copy> KeyIndex<H> {
         Ok(())
     }
 
-    // Makes room for the numbers of `keys` keys in total, as far as there is memory.
-    pub(crate) fn make_room(&mut self, keys: usize)
+    /// Makes room for the numbers of `keys` keys in total, as far as there is memory.
+    pub fn make_room(&mut self, keys: usize)
         ensures { self.new ≡ self.old }
     {
         self.numbers.make_room(keys);
     }
 
-    // Reserves room for the cells of `keys` more keys, if memory allows.
-    pub(crate) fn expect(&mut self, keys: usize)
+    /// Reserves room for the values of `keys` more keys of the expected width, if memory allows.
+    pub fn expect(&mut self, keys: usize)
         ensures { self.new ≡ self.old }
     {
         self.keys.expect(keys);
     }
 
-    // The keys, which leave one by one.
-    pub(crate) fn leave(self) -> KeysLeft
+    /// The keys, which leave one by one.
+    pub fn leave(self) -> KeysLeft
+    where
+        H: Drop,
         ensures list { result ≡ self.keys }
         ensures different { AreDifferent class_of self.keys }
     {

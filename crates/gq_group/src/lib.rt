@@ -80,5 +80,6 @@ pub use distinct::group_distinct;
 pub use group_sink::GroupSink;
 pub use group_spec::GroupSpec;
 pub use grouping::{Spent, group};
+pub use key_index::KeyIndex;
 pub use refusal::Refusal;
 pub use row_source::RowSource;
