@@ -1,6 +1,7 @@
 -- A cursor over rows.
-use Rattle.std.specs.Prelude.{◌-◌, ℕ, List, [], drop, slice_index_or}
+use Rattle.std.specs.Prelude.{◌≡◌, ◌-◌, ℕ, List, [], All, drop, length, slice_index_or}
 use Rattle.gq_row.specs.declared.value.Value.{Value}
+use Rattle.gq_row.specs.Rows.{cell}
 use Rattle.gq_table.specs.declared.rows.RowsRef.{RowsRef}
 use Rattle.gq_table.specs.declared.rows.RowsRef.TheVariants.{Rows, Columns}
 
@@ -27,3 +28,8 @@ row_of rows from = slice_index_or (rows_in rows) (from - 1) []
 abbrev pub read_of : RowsRef → ℕ → List Value → List Value
 read_of (Rows rows) from copy = slice_index_or rows.now (from - 1) []
 read_of (Columns rows) from copy = copy
+
+-- two rows of one length have the same values in some columns
+pub record AgreeIn (columns : List ℕ) (row other : List Value) : Type 0 where
+  pub long : length row ≡ length other
+  pub cells : All (λ column. cell row column ≡ cell other column) columns

@@ -1,9 +1,10 @@
 //! Rows of one width, stored by columns.
 ghost use Rattle.std.specs.Prelude.{◌≡◌, ◌<◌, ◌==◌, ◌++◌, ◌∷◌, [], ℕ, All, IfOk, IsOk, OnOk, OnErr, length, map, replicate, take, slice_index_or};
 ghost use Rattle.gq_row.specs.declared.value.Value.TheVariants.{Null};
-ghost use Rattle.gq_row.specs.Rows.{cells_in};
+ghost use Rattle.gq_row.specs.Rows.{cell, cells_in};
 ghost use Rattle.gq_row.specs.Written.{IsInPlace};
 ghost use Rattle.gq_table.specs.Columns.{AreAsLong, alone, columns_behind, rows_across};
+ghost use Rattle.gq_table.specs.Walking.{AgreeIn};
 
 use gq_cells::Cells;
 use gq_row::Value;
@@ -81,6 +82,31 @@ impl ColumnStore {
             fit(row, self.columns.len())?;
         }
         write_cells(alloc, self.columns.as_slice(), position, row.as_mut_slice())
+    }
+
+    /// Overwrites the values of `row` in some columns with those of the row at a position. What `row` has in other
+    /// columns is unspecified. If both have one length, only texts longer than 22 bytes may allocate.
+    #[inline]
+    pub fn copy_some(
+        &self,
+        alloc: Global,
+        position: usize,
+        columns: &[usize],
+        row: &mut Vec<Value>,
+    ) -> Result<(), AllocError>
+        requires { position < length self.now }
+        ensures { OnOk result (AgreeIn columns.now row.new.items (slice_index_or self.now position [])) }
+    {
+        if row.len() != self.columns.len() {
+            fit(row, self.columns.len())?;
+        }
+        write_some(
+            alloc,
+            self.columns.as_slice(),
+            position,
+            columns,
+            row.as_mut_slice(),
+        )
     }
 
     /// Overwrites `cells` with the values of a row in some columns. Only texts longer than 22 bytes may
@@ -221,6 +247,49 @@ fn write_cells(
 {
     for i in 0..columns.len() {
         columns[i].copy_to(alloc, position, &mut row[i])?;
+    }
+    Ok(())
+}
+
+// Overwrites the cells of `row` in some columns with those at a position of these columns.
+#[inline]
+fn write_some(
+    alloc: Global,
+    all: &[Cells],
+    position: usize,
+    columns: &[usize],
+    row: &mut [Value],
+) -> Result<(), AllocError>
+    requires within { All (λ column. position < length column) all.now }
+    requires long { length row.old ≡ length all.now }
+    ensures long { length row.new ≡ length row.old }
+    ensures cells { OnOk result (All (λ column. cell row.new column ≡
+        cell (map (λ cells. slice_index_or cells position Null) all.now) column) columns.now) }
+{
+    for i in 0..columns.len() {
+        write_cell(alloc, all, position, columns[i], row)?;
+    }
+    Ok(())
+}
+
+// Overwrites the cell of `row` in a column, if there is one, with that at a position of the column.
+#[inline(always)]
+fn write_cell(
+    alloc: Global,
+    all: &[Cells],
+    position: usize,
+    column: usize,
+    row: &mut [Value],
+) -> Result<(), AllocError>
+    requires within { All (λ column. position < length column) all.now }
+    requires long { length row.old ≡ length all.now }
+    ensures long { length row.new ≡ length row.old }
+    ensures cell { OnOk result (cell row.new column ≡
+        cell (map (λ cells. slice_index_or cells position Null) all.now) column) }
+    ensures others { (other : ℕ) → (other ≡ column → ⊥) → cell row.new other ≡ cell row.old other }
+{
+    if column < row.len() {
+        all[column].copy_to(alloc, position, &mut row[column])?;
     }
     Ok(())
 }

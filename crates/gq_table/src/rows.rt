@@ -2,6 +2,7 @@
 ghost use Rattle.std.specs.Prelude.{◌≡◌, ◌<◌, ◌∷◌, [], true, false, All, IsOk, OnOk, length};
 ghost use Rattle.gq_row.specs.Rows.{cells_in};
 ghost use Rattle.gq_row.specs.Written.{IsInPlace};
+ghost use Rattle.gq_table.specs.Walking.{AgreeIn};
 
 use crate::column_store::{ColumnStore, fit};
 use crate::keyed::KeyedRows;
@@ -113,6 +114,24 @@ impl<'a> RowCursor<'a> {
         let place = self.from.saturating_sub(1);
         if place < rows.len() {
             return rows.copy_row(self.alloc, place, &mut self.copy);
+        }
+        self.copy.clear();
+        Ok(())
+    }
+
+    /// As [`RowCursor::read`], in some columns alone. What the row that was read has in others is unspecified.
+    #[inline]
+    pub fn read_columns(&mut self, columns: &[usize]) -> Result<(), AllocError>
+        ensures read { OnOk result (AgreeIn columns.now self.new.read self.old.row) }
+        ensures row { self.new.row ≡ self.old.row }
+        ensures rest { self.new.rest ≡ self.old.rest }
+    {
+        let RowsRef::Columns(rows) = self.rows else {
+            return Ok(());
+        };
+        let place = self.from.saturating_sub(1);
+        if place < rows.len() {
+            return rows.copy_some(self.alloc, place, columns, &mut self.copy);
         }
         self.copy.clear();
         Ok(())
