@@ -1,12 +1,9 @@
 -- The keys of rows, with one row more.
-use Rattle.std.proofs.Common.{◌≡◌, ◌&&◌, ◌||◌, ℕ, Bool, true, false, not, cond, List, [], ◌∷◌, ◌++◌, Some, refl, sym, ap, ◌∙◌, true≢false}
-use Rattle.std.specs.Prelude.{is_some}
-use Rattle.std.specs.List.{list_any}
-use Rattle.std.specs.FinMap.{insert, get, contains_key, empty, get-empty, get-insert}
-use Rattle.std.specs.Cmp.Lexicographic.{nat_list_cmp_total}
+use Rattle.std.proofs.Common.{◌≡◌, ◌&&◌, ◌||◌, ℕ, zero, suc, Bool, true, false, not, List, [], ◌∷◌, ◌++◌, None, Some, refl, sym, ap, ◌∙◌}
+use Rattle.std.specs.Prelude.{Result, Ok, Err, OnOk}
+use Rattle.std.specs.List.{list_any, slice_get}
 use Rattle.std.proofs.lemmas.List.Folds.{list_any-append}
-use Rattle.sw_table.specs.Entries.{Entries}
-use Rattle.sw_flat.proofs.Classes.{same, same_is, same_itself}
+use Rattle.sw_index.specs.Index.{HasNone}
 use Rattle.gq_row.specs.declared.value.Value.{Value}
 use Rattle.gq_row.specs.declared.value.Value.TheVariants.{Null, Int, Text, NoCase}
 use Rattle.gq_row.specs.Classes.{class_of}
@@ -18,10 +15,6 @@ use Rattle.gq_row.specs.Tables.{has_row}
 use Rattle.gq_row.proofs.ClassLemmas.{class_tells}
 use Rattle.gq_row.proofs.OrderLemmas.{same_key_exact, same_key_itself, same_key_equiv}
 use Rattle.gq_select.specs.Matches.{is_key_among, exists}
-
--- keys alone, by their classes
-abbrev pub Keys : Type 0
-Keys = Entries (List Value) (Unit {0})
 
 or_none : (b : Bool) → (b || false) ≡ b
 or_none true = refl
@@ -85,40 +78,56 @@ among-known columns rows row key there = among-push columns rows row key ∙ tol
     told false e = ap (λ b. not (list_any is_null key) && b) (or_none (has_row columns rows key))
 
 -- any other adds its own
-pub among-new : (columns : List ℕ) (rows : List (List Value)) (row k key : List Value) (old new : Keys) → has_null columns row ≡ false → k ≡ key_of columns row → new ≡ insert old (class_of k) (k, tt)
-    → contains_key old (class_of key) ≡ is_key_among columns rows key → contains_key new (class_of key) ≡ is_key_among columns (rows ++ row ∷ []) key
-among-new columns rows row k key old new none mine_is put before =
-    let mine : List Value = key_of columns row in
-    ap (λ (m : Keys). contains_key m (class_of key)) (put ∙ ap (λ x. insert old (class_of x) (x, tt)) mine_is)
-    ∙ ap is_some (get-insert nat_list_cmp_total old (class_of mine) (mine, tt) (class_of key))
-    ∙ told (same_key key mine) refl
+pub among-new : (columns : List ℕ) (rows ks ks' : List (List Value)) (row key : List Value) → has_null columns row ≡ false → ks' ≡ ks ++ key_of columns row ∷ []
+    → list_any (same_key key) ks ≡ is_key_among columns rows key → list_any (same_key key) ks' ≡ is_key_among columns (rows ++ row ∷ []) key
+among-new columns rows ks ks' row key none put before =
+    ap (list_any (same_key key)) put
+    ∙ list_any-append (same_key key) ks (key_of columns row ∷ [])
+    ∙ (λ i. before i || or_none (same_key key (key_of columns row)) i)
+    ∙ told (same_key key (key_of columns row)) refl
     ∙ sym (among-push columns rows row key)
   where
     told : (b : Bool) → same_key key (key_of columns row) ≡ b
-        → is_some (cond (same (class_of key) (class_of (key_of columns row))) (Some (key_of columns row, tt)) (get old (class_of key)))
-        ≡ (not (list_any is_null key) && (has_row columns rows key || same_key (key_of columns row) key))
+        → (is_key_among columns rows key || b) ≡ (not (list_any is_null key) && (has_row columns rows key || same_key (key_of columns row) key))
     told true e =
         let mine : List Value = key_of columns row in
-        let is : key ≡ mine = same_key_exact key mine e in
-        let no_null : list_any is_null key ≡ false = ap (list_any is_null) is ∙ null_key columns row ∙ none in
+        let no_null : list_any is_null key ≡ false = ap (list_any is_null) (same_key_exact key mine e) ∙ null_key columns row ∙ none in
         let here : same_key mine key ≡ true = (same_key_equiv).symm mine key ∙ e in
-        ap (λ b. is_some (cond b (Some (mine, tt)) (get old (class_of key)))) (same_itself (class_of key) (class_of mine) (ap class_of is))
+        or_true (is_key_among columns rows key)
         ∙ sym (or_true (has_row columns rows key))
         ∙ (λ i. not (sym no_null i) && (has_row columns rows key || sym here i))
     told false e =
-        let mine : List Value = key_of columns row in
-        let here : same_key mine key ≡ false = (same_key_equiv).symm mine key ∙ e in
-        ap (λ b. is_some (cond b (Some (mine, tt)) (get old (class_of key)))) (apart (same (class_of key) (class_of mine)) refl)
-        ∙ before
+        let here : same_key (key_of columns row) key ≡ false = (same_key_equiv).symm (key_of columns row) key ∙ e in
+        or_none (is_key_among columns rows key)
         ∙ ap (λ b. not (list_any is_null key) && b) (sym (or_none (has_row columns rows key)))
         ∙ ap (λ b. not (list_any is_null key) && (has_row columns rows key || b)) (sym here)
-      where
-        apart : (b : Bool) → same (class_of key) (class_of (key_of columns row)) ≡ b → b ≡ false
-        apart true f = absurd (true≢false (sym (same_key_itself key) ∙ ap (same_key key) (class_tells key (key_of columns row) (same_is (class_of key) (class_of (key_of columns row)) f)) ∙ e))
-        apart false f = refl
 
-pub none_has : (m : Keys) (c : List ℕ) → m ≡ empty → contains_key m c ≡ false
-none_has m c none = ap (λ (e : Keys). contains_key e c) none ∙ ap is_some (get-empty _ c)
+-- ---- a key that was sought among others
+
+none_some : {X : Type 0} (x : X) → None ≡ Some x → ⊥
+none_some x e = cc
+
+some_is : {X : Type 0} (x y : X) → Some x ≡ Some y → x ≡ y
+some_is x y e = cc
+
+-- a key of its class is the same
+pub some_found : (ks : List (List Value)) (key : List Value) (n : ℕ) (k : List Value) → slice_get ks n ≡ Some k → class_of k ≡ class_of key → list_any (same_key key) ks ≡ true
+some_found [] key n k at is = absurd (none_some k at)
+some_found (l ∷ ks) key zero k at is = ap (λ b. b || list_any (same_key key) ks) (ap (same_key key) (some_is l k at ∙ class_tells k key is) ∙ same_key_itself key)
+some_found (l ∷ ks) key (suc n) k at is = ap (λ b. same_key key l || b) (some_found ks key n k at is) ∙ or_true (same_key key l)
+
+-- if none is of its class, none is the same
+pub none_found : (ks : List (List Value)) (key : List Value) → HasNone class_of ks (class_of key) → list_any (same_key key) ks ≡ false
+none_found [] key none = refl
+none_found (k ∷ ks) key none = told (same_key key k) refl (none_found ks key (λ i l at is. none (suc i) l at is))
+  where
+    told : (b : Bool) → same_key key k ≡ b → list_any (same_key key) ks ≡ false → (same_key key k || list_any (same_key key) ks) ≡ false
+    told true e rest = absurd (none zero k refl (ap class_of (sym (same_key_exact key k e))))
+    told false e rest = ap (λ b. b || list_any (same_key key) ks) e ∙ rest
+
+pub on_ok : {T E : Type 0} {P Q : Type 0} (r : Result T E) → (P → Q) → OnOk r P → OnOk r Q
+on_ok (Ok x) f p = f p
+on_ok (Err e) f p = p
 
 -- ---- null on either side
 

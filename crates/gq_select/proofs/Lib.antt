@@ -1,3 +1,4 @@
 pub mod DistinctLemmas
 pub mod KeySetLemmas
+pub mod ReadLemmas
 pub mod TruthLemmas

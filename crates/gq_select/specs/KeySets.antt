@@ -1,15 +1,14 @@
 -- Sets of the keys of rows.
 use Rattle.std.specs.Prelude.{◌≡◌, ℕ, Bool, List}
-use Rattle.std.specs.FinMap.{contains_key}
-use Rattle.sw_table.specs.Entries.{entries}
+use Rattle.std.specs.List.{list_any}
 use Rattle.gq_row.specs.declared.value.Value.{Value}
-use Rattle.gq_row.specs.Classes.{class_of}
+use Rattle.gq_row.specs.Order.{same_key}
 use Rattle.gq_select.specs.Matches.{is_key_among}
 use Rattle.gq_select.specs.declared.join.KeySet.{KeySet}
 
--- a key is in a set
+-- a set has a key: one of its keys is the same
 abbrev pub has : {H : Type 0} → KeySet H → List Value → Bool
-has set key = contains_key (entries class_of set.keys) (class_of key)
+has set key = list_any (same_key key) set.index.keys
 
 -- a set has the keys of these rows in some columns, but for those with null
 abbrev pub AreKeysOf : {H : Type 0} → List ℕ → List (List Value) → KeySet H → Type 0

@@ -1,5 +1,5 @@
 -- The truth of conditions, as SQL has it.
-use Rattle.std.specs.Prelude.{◌||◌, Bool, true, false, not, List, map, if◌then◌else◌, Option, Some, None}
+use Rattle.std.specs.Prelude.{◌||◌, ◌++◌, ◌∷◌, [], ℕ, Bool, true, false, not, List, map, if◌then◌else◌, Option, Some, None}
 use Rattle.std.specs.List.{list_any}
 use Rattle.gq_row.specs.declared.value.Value.{Value}
 use Rattle.gq_row.specs.declared.comparison.Comparison.{Comparison}
@@ -50,6 +50,20 @@ abbrev pub truth_of : Test → List Value → Truth
 truth_of (Compare a comparison b) row = compared comparison (value_of a row) (value_of b row)
 truth_of (IsNull a) row = decided (is_null (value_of a row))
 truth_of (IsNotNull a) row = decided (not (is_null (value_of a row)))
+
+-- the columns whose values an operand, a test, and tests read
+abbrev pub operand_columns : Operand → List ℕ
+operand_columns (Column column) = column ∷ []
+operand_columns (Literal v) = []
+
+abbrev pub test_columns : Test → List ℕ
+test_columns (Compare a comparison b) = operand_columns a ++ operand_columns b
+test_columns (IsNull a) = operand_columns a
+test_columns (IsNotNull a) = operand_columns a
+
+abbrev pub columns_of : List Test → List ℕ
+columns_of [] = []
+columns_of (test ∷ tests) = test_columns test ++ columns_of tests
 
 -- the `and` of several truths: false if one is false, else unknown if one is unknown, else true
 abbrev pub all_of : List Truth → Truth

@@ -1,11 +1,12 @@
 //! Conditions on rows.
-ghost use Rattle.std.specs.Prelude.{◌≡◌};
+ghost use Rattle.std.specs.Prelude.{◌≡◌, ◌++◌, IfOk, OnOk};
 ghost use Rattle.std.specs.Option.{option_copied};
 ghost use Rattle.std.specs.List.{list_all};
-ghost use Rattle.gq_select.specs.Truths.{known, value_of, truth_of, truth, is_true_in, keeps};
+ghost use Rattle.gq_select.specs.Truths.{columns_of, known, operand_columns, test_columns, value_of, truth_of, truth, is_true_in, keeps};
 
 use crate::truth::Truth;
 use gq_row::{Comparison, Sequence, Value, compare_in_condition};
+use std::alloc::{AllocError, Global};
 
 /// An operand of a test.
 #[derive(Drop)]
@@ -44,6 +45,19 @@ impl Operand {
         };
         if value.is_null() { None } else { Some(value) }
     }
+
+    // Appends the column that the operand reads, if it reads one.
+    fn push_columns(&self, columns: &mut Vec<usize>) -> Result<(), AllocError>
+        ensures { OnOk result (columns.new.items ≡ columns.old.items ++ operand_columns self.now) }
+    {
+        match self {
+            Operand::Column(column) => {
+                columns.push(*column)?;
+                Ok(())
+            }
+            Operand::Literal(_) => Ok(()),
+        }
+    }
 }
 
 impl Test {
@@ -65,12 +79,38 @@ impl Test {
         }
     }
 
+    // Appends the columns that the test reads.
+    fn push_columns(&self, columns: &mut Vec<usize>) -> Result<(), AllocError>
+        ensures { OnOk result (columns.new.items ≡ columns.old.items ++ test_columns self.now) }
+    {
+        match self {
+            Test::Compare(a, _, b) => {
+                a.push_columns(columns)?;
+                b.push_columns(columns)
+            }
+            Test::IsNull(a) | Test::IsNotNull(a) => a.push_columns(columns),
+        }
+    }
+
     // Whether the test is true in a row.
     #[inline]
     fn is_true(&self, row: &[Value]) -> bool
         ensures { result ≡ is_true_in row.now self.now }
     {
         self.truth(row).is_true()
+    }
+}
+
+impl Condition {
+    /// The columns whose values the tests read, in their order. One that is read twice is there twice.
+    pub fn columns(&self, alloc: Global) -> Result<Vec<usize>, AllocError>
+        ensures { IfOk result (λ columns. columns.items ≡ columns_of self.now.tests) }
+    {
+        let mut columns = Vec::new(alloc);
+        for test in self.tests.as_slice() {
+            test.push_columns(&mut columns)?;
+        }
+        Ok(columns)
     }
 }
 

@@ -51,7 +51,7 @@ mod output_column;
 mod truth;
 
 pub use condition::{Condition, Operand, Test, filter, having, holds};
-pub use join::{KeySet, anti_join, semi_join};
+pub use join::{KeySet, anti_join, semi_join, semi_join_at};
 pub use keys::distinct;
 pub use matching::Matching;
 pub use output_column::OutputColumn;

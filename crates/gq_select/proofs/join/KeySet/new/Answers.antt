@@ -1,8 +1,8 @@
-use Rattle.std.proofs.Common.{◌∙◌, sym}
-use Rattle.sw_table.specs.Entries.{entries}
-use Rattle.gq_row.specs.Classes.{class_of}
-use Rattle.gq_select.proofs.KeySetLemmas.{none_has, none_among}
+use Rattle.std.proofs.Common.{◌∙◌, ap, sym}
+use Rattle.std.specs.List.{list_any}
+use Rattle.gq_row.specs.Order.{same_key}
+use Rattle.gq_select.proofs.KeySetLemmas.{none_among}
 use Rattle.gq_select.proofs.join.KeySet.new.Goals as goal
 
 pub returns : goal.returns
-returns g c = λ columns key. none_has (entries class_of c.new.result) (class_of key) c.new.ensures.entries ∙ sym (none_among columns key)
+returns g c = λ columns key. ap (list_any (same_key key)) c.new.ensures.keys ∙ sym (none_among columns key)
