@@ -9,7 +9,7 @@ ghost use Rattle.gq_query.specs.Selecting.{CanSelect, rows_selected};
 
 use crate::query::Query;
 use crate::row_filter::RowFilter;
-use crate::selection::{Selection, other_keys};
+use crate::selection::{Selection, deciding_columns, other_keys};
 use gq_cells::Rows;
 use gq_group::{Budget, Refusal};
 use gq_row::Key;
@@ -36,10 +36,14 @@ pub fn distinct_rows<H: KeyHash<Key> + Copy, S: RunStore>(
     let Ok(keys) = other_keys(alloc, hasher, selection) else {
         return Err(Refusal::Memory);
     };
+    let Ok(columns) = deciding_columns(alloc, selection) else {
+        return Err(Refusal::Memory);
+    };
     let kept = RowFilter {
         condition: selection.condition,
         matching: selection.matching,
         keys: &keys,
+        columns: columns.as_slice(),
     };
     let query = Query {
         alloc,

@@ -18,7 +18,7 @@ use crate::cells::aggs_of;
 use crate::group_list::GroupList;
 use crate::query::Query;
 use crate::row_filter::RowFilter;
-use crate::selection::{Selection, other_keys};
+use crate::selection::{Selection, deciding_columns, other_keys};
 use crate::spending::both_spent;
 use gq_cells::Rows;
 use gq_group::{Budget, Refusal, Spent};
@@ -242,10 +242,14 @@ pub fn group_rows<H: KeyHash<Key> + Copy, S: RunStore>(
     let Ok(keys) = other_keys(alloc, hasher, selection) else {
         return Err(Refusal::Memory);
     };
+    let Ok(columns) = deciding_columns(alloc, selection) else {
+        return Err(Refusal::Memory);
+    };
     let kept = RowFilter {
         condition: selection.condition,
         matching: selection.matching,
         keys: &keys,
+        columns: columns.as_slice(),
     };
     let query = Query {
         alloc,

@@ -40,6 +40,7 @@ mod distinct;
 mod group_list;
 mod grouping;
 pub mod laws;
+mod match_ahead;
 mod ordering;
 mod query;
 mod rollup;

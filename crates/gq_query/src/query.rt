@@ -11,6 +11,7 @@ ghost use Rattle.gq_query.specs.Outcomes.{Found, Grouped, IsWorkOf};
 
 use crate::cells::{columns_used, place_aggs, place_columns, place_of};
 use crate::group_list::GroupList;
+use crate::match_ahead::MatchAhead;
 use crate::row_filter::RowFilter;
 use crate::table_rows::TableRows;
 use gq_agg::AggKind;
@@ -60,6 +61,7 @@ impl<'a, H: KeyHash<Key> + Copy> Query<'a, H> {
         };
         let mut source = TableRows {
             rows: self.table.rows(),
+            ahead: MatchAhead::new(self.table.rows()),
             kept: self.kept,
             columns: columns.as_slice(),
         };
@@ -90,6 +92,7 @@ impl<'a, H: KeyHash<Key> + Copy> Query<'a, H> {
         let place = place_of(columns.as_slice(), column);
         let mut source = TableRows {
             rows: self.table.rows(),
+            ahead: MatchAhead::new(self.table.rows()),
             kept: self.kept,
             columns: columns.as_slice(),
         };
@@ -122,6 +125,7 @@ impl<'a, H: KeyHash<Key> + Copy> Query<'a, H> {
         };
         let mut source = TableRows {
             rows: self.table.rows(),
+            ahead: MatchAhead::new(self.table.rows()),
             kept: self.kept,
             columns: columns.as_slice(),
         };

@@ -2,8 +2,10 @@
 ghost use Rattle.std.specs.Prelude.{◌≡◌, ◌<◌, All, IfOk, Some, length, option_copied};
 ghost use Rattle.gq_select.specs.KeySets.{AreKeysOf};
 ghost use Rattle.gq_select.specs.declared.matching.Matching.{Matching as Match};
+ghost use Rattle.gq_query.specs.Keeping.{columns_read};
 ghost use Rattle.gq_query.specs.Selecting.{CanSelect, other_rows};
 
+use crate::match_ahead::MatchAhead;
 use gq_row::Key;
 use gq_select::{Condition, KeySet, Matching};
 use gq_table::Table;
@@ -19,6 +21,21 @@ pub struct Selection<'t, 'q, H: KeyHash<Key>> {
     pub condition: &'q Condition,
     pub matching: Option<&'q Matching>,
     pub others: Option<&'t Table<H>>,
+}
+
+/// The columns of a row that decide whether it is selected.
+pub fn deciding_columns<H: KeyHash<Key>>(
+    alloc: Global,
+    selection: &Selection<'_, '_, H>,
+) -> Result<Vec<usize>, AllocError>
+    ensures { IfOk result (λ columns. columns.items ≡
+        columns_read selection.now.condition.now (option_copied selection.now.matching)) }
+{
+    let mut columns = selection.condition.columns(alloc)?;
+    if let Some(matching) = selection.matching {
+        columns.extend_from_slice(matching.ours.as_slice())?;
+    }
+    Ok(columns)
 }
 
 /// The keys of the other table's rows in the columns that a match compares. An empty set, which
@@ -54,9 +71,10 @@ fn keys_of<H: KeyHash<Key> + Copy>(
 {
     let mut keys = KeySet::new(alloc, hasher);
     let mut rows = table.rows();
+    let mut ahead = MatchAhead::new(table.rows());
     'rows: while rows.advance() {
-        rows.read()?;
-        keys.add(rows.row(), columns)?;
+        rows.read_columns(columns)?;
+        keys.add_at(rows.row(), columns, ahead.next(&keys, columns))?;
     }
     Ok(keys)
 }

@@ -1,5 +1,6 @@
 //! The kept rows of a table, as a source.
 
+use crate::match_ahead::MatchAhead;
 use crate::row_filter::RowFilter;
 use gq_group::{Refusal, RowSource};
 use gq_row::{Key, Row};
@@ -12,6 +13,7 @@ use sw_probe::KeyHash;
 #[derive(Drop)]
 pub struct TableRows<'a, H: KeyHash<Key>> {
     pub rows: RowCursor<'a>,
+    pub ahead: MatchAhead<'a>,
     pub kept: &'a RowFilter<'a, H>,
     pub columns: &'a [usize],
 }
@@ -20,13 +22,14 @@ impl<'a, H: KeyHash<Key>, S: RunStore> RowSource<S> for TableRows<'a, H> {
     ghost use Rattle.std.specs.Prelude.{◌≡◌, false, filter, length, map, option_copied, refl};
     ghost use Rattle.gq_row.specs.Rows.{cells_in};
     ghost use Rattle.gq_query.specs.Sources.{no_runs};
-    ghost use Rattle.gq_query.specs.Keeping.{AreLong, is_kept, ours_of};
+    ghost use Rattle.gq_query.specs.Keeping.{AreLong, ReadsAll, is_kept, ours_of};
     ghost use Rattle.gq_query.specs.Sources.{none_live};
 
     ghost owns = { λ s. no_runs };
 
     ghost is_ready = { λ s runs. AreLong s.columns.now s.rows.rest ×
-        AreLong (ours_of (option_copied s.kept.now.matching)) s.rows.rest };
+        AreLong (ours_of (option_copied s.kept.now.matching)) s.rows.rest ×
+        ReadsAll s.kept.now };
 
     ghost gives = { λ s runs rows.
         rows ≡ map (cells_in s.columns.now) (filter (is_kept s.kept.now) s.rows.rest) };
@@ -37,7 +40,7 @@ impl<'a, H: KeyHash<Key>, S: RunStore> RowSource<S> for TableRows<'a, H> {
 
     fn next(&mut self, store: &mut S, row: &mut Row) -> Result<bool, Refusal> {
         let _ = store;
-        match self.kept.advance(&mut self.rows) {
+        match self.kept.advance(&mut self.rows, &mut self.ahead) {
             Ok(true) => {}
             Ok(false) => return Ok(false),
             Err(_) => return Err(Refusal::Memory),

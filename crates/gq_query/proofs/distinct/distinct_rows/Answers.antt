@@ -1,4 +1,4 @@
-use Rattle.std.proofs.Common.{◌≡◌, subst}
+use Rattle.std.proofs.Common.{◌≡◌, ◌∙◌, subst}
 use Rattle.std.specs.Prelude.{option_copied}
 use Rattle.gq_query.specs.Answers.{distinct_keys}
 use Rattle.gq_query.specs.Outcomes.{Found}
@@ -12,6 +12,7 @@ different-requires-clause-columns g c =
     record {
       by = c.requires.on;
       ours = asks_ours selection.table.now.schema.columns (other_columns (option_copied selection.others)) (option_copied selection.matching) c.requires.matching;
+      reads = c.as_slice.ensures.value ∙ c.in-Ok-deciding_columns.ensures;
     }
 
 pub returns : goal.returns

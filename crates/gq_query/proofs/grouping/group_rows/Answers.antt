@@ -1,4 +1,4 @@
-use Rattle.std.proofs.Common.{subst}
+use Rattle.std.proofs.Common.{◌∙◌, subst}
 use Rattle.std.specs.Prelude.{option_copied}
 use Rattle.gq_query.specs.Outcomes.{Answered}
 use Rattle.gq_query.specs.Rollups.{group_answer, grouping_sets}
@@ -13,6 +13,7 @@ answer-requires-clause-columns g c =
     record {
       by = c.requires.by;
       ours = asks_ours selection.table.now.schema.columns (other_columns (option_copied selection.others)) (option_copied selection.matching) c.requires.matching;
+      reads = c.as_slice.ensures.value ∙ c.in-Ok-deciding_columns.ensures;
     }
 
 pub returns : goal.returns

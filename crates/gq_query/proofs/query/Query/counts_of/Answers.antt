@@ -16,8 +16,10 @@ group_distinct-requires-clause-source g c =
     let table = c.args.self.now.table.now in
     let all : List ℕ = columns_used (counting by c.args.column) in
     let used : c.as_slice-3.result.now ≡ all = c.as_slice-3.ensures.value ∙ c.in-Ok.ensures in
+    let long =
     source_ready table.schema.columns all (ours_of (option_copied c.args.self.now.kept.now.matching)) c.as_slice-3.result.now table.rows c.rows.result.rest
-    c.rows.ensures.rows used c.rows.ensures.valid.fitting (counting_within table.schema.columns by c.args.column c.requires.columns.by c.requires.column) c.requires.columns.ours
+    c.rows.ensures.rows used c.rows.ensures.valid.fitting (counting_within table.schema.columns by c.args.column c.requires.columns.by c.requires.column) c.requires.columns.ours in
+    (long.0, long.1, c.requires.columns.reads)
 
 pub group_distinct-requires-clause-rows : goal.group_distinct-requires-clause-rows
 group_distinct-requires-clause-rows g c = λ h rows e.

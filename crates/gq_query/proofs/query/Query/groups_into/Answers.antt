@@ -23,8 +23,10 @@ group-requires-clause-source g c =
     let spec : Spec = record { by = c.args.self.now.by.now; aggs = c.args.aggs.now } in
     let table = c.args.self.now.table.now in
     let used : c.as_slice-2.result.now ≡ columns_used spec = c.as_slice-2.ensures.value ∙ c.in-Ok.ensures in
+    let long =
     source_ready table.schema.columns (columns_used spec) (ours_of (option_copied c.args.self.now.kept.now.matching)) c.as_slice-2.result.now table.rows c.rows.result.rest
-    c.rows.ensures.rows used c.rows.ensures.valid.fitting (used_within table.schema.columns spec c.requires.columns.by c.requires.aggs) c.requires.columns.ours
+    c.rows.ensures.rows used c.rows.ensures.valid.fitting (used_within table.schema.columns spec c.requires.columns.by c.requires.aggs) c.requires.columns.ours in
+    (long.0, long.1, c.requires.columns.reads)
 
 pub group-requires-clause-rows : goal.group-requires-clause-rows
 group-requires-clause-rows g c = λ h rows e.

@@ -25,8 +25,10 @@ distinct-requires-clause-source g c =
     let table = c.args.self.now.table.now in
     let all : List ℕ = columns_used (bare by) in
     let used : c.as_slice-2.result.now ≡ all = c.as_slice-2.ensures.value ∙ c.in-Ok.ensures in
+    let long =
     source_ready table.schema.columns all (ours_of (option_copied c.args.self.now.kept.now.matching)) c.as_slice-2.result.now table.rows c.rows.result.rest
-    c.rows.ensures.rows used c.rows.ensures.valid.fitting (bare_within table.schema.columns by c.requires.columns.by) c.requires.columns.ours
+    c.rows.ensures.rows used c.rows.ensures.valid.fitting (bare_within table.schema.columns by c.requires.columns.by) c.requires.columns.ours in
+    (long.0, long.1, c.requires.columns.reads)
 
 pub distinct-requires-clause-rows : goal.distinct-requires-clause-rows
 distinct-requires-clause-rows g c = λ h rows e.

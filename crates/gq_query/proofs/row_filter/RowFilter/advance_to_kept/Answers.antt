@@ -10,11 +10,11 @@ use Rattle.gq_query.proofs.row_filter.RowFilter.advance_to_kept.Goals as goal
 abbrev Long : List ℕ → List Value → Type 0
 Long columns row = All (λ column. column < length row) columns
 
-pub keeps_here-requires : goal.keeps_here-requires
-keeps_here-requires g c =
+pub keeps_here-requires-clause-ours : goal.keeps_here-requires-clause-ours
+keeps_here-requires-clause-ours g c =
     let ours : List ℕ = ours_of (option_copied c.args.self.now.matching) in
     let at = c.advance.new.self in
-    All-head (Long ours) at.row at.rest (subst (All (Long ours)) (c.advance.ensures.next c.rows-test.true) (c.rows.invariant.long ours c.requires))
+    All-head (Long ours) at.row at.rest (subst (All (Long ours)) (c.advance.ensures.next c.rows-test.true) (c.rows.invariant.long ours c.requires.ours))
 
 pub returns-in_err-keeps_here-clause-left : goal.returns-in_err-keeps_here-clause-left
 returns-in_err-keeps_here-clause-left g c = λ columns h.

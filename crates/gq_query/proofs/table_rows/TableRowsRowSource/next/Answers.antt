@@ -6,4 +6,5 @@ pub returns-in-Ok-clause-ready : goal.returns-in-Ok-clause-ready
 returns-in-Ok-clause-ready g c = (
   c.in-Ok-true.ensures.left c.args.self.now.columns.now c.requires.0,
   c.in-Ok-true.ensures.left (ours_of (option_copied c.args.self.now.kept.now.matching)) c.requires.1,
+  c.requires.2,
 )
