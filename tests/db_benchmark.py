@@ -13,6 +13,7 @@ the memory is the server's. Answers are compared in sorted order, and if one dif
 import filecmp
 import os
 import random
+import re
 import shutil
 import subprocess
 import sys
@@ -31,21 +32,27 @@ PORT = "19011"
 
 @dataclass
 class Question:
-    """A grouping by some columns, and its aggregates: `sum` of columns, then the count if it is asked."""
+    """A grouping by some columns, and its aggregates: `sum` of columns, then the count if it is asked; of all rows, or of those for
+    which a condition holds."""
 
     name: str
     by: tuple
     sums: tuple
     count: bool
+    where: str = ""
 
     def aggregates(self, form="sum({})"):
         return ", ".join([form.format(column) for column in self.sums] + (["count(*)"] if self.count else []))
+
+    def condition(self):
+        return f" where {self.where}" if self.where else ""
 
 
 LOAD = Question("load alone", (), (), False)
 QUESTIONS = (
     LOAD,
     Question("id1: sum v1", ("id1",), ("v1",), False),
+    Question("id1: sum v1 where v2 > 7", ("id1",), ("v1",), False, "v2 > 7"),
     Question("id1, id2: sum v1", ("id1", "id2"), ("v1",), False),
     Question("id3: sum v1, sum v3, count", ("id3",), ("v1", "v3"), True),
     Question("id6: sums of v1, v2, v3", ("id6",), ("v1", "v2", "v3"), False),
@@ -71,7 +78,7 @@ class Groupsh:
         self.program = program
 
     def take(self, folder, question, answer):
-        script = f"group t by {', '.join(question.by)} show {question.aggregates()}" if question.by else ""
+        script = f"group t by {', '.join(question.by)} show {question.aggregates()}{question.condition()}" if question.by else ""
         words = ["-t", f"t={folder}/rows.csv", "-o", "csv", "-c", script]
         return run([*LARGE_PAGES, self.program, *words], answer)
 
@@ -85,7 +92,7 @@ class Sqlite:
         script = f"create table t ({columns});\n.mode csv\n.import --skip 1 {folder}/rows.csv t\n.headers on\n"
         if question.by:
             by = ", ".join(question.by)
-            script += f"select {by}, {question.aggregates()} from t group by {by};\n"
+            script += f"select {by}, {question.aggregates()} from t{question.condition()} group by {by};\n"
         with open(os.path.join(folder, "script.sql"), "w") as file:
             file.write(script)
         return run(["sh", "-c", f"{self.program} :memory: <{folder}/script.sql"], answer)
@@ -102,7 +109,8 @@ class Mawk:
         shown = ", ".join(["k", *[f"s{place}[k]" for place in range(len(totals))], *(["n[k]"] if question.count else [])])
         form = ",".join(["%s"] + ["%.0f"] * shown.count(","))
         last = f'END {{ print "names"; for (k in n) printf "{form}\\n", {shown} }}' if question.by else ""
-        text = f"NR > 1 {{ k = {key}; n[k]++; {'; '.join(totals)} }} {last}"
+        kept = re.sub(r"\w+", lambda word: field.get(word[0], word[0]), question.where) or "1"
+        text = f"NR > 1 && {kept} {{ k = {key}; n[k]++; {'; '.join(totals)} }} {last}"
         return run([self.program, "-F,", text, f"{folder}/rows.csv"], answer)
 
 
@@ -125,7 +133,8 @@ class Pandas(Timed):
         if question.by:
             named = [f"{column}=('{column}', 'sum')" for column in question.sums]
             named += ["n=('v1', 'size')"] if question.count else []
-            text += f"a = t.groupby({list(question.by)}).agg({', '.join(named)})\na.to_csv(sys.stdout)\n"
+            kept = f"t.query('{question.where}')" if question.where else "t"
+            text += f"a = {kept}.groupby({list(question.by)}).agg({', '.join(named)})\na.to_csv(sys.stdout)\n"
         text += "print(time.process_time() - start, file=sys.stderr)\n"
         return self.timed([self.program, "-c", text], folder, answer)
 
@@ -139,7 +148,7 @@ class DataTable(Timed):
         text += f"t <- fread('{folder}/rows.csv', nThread=1, showProgress=FALSE)\n"
         if question.by:
             named = [f"{column}=sum({column})" for column in question.sums] + (["n=.N"] if question.count else [])
-            text += f"a <- t[, .({', '.join(named)}), keyby=.({', '.join(question.by)})]\n"
+            text += f"a <- t[{question.where}, .({', '.join(named)}), keyby=.({', '.join(question.by)})]\n"
             text += f"fwrite(a, '{answer}', nThread=1, showProgress=FALSE)\n"
         text += "message(sum((proc.time() - start)[1:2]))\n"
         return self.timed([self.program, "-e", text], folder, os.path.join(folder, "nothing"))
@@ -211,7 +220,7 @@ class ClickHouse:
             clients = self.ask("insert into t format CSVWithNames", rows=f"{folder}/rows.csv") - idle
             if question.by:
                 by = ", ".join(question.by)
-                query = f"select {by}, {question.aggregates()} from t group by {by} order by {by} format CSVWithNames"
+                query = f"select {by}, {question.aggregates()} from t{question.condition()} group by {by} order by {by} format CSVWithNames"
                 clients += self.ask(query, answer) - idle
             after, memory = self.spent(server)
         finally:

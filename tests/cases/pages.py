@@ -145,7 +145,7 @@ def one_line_for_each_shape() -> None:
 def one_line_for_each_question() -> None:
     outcome = run(["./bench", "--questions", "1000"])
     judge(outcome, 0, Contains("all six: sum v3, count"))
-    assert len(outcome.stdout.splitlines()) == 8
+    assert len(outcome.stdout.splitlines()) == 9
 
 
 def refuse_words_of_bench(word: str) -> None:

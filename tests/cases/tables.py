@@ -23,6 +23,18 @@ FILES = {
     "words.csv": "n,w\n1,abcdefg\n2,\n3,é\n4,\\N\n5,abc\n6,abcdefg\n7,abcdefgh\n8,abcdefg\n9,\\N\n",
     "brief.csv": "n,w\n1,abcdefg\n2,\n3,é\n4,\\N\n5,abc\n6,abcdefg\n",
     "more.csv": "n,w\n10,abc\n11,\\N\n12,\n",
+    "wide.csv": "id,name,x,y,note\n1,Oslo,3,\\N,a\n2,a name of its own block,5,2,b\n3,Rome,1,7,c\n"
+    "4,Oslo,8,8,d\n5,\\N,2,9,e\n6,Rome,6,1,f\n",
+    "few.csv": "n\n1\n3\n\\N\n3\n",
+}
+# Which rows of wide.csv are kept by columns that are neither shown nor grouped by.
+KEPT = {
+    "count(*), sum(x) where y > 1": "\\N,1,2\nOslo,1,8\nRome,1,1\na name of its own block,1,5\n",
+    "count(*), sum(x) where x < y": "\\N,1,2\nRome,1,1\n",
+    "count(*), sum(x) where y is null": "Oslo,1,3\n",
+    "count(*), sum(x) exists wide (name) = (name)": "Oslo,2,11\nRome,2,7\na name of its own block,1,5\n",
+    "count(*), sum(x) not exists few (n) = (id)": "\\N,1,2\nOslo,1,8\nRome,1,6\na name of its own block,1,5\n",
+    "count(*), sum(x) where x > 2 and note < 'b' exists few (n) = (id)": "Oslo,1,3\n",
 }
 def lines(*values: object) -> str:
     """One value a line."""
@@ -271,4 +283,17 @@ def odd_files() -> list[Case]:
     ]
 
 
-CASES = [*names(), *kinds(), *several_files(), *odd_files()]
+def kept() -> list[Case]:
+    tables = of_tables("wide.csv", "few.csv")
+    return [
+        Case(
+            f"a table of five columns, {query}",
+            [*tables, "-o", "csv", "-c", f"group wide by name show {query}"],
+            stdout="name,count(*),sum(x)\n" + rows,
+            files=FILES,
+        )
+        for query, rows in KEPT.items()
+    ]
+
+
+CASES = [*names(), *kinds(), *several_files(), *odd_files(), *kept()]
