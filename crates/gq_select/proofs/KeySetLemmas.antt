@@ -1,6 +1,5 @@
 -- The keys of rows, with one row more.
 use Rattle.std.proofs.Common.{◌≡◌, ◌&&◌, ◌||◌, ℕ, zero, suc, Bool, true, false, not, List, [], ◌∷◌, ◌++◌, None, Some, refl, sym, ap, ◌∙◌}
-use Rattle.std.specs.Prelude.{Result, Ok, Err, OnOk}
 use Rattle.std.specs.List.{list_any, slice_get}
 use Rattle.std.proofs.lemmas.List.Folds.{list_any-append}
 use Rattle.sw_index.specs.Index.{HasNone}
@@ -124,10 +123,6 @@ none_found (k ∷ ks) key none = told (same_key key k) refl (none_found ks key (
     told : (b : Bool) → same_key key k ≡ b → list_any (same_key key) ks ≡ false → (same_key key k || list_any (same_key key) ks) ≡ false
     told true e rest = absurd (none zero k refl (ap class_of (sym (same_key_exact key k e))))
     told false e rest = ap (λ b. b || list_any (same_key key) ks) e ∙ rest
-
-pub on_ok : {T E : Type 0} {P Q : Type 0} (r : Result T E) → (P → Q) → OnOk r P → OnOk r Q
-on_ok (Ok x) f p = f p
-on_ok (Err e) f p = p
 
 -- ---- null on either side
 

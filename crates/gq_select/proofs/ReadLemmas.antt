@@ -9,7 +9,7 @@ use Rattle.gq_select.specs.declared.condition.Operand.{Operand}
 use Rattle.gq_select.specs.declared.condition.Operand.TheVariants.{Column, Literal}
 use Rattle.gq_select.specs.declared.condition.Test.{Test}
 use Rattle.gq_select.specs.declared.condition.Test.TheVariants.{Compare, IsNull, IsNotNull}
-use Rattle.gq_select.specs.Truths.{all_of, columns_of, compared, decided, is_true, keeps, operand_columns, test_columns, truth_of, value_of}
+use Rattle.gq_select.specs.Truths.{all_of, columns_of, compared, decided, is_true, keeps, operand_columns, test_columns, truth, truth_of, value_of}
 
 -- one test after the other
 pub columns_next : (before : List ℕ) (tests : List Test) (test : Test) (i : ℕ) → i < length tests → test ≡ slice_index_or tests i test
@@ -47,6 +47,9 @@ same_truths (test ∷ tests) row other same =
     let both = same_parts (test_columns test) (columns_of tests) row other same in
     λ i. same_test test row other both.0 i ∷ same_truths tests row other both.1 i
 
--- what tests keep depends on the columns that they read alone
+-- the truth of tests depends on the columns that they read alone
+pub truth_same : (tests : List Test) (row other : List Value) → SameIn (columns_of tests) row other → truth tests row ≡ truth tests other
+truth_same tests row other same = ap all_of (same_truths tests row other same)
+
 pub keeps_same : (tests : List Test) (row other : List Value) → SameIn (columns_of tests) row other → keeps tests row ≡ keeps tests other
-keeps_same tests row other same = ap (λ truths. is_true (all_of truths)) (same_truths tests row other same)
+keeps_same tests row other same = ap is_true (truth_same tests row other same)

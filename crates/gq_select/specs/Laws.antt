@@ -1,5 +1,5 @@
 -- What the definitions imply, in the subject's own words.
-use Rattle.std.specs.Prelude.{◌≡◌, ◌&&◌, ◌||◌, ℕ, Bool, true, false, not, IsTrue, List, [], ◌∷◌, if◌then◌else◌}
+use Rattle.std.specs.Prelude.{◌≡◌, ◌&&◌, ◌||◌, ℕ, Bool, true, false, not, All, IsTrue, List, [], ◌∷◌, if◌then◌else◌}
 use Rattle.std.specs.List.{list_all}
 use Rattle.std.specs.declared.cmp.Ordering.{Ordering}
 use Rattle.gq_row.specs.declared.value.Value.{Value}
@@ -10,14 +10,14 @@ use Rattle.gq_row.specs.Fitting.{is_null, has_null}
 use Rattle.gq_row.specs.Folding.{folded, has_case, without_case}
 use Rattle.gq_row.specs.Order.{condition_order, plain_order, equal_value, same_value}
 use Rattle.gq_row.specs.Tables.{has_row}
-use Rattle.gq_row.specs.Rows.{key_of}
+use Rattle.gq_row.specs.Rows.{cell, key_of}
 use Rattle.gq_select.specs.declared.condition.Operand.{Operand}
 use Rattle.gq_select.specs.declared.condition.Test.{Test}
 use Rattle.gq_select.specs.declared.condition.Test.TheVariants.{Compare, IsNull, IsNotNull}
 use Rattle.gq_select.specs.declared.truth.Truth.{Truth}
 use Rattle.gq_select.specs.declared.truth.Truth.TheVariants.{True, False, Unknown}
 use Rattle.gq_select.specs.Matches.{exists}
-use Rattle.gq_select.specs.Truths.{is_unknown, decided, value_of, compared, all_of, truth, is_true_in, keeps}
+use Rattle.gq_select.specs.Truths.{is_unknown, decided, value_of, compared, all_of, columns_of, truth, is_true_in, keeps}
 
 -- SQL's table of `and`
 abbrev pub both : Truth → Truth → Truth
@@ -43,6 +43,10 @@ compares_values row (IsNotNull a) = true
 -- a condition that compares no null is true or false
 abbrev pub TwoValuedWithoutNull : Type 0
 TwoValuedWithoutNull = (tests : List Test) (row : List Value) → IsTrue (list_all (compares_values row) tests) → is_unknown (truth tests row) ≡ false
+
+-- a condition has the same truth in rows with the same values in the columns that its tests read
+abbrev pub ReadsItsColumns : Type 0
+ReadsItsColumns = (tests : List Test) (row other : List Value) → All (λ column. cell row column ≡ cell other column) (columns_of tests) → truth tests row ≡ truth tests other
 
 -- a row is kept exactly if each test is true; a comparison with null keeps none, whatever it is
 pub record KeepsWhatIsTrue : Type 0 where

@@ -1,6 +1,6 @@
 -- The truth of conditions, as SQL has it.
 use Rattle.std.specs.Prelude.{◌||◌, ◌++◌, ◌∷◌, [], ℕ, Bool, true, false, not, List, map, if◌then◌else◌, Option, Some, None}
-use Rattle.std.specs.List.{list_any}
+use Rattle.std.specs.List.{flat_map, list_any}
 use Rattle.gq_row.specs.declared.value.Value.{Value}
 use Rattle.gq_row.specs.declared.comparison.Comparison.{Comparison}
 use Rattle.gq_row.specs.Comparisons.{passes}
@@ -62,8 +62,7 @@ test_columns (IsNull a) = operand_columns a
 test_columns (IsNotNull a) = operand_columns a
 
 abbrev pub columns_of : List Test → List ℕ
-columns_of [] = []
-columns_of (test ∷ tests) = test_columns test ++ columns_of tests
+columns_of tests = flat_map test_columns tests
 
 -- the `and` of several truths: false if one is false, else unknown if one is unknown, else true
 abbrev pub all_of : List Truth → Truth

@@ -1,6 +1,7 @@
 //! Rows that match others.
 ghost use Rattle.std.specs.Prelude.{◌≡◌, ◌<◌, ◌≤◌, ◌++◌, ◌∷◌, [], ℕ, not, All, List, length, map, IsTrue, IsOk, IfOk, OnOk, OnErr};
 ghost use Rattle.gq_row.specs.declared.value.Value.{Value as Cell};
+ghost use Rattle.gq_row.specs.Classes.{class_of};
 ghost use Rattle.gq_row.specs.Fitting.{has_null};
 ghost use Rattle.gq_row.specs.Rows.{key_of};
 ghost use Rattle.gq_select.specs.KeySets.{AreKeysOf, has};
@@ -74,7 +75,7 @@ impl<H: KeyHash<Key>> KeySet<H> {
         }
     }
 
-    /// Whether it pays to find the candidates of many rows before the first look-up.
+    /// Whether it pays to find the candidates of many rows before the first look-up. No contract covers it.
     pub fn is_large(&self) -> bool {
         self.index.len() >= MANY_KEYS
     }
@@ -83,6 +84,7 @@ impl<H: KeyHash<Key>> KeySet<H> {
     #[inline]
     pub fn hash(&self, row: &[Value], columns: &[usize]) -> u64
         requires { All (λ column. column < length row.now) columns.now }
+        ensures { result ≡ H.hash_of self.now.index.hasher (class_of (key_of columns.now row.now)) }
     {
         self.index.hash(&KeyRef::new(row, columns))
     }

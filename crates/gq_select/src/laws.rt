@@ -1,7 +1,7 @@
 //! Laws: what the definitions imply, in the subject's own words. Each is the contract of a function that does
 //! nothing.
 ghost use Rattle.gq_select.specs.Laws.{AndIsOfTwo, TwoValuedWithoutNull, KeepsWhatIsTrue};
-ghost use Rattle.gq_select.specs.Laws.{ComparisonsAgree, MindsCase, NullHasNoMatch};
+ghost use Rattle.gq_select.specs.Laws.{ComparisonsAgree, MindsCase, NullHasNoMatch, ReadsItsColumns};
 
 /// Tests are joined as by SQL's table of `and`, two at a time.
 pub fn and_is_of_two()
@@ -11,6 +11,11 @@ pub fn and_is_of_two()
 /// A condition that compares no null is true or false.
 pub fn two_valued_without_null()
     ensures { TwoValuedWithoutNull }
+{}
+
+/// The truth of a condition depends only on the columns that its tests read.
+pub fn reads_its_columns()
+    ensures { ReadsItsColumns }
 {}
 
 /// A row is kept exactly if each test is true, and a comparison with null keeps none.

@@ -30,8 +30,8 @@
 //! semi_join(&keys, &row, &[2]);                  // the row's column 2 is some row's column 0
 //! ```
 //!
-//! Nothing is allocated for a row: operands are borrowed, and a key is looked up in its row, hashed once. A set
-//! copies a key only if it is new.
+//! Nothing is allocated for a row: operands are borrowed, and a key is looked up in its row and hashed
+//! once, or again if a candidate was tried in vain. A set copies a key only if it is new.
 //!
 //! # The contract above this crate
 //!

@@ -1,9 +1,10 @@
 use Rattle.std.proofs.Common.{◌≡◌, false, ◌∙◌, ◌++◌, ◌∷◌, [], sym, ap, subst, true≢false}
+use Rattle.std.proofs.lemmas.Result.{on_ok_weaker}
 use Rattle.sw_index.specs.Index.{HasNone}
 use Rattle.gq_row.specs.Classes.{class_of}
 use Rattle.gq_row.specs.Fitting.{has_null}
 use Rattle.gq_row.specs.Rows.{key_of}
-use Rattle.gq_select.proofs.KeySetLemmas.{among-null, among-known, among-new, none_found, on_ok, some_found}
+use Rattle.gq_select.proofs.KeySetLemmas.{among-null, among-known, among-new, none_found, some_found}
 use Rattle.gq_select.proofs.join.KeySet.add_at.Goals as goal
 
 pub returns-then-has_null-clause-keys : goal.returns-then-has_null-clause-keys
@@ -23,7 +24,7 @@ returns-in-Absent-clause-keys g c =
     let columns = c.args.columns.now in
     let row = c.args.row.now in
     let none : has_null columns row ≡ false = sym c.has_null.ensures ∙ c.if-has_null.false in
-    on_ok c.add.result
+    on_ok_weaker c.add.result
     (λ added rows are key. among-new columns rows keys c.add.new.self.keys row key none (added ∙ ap (λ k. keys ++ k ∷ []) c.new-key.ensures) (are key))
     c.add.ensures.added
 
