@@ -99,14 +99,14 @@ reads-none spec budget part_of n honest before now r m partitions told start sam
 
 -- one row more was read and placed
 pub reads-step : (spec : Spec) (budget as_many : ℕ) (part_of by_part : List Value → ℕ) (n : ℕ) (honest : Bool) (before now after : List (List Value) → Type 0) (r s t : Runs) (count written began columns w b : ℕ)
-    (m m' : List Pair) (partitions partitions' : List Partition) (row : List Value)
+    (m m' : List Pair) (partitions partitions' : List Partition) (row : List Value) (wrote runs : ℕ) → wrote ≡ written + w → runs ≡ began + b
     → Reads spec budget part_of n honest before now r count written began columns m partitions
     → (IsTrue honest → (rows : List (List Value)) → now rows → (rest : List (List Value)) × (rows ≡ row ∷ rest) × after rest)
     → ((parts : List (List (List Value))) → AllHeld r partitions parts → AllHeld s partitions parts)
     → as_many ≡ budget → by_part ≡ part_of → Places spec as_many by_part n row s t m m' partitions partitions' w b
     → (wide : ℕ) → wide ≡ cond (count == 0) (length row) columns
-    → Reads spec budget part_of n honest before after t (count + 1) (written + w) (began + b) wide m' partitions'
-reads-step spec budget as_many part_of by_part n honest before now after r s t count written began columns w b m m' partitions partitions' row read next stays same alike placed wide is_wide =
+    → Reads spec budget part_of n honest before after t (count + 1) wrote runs wide m' partitions'
+reads-step spec budget as_many part_of by_part n honest before now after r s t count written began columns w b m m' partitions partitions' row wrote runs is_wrote is_runs read next stays same alike placed wide is_wide =
     let held : AllHeld s partitions (left_lots spec part_of n read.done m) = stays (left_lots spec part_of n read.done m) read.held in
     record {
       done = read.done ++ row ∷ [];
@@ -117,8 +117,8 @@ reads-step spec budget as_many part_of by_part n honest before now after r s t c
           (more.0, left.1 ∙ ap (λ l. read.done ++ l) more.1 ∙ sym (append_assoc read.done (row ∷ []) more.0), more.2);
       resident = place.resident read.done read.resident;
       held = place.held read.done read.resident held;
-      wrote = omega (arith, place.left read.done read.resident, read.wrote);
-      began_runs = omega (arith, place.runs read.done read.resident held, read.began_runs);
+      wrote = omega (arith, place.left read.done read.resident, read.wrote, is_wrote);
+      began_runs = omega (arith, place.runs read.done read.resident held, read.began_runs, is_runs);
       wide = subst (λ n. IsWide n (read.done ++ row ∷ [])) (sym is_wide) (wide-step read.done row count columns read.counted read.wide);
     }
   where

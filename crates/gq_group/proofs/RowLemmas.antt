@@ -135,25 +135,25 @@ module _ (spec : Spec) (budget : ℕ) (part_of : List Value → ℕ) (fan_out mo
             })
 
         -- and it was placed
-        pub rows-more : (ready : Type 0) (after : List (List Value) → Type 0) (as_many : ℕ) (by_part : List Value → ℕ) (w n later wide : ℕ) → as_many ≡ budget → by_part ≡ part_of → Places spec as_many by_part fan_out row s t pairs m' partitions partitions' w n
+        pub rows-more : (ready : Type 0) (after : List (List Value) → Type 0) (as_many : ℕ) (by_part : List Value → ℕ) (w n later wide wrote runs : ℕ) → wrote ≡ written + w → runs ≡ began + n → as_many ≡ budget → by_part ≡ part_of → Places spec as_many by_part fan_out row s t pairs m' partitions partitions' w n
             → wide ≡ cond (count == 0) (length row) columns → 1 + later ≤ left → (KeepsOwn b' s t → ready) → (KeepsOwn b' s t → IsTrue s.honest → (rest : List (List Value)) → mid rest → after rest)
             → (source_makes ≡ false → s.made ≡ r.made) → t.made ≡ s.made + n
-            → RowsSoFar spec budget part_of fan_out most later gives after a b' ready source_makes r0 t (count + 1) (written + w) (began + n) wide m' partitions'
-        rows-more ready after as_many by_part w n later wide same alike placed is_wide fewer stays keeps made made_placing =
+            → RowsSoFar spec budget part_of fan_out most later gives after a b' ready source_makes r0 t (count + 1) wrote runs wide m' partitions'
+        rows-more ready after as_many by_part w n later wide wrote runs is_wrote is_runs same alike placed is_wide fewer stays keeps made made_placing =
             let done = placing a b b' partitions partitions' r0 r s t step put inv.ours inv.apart inv.others live in
             record {
               ready = stays done.kept;
-              read = reads-step spec budget as_many part_of by_part fan_out r0.honest gives now after r s t count written began columns w n pairs m' partitions partitions' row inv.read
+              read = reads-step spec budget as_many part_of by_part fan_out r0.honest gives now after r s t count written began columns w n pairs m' partitions partitions' row wrote runs is_wrote is_runs inv.read
                   (λ h rows is. let before = inv.others.same_honest ∙ h in let got = next before rows is in (got.0, got.1, keeps done.kept (step.same_honest ∙ before) got.0 got.2))
                   done.held same alike placed wide is_wide;
               bound = omega (arith, fewer, inv.bound);
-              less = omega (arith, inv.less, placed.one);
-              less_runs = omega (arith, inv.less_runs, placed.one_began);
+              less = omega (arith, inv.less, placed.one, is_wrote);
+              less_runs = omega (arith, inv.less_runs, placed.one_began, is_wrote, is_runs);
               same_length = places;
               ours = ours;
               apart = done.apart;
               others = done.others;
               grows = grows;
               owned = all_owned;
-              made = λ none. omega (arith, made none, inv.made none, made_placing);
+              made = λ none. omega (arith, made none, inv.made none, made_placing, is_runs);
             }

@@ -9,6 +9,8 @@ use Rattle.gq_group.specs.Partitioning.{row_groups, lots, one_if_some}
 use Rattle.gq_group.specs.Residents.{Resident, left_over}
 use Rattle.gq_group.specs.Partitions.{AllHeld, Filled, waiting}
 use Rattle.gq_group.specs.declared.pass.PassStats.{PassStats}
+use Rattle.gq_group.specs.declared.pass.Placed.{Placed}
+use Rattle.gq_group.specs.declared.pass.Placed.TheVariants.{Grouped, Spilled}
 use Rattle.gq_group.specs.declared.partition.Partition.{Partition}
 
 -- rows that can be grouped, all of one length
@@ -55,6 +57,16 @@ pub record Numbers (budget bound : ℕ) (partitions : List Partition) (stats : P
 -- the rows that are left, partition by partition
 abbrev pub left_lots : Spec → (List Value → ℕ) → ℕ → List (List Value) → List Pair → List (List (List Value))
 left_lots spec part_of n done m = lots part_of spec.by 0 n (left_over spec m done)
+
+-- how many rows were written when a row was placed, 0 or 1
+abbrev pub written_of : Placed → ℕ
+written_of Grouped = 0
+written_of (Spilled began) = 1
+
+-- how many runs were begun for it
+abbrev pub began_of : Placed → ℕ
+began_of Grouped = 0
+began_of (Spilled began) = began
 
 -- One row more was placed: in its group, or in the run of its partition.
 pub record Places (spec : Spec) (budget : ℕ) (part_of : List Value → ℕ) (n : ℕ) (row : List Value) (old new : Runs) (m m' : List Pair) (partitions partitions' : List Partition) (written began : ℕ) : Type 0 where

@@ -5,7 +5,7 @@ ghost use Rattle.gq_group.specs.Access.{Apart, LeavesOthers, HasCause};
 ghost use Rattle.gq_group.specs.Blocks.{IsHashed};
 ghost use Rattle.gq_group.specs.PassResults.{RowsRead, PassRan};
 ghost use Rattle.gq_group.specs.Partitioning.{partition_of, partition_by, fan_out};
-ghost use Rattle.gq_group.specs.Passes.{AreRows, Places};
+ghost use Rattle.gq_group.specs.Passes.{AreRows, Places, written_of, began_of};
 ghost use Rattle.gq_group.specs.Residents.{Resident};
 ghost use Rattle.gq_group.specs.Partitions.{among, Ours, AllHeld, AreEmpty};
 
@@ -43,11 +43,13 @@ pub(crate) struct PassStats {
     pub(crate) columns: usize,
 }
 
-// What became of a row: whether it was written, and whether a run was begun for it, as numbers.
+// What became of a row.
 #[derive(Clone, Copy)]
-struct Placed {
-    written: u64,
-    began: u64,
+enum Placed {
+    // It is in its group.
+    Grouped,
+    // It was written to a run, and this number of runs, 0 or 1, was begun for it.
+    Spilled { began: u64 },
 }
 
 // What was read, and what became of it.
@@ -96,7 +98,7 @@ fn place_row<H: KeyHash<Key> + Copy, S: RunStore>(
     ensures places { IfOk result (λ placed. Places pass.now.spec.now table.old.budget.entries
         (partition_by (H.hash_of table.old.groups.hasher) pass.now.depth)
         (fan_out pass.now.depth) ahead.now.row (S.runs store.old) (S.runs store.new) table.old.groups.pairs table.new.groups.pairs partitions.old.items partitions.new.items
-        placed.written placed.began) }
+        (written_of placed) (began_of placed)) }
     ensures budget { table.new.budget ≡ table.old.budget }
     ensures each { table.new.groups.each ≡ table.old.groups.each }
     ensures hasher { OnOk result (table.new.groups.hasher ≡ table.old.groups.hasher) }
@@ -105,7 +107,7 @@ fn place_row<H: KeyHash<Key> + Copy, S: RunStore>(
     ensures others { LeavesOthers (among partitions.old.items) (among partitions.new.items) (S.runs
         store.old) (S.runs store.new) }
     ensures made { IfOk result (λ placed.
-        (S.runs store.new).made ≡ (S.runs store.old).made + placed.began) }
+        (S.runs store.new).made ≡ (S.runs store.old).made + began_of placed) }
     ensures cause { (parts : List (List (List Cell))) →
         AllHeld (S.runs store.old) partitions.old.items parts →
         IfErr result (λ e. HasCause e (S.runs store.old) (S.runs store.new)) }
@@ -115,17 +117,14 @@ fn place_row<H: KeyHash<Key> + Copy, S: RunStore>(
         return Err(Refusal::Memory);
     };
     let Offered::Left(hash) = offered else {
-        return Ok(Placed {
-            written: 0,
-            began: 0,
-        });
+        return Ok(Placed::Grouped);
     };
     if !is_storable(&ahead.row) {
         return Err(Refusal::Memory);
     }
     let place = partition_of(pass.depth, hash);
     let began = spill(alloc, partitions, place, &ahead.row, store)?;
-    Ok(Placed { written: 1, began })
+    Ok(Placed::Spilled { began })
 }
 
 // The length of the first row.
@@ -174,10 +173,12 @@ fn read_rows<H: KeyHash<Key> + Copy, S: RunStore, R: RowSource<S>>(
         };
         let ahead = block.row(place);
         let placed = place_row(pass, ahead, block.hint(place), store, table, partitions)?;
+        if let Placed::Spilled { began } = placed {
+            rows_written += 1;
+            runs += began;
+        }
         columns = width(rows_read, columns, &ahead.row);
         rows_read += 1;
-        rows_written += placed.written;
-        runs += placed.began;
     }
     Ok(Taken {
         rows_read,

@@ -1,16 +1,20 @@
-use Rattle.std.proofs.Common.{◌+◌, ◌≤◌, [], ap, arith, ◌∙◌, Err, length, refl, subst, sym}
+use Rattle.std.proofs.Common.{◌≡◌, ◌+◌, ◌≤◌, ℕ, [], ap, arith, ◌∙◌, Err, length, refl, subst, sym}
 use Rattle.std.specs.Prelude.{IsTrue, List}
 use Rattle.gq_row.specs.declared.value.Value.{Value}
 use Rattle.gq_spill.specs.Handing.{Gave, taken}
 use Rattle.gq_group.specs.Blocks.{AreHashed, Then, left_of, row_at}
 use Rattle.gq_group.specs.Partitioning.{partition_by}
+use Rattle.gq_group.specs.Passes.{written_of, began_of}
 use Rattle.gq_group.specs.Residents.{Resident}
 use Rattle.gq_group.specs.declared.budget.Budget.{Budget}
+use Rattle.gq_group.specs.declared.pass.Placed.{Placed}
+use Rattle.gq_group.specs.declared.pass.Placed.TheVariants.{Grouped, Spilled}
 use Rattle.gq_group.specs.declared.refusal.Refusal.TheVariants.{Memory}
 use Rattle.gq_group.proofs.AccessLemmas.{leaves-refl}
 use Rattle.gq_group.proofs.BlockLemmas.{taken_hashed, taken_row, taken_there}
 use Rattle.gq_group.proofs.ReadLemmas.{known-left, ours-stays}
 use Rattle.gq_group.proofs.RowLemmas.{rows-none, rows-stopped, rows-done, rows-unplaced, rows-more}
+use Rattle.gq_group.proofs.pass.read_rows.Goals.{in-Spilled, in_default-placed}
 use Rattle.gq_group.proofs.pass.read_rows.Goals as goal
 
 pub rows-init : goal.rows-init
@@ -74,6 +78,11 @@ returns-in_err-placed-clause-read g c =
     ahead.row later next c.place_row.new.table.groups.pairs c.place_row.new.partitions.items t placed.same_length placed.ours placed.others (g.met.R.RowSource.own_live source s told.ready)
     _ c.from_residual-in_err-placed.result c.in_err-placed.field-0.0 c.from_residual-in_err-placed.ensures.1 placed.cause
 
+-- a row that is in its group was not written, and no run was begun for it
+not_spilled : (placed : Placed) → ((began : ℕ) → placed ≡ Spilled began → ⊥) → (written_of placed ≡ 0) × (began_of placed ≡ 0)
+not_spilled Grouped other = (refl, refl)
+not_spilled (Spilled began) other = absurd (other began refl)
+
 pub rows-preserved : goal.rows-preserved
 rows-preserved g c =
     let s = g.S.RunStore.runs c.next.new.store in
@@ -86,12 +95,18 @@ rows-preserved g c =
     let source = c.next.new.source in
     let told = c.in_ok-found.ensures.comes in
     let placed = c.in_ok-placed.ensures in
+    let counts : (c.match-placed.rows_written ≡ c.rows.rows_written + written_of c.in_ok-placed.placed) × (c.match-placed.runs ≡ c.rows.runs + began_of c.in_ok-placed.placed) =
+    elim c.match-placed.branch [
+      | in-Spilled w ↦ (w.rows_written-is ∙ ap (λ p. c.rows.rows_written + written_of p) (sym w.in-Spilled.is), w.runs-is ∙ ap (λ p. c.rows.runs + began_of p) (sym w.in-Spilled.is))
+      | in_default-placed w ↦ let none = not_spilled c.in_ok-placed.placed w.in_default-placed.not-Spilled in (omega (arith, w.rows_written-is, none.0), omega (arith, w.runs-is, none.1))
+    ] in
     let inv = c.rows.invariant in
     record {
       done = rows-more c.args.pass.now.spec.now c.args.table.now.budget.entries _ _ _ _ (g.R.RowSource.owns c.args.source.now) _ (g.S.RunStore.runs c.args.store.now) (g.R.RowSource.owns c.rows.source) (g.R.RowSource.owns c.next.new.source) _ _ _
           (g.S.RunStore.runs c.rows.store) s c.rows.rows_read c.rows.rows_written c.rows.runs c.rows.columns c.rows.table.groups.pairs c.rows.partitions.items c.rows.invariant.done told.others told.owned
           ahead.row later next c.place_row.new.table.groups.pairs c.place_row.new.partitions.items t placed.same_length placed.ours placed.others (g.met.R.RowSource.own_live source s told.ready)
-          _ (Then (left_of block.taken block.count block.rows.items) (g.R.RowSource.gives source t)) c.rows.table.budget.entries (partition_by (g.H.KeyHash.hash_of c.rows.table.groups.hasher) c.args.pass.now.depth) c.in_ok-placed.placed.written c.in_ok-placed.placed.began (length (left_of block.taken block.count block.rows.items) + g.R.RowSource.bound source) c.width-columns.result
+          _ (Then (left_of block.taken block.count block.rows.items) (g.R.RowSource.gives source t)) c.rows.table.budget.entries (partition_by (g.H.KeyHash.hash_of c.rows.table.groups.hasher) c.args.pass.now.depth) (written_of c.in_ok-placed.placed) (began_of c.in_ok-placed.placed) (length (left_of block.taken block.count block.rows.items) + g.R.RowSource.bound source) c.width-columns.result
+          c.match-placed.rows_written c.match-placed.runs counts.0 counts.1
           (ap (λ (x : Budget). x.entries) inv.budget) (ap (λ h. partition_by (g.H.KeyHash.hash_of h) c.args.pass.now.depth) inv.hasher) placed.places c.width-columns.ensures (subst (λ o. taken o + (length (left_of block.taken block.count block.rows.items) + g.R.RowSource.bound source) ≤ length (left_of c.rows.block.taken c.rows.block.count c.rows.block.rows.items) + g.R.RowSource.bound c.rows.source) row_is told.bound)
           (λ kept. g.met.R.RowSource.stays_ready source s t kept told.ready) (λ kept h rest left. (left.0, left.1, g.met.R.RowSource.keeps_rows source s t kept told.ready h left.0 left.2)) told.made placed.made;
       hashed = subst (λ h. AreHashed c.args.pass.now.spec.now (g.H.KeyHash.hash_of h) (left_of block.taken block.count block.rows.items)) inv.hasher c.in_ok-found.ensures.hashed;
@@ -128,7 +143,7 @@ pub overflow_add-rows_written : goal.overflow_add-rows_written
 overflow_add-rows_written g c = omega (arith, c.rows.invariant.done.bound, c.requires.few, c.rows.invariant.done.less, c.in_ok-placed.ensures.places.one)
 
 pub overflow_add-runs : goal.overflow_add-runs
-overflow_add-runs g c = omega (arith, c.rows.invariant.done.bound, c.requires.few, c.rows.invariant.done.less, c.rows.invariant.done.less_runs, c.in_ok-placed.ensures.places.one, c.in_ok-placed.ensures.places.one_began)
+overflow_add-runs g c = omega (arith, c.rows.invariant.done.bound, c.requires.few, c.rows.invariant.done.less, c.rows.invariant.done.less_runs, subst (λ p. began_of p ≤ written_of p) c.in-Spilled.is c.in_ok-placed.ensures.places.one_began)
 
 pub rows-smaller : goal.rows-smaller
 rows-smaller g c =
