@@ -144,6 +144,15 @@ impl Cells {
         }
     }
 
+    // Whether each of these rows is known to have a text out of line in a column that doesn't end with a quote. No
+    // contract covers it.
+    pub(crate) fn have_texts_apart(&self, rows: &[RowSpan], column: usize) -> bool {
+        match &self.stored {
+            Stored::Numbers(_) | Stored::Nullable(_) | Stored::Values(_) => false,
+            Stored::Tagged(values) => values.have_texts_apart(rows, column),
+        }
+    }
+
     /// Reserves room for `cells` more values.
     pub fn reserve(&mut self, cells: usize) -> Result<(), AllocError>
         ensures { self.new ≡ self.old }

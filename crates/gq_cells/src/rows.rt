@@ -163,6 +163,15 @@ impl Rows {
         }
     }
 
+    /// Whether all rows from `start` up to `end` are known to have a text out of line in a column that doesn't end
+    /// with a quote. It reads each text's last byte in as short a loop. No contract covers it.
+    pub fn have_texts_apart(&self, start: usize, end: usize, column: usize) -> bool {
+        match self.spans.get(start..end) {
+            Some(rows) => self.cells.have_texts_apart(rows, column),
+            None => false,
+        }
+    }
+
     /// Overwrites `row` with the row at a position. If both have one length, only texts longer than 22 bytes may
     /// allocate.
     pub fn copy_row(

@@ -195,6 +195,21 @@ impl TaggedCells {
         all < OVERFLOW
     }
 
+    // Whether each of these rows has a text out of line in a column that doesn't end with a quote. A loop as short as
+    // this one waits for the texts of many rows at once. No contract covers it.
+    pub(crate) fn have_texts_apart(&self, rows: &[RowSpan], column: usize) -> bool {
+        for row in rows {
+            let Some(word) = self.words.get(row.get().start.saturating_add(column)) else {
+                return false;
+            };
+            match self.overflow.get(word.wrapping_sub(OVERFLOW) as usize) {
+                Some(Value::Text(text)) if text.as_str().as_bytes().last() != Some(&b'"') => {}
+                _ => return false,
+            }
+        }
+        true
+    }
+
     // Compares two ranges as keys.
     pub(crate) fn compare(&self, a: Span, b: Span) -> Ordering
         requires { IsPart self.now a × IsPart self.now b }

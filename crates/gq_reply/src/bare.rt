@@ -44,7 +44,10 @@ pub(crate) fn may_be_bare(rows: &Rows, start: usize, end: usize) -> bool
 {
     let have_number_ends = rows.have_number_ends(start, end);
     match borrowed_column(rows, start, end) {
-        Some(column) => all_may_be_bare(rows, start, end, Checked::At(column)),
+        Some(column) => {
+            rows.have_texts_apart(start, end, column)
+                || all_may_be_bare(rows, start, end, Checked::At(column))
+        }
         None => have_number_ends || all_may_be_bare(rows, start, end, Checked::Ends),
     }
 }
