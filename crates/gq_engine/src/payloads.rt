@@ -23,6 +23,9 @@ use std::io::Read;
 use sw_index::expects_new_keys;
 use sw_probe::KeyHash;
 
+// With fewer rows, a column of numbers has less than a megabyte.
+const MANY_ROWS: u64 = 1 << 17;
+
 // Whether there was no memory for a payload.
 fn is_lost(payload: &Payload) -> bool
     ensures { result ≡ is_lost payload.now }
@@ -132,8 +135,24 @@ fn stage<H: KeyHash<Key> + Copy, R: Read + Drop>(
 fn make_room<H: KeyHash<Key> + Copy>(staged: &mut Table<H>, count: u64, lines: usize)
     ensures { staged.new ≡ staged.old }
 {
+    if lines == 0 {
+        return grow_columns(staged, count);
+    }
     if 4_096 <= count && expects_new_keys(count, staged.len() as u64, lines as u64) {
         let _ = staged.reserve(lines);
+    }
+}
+
+// Lets the columns of a long text grow eightfold at once, so that most of their pages are large ones. Pages
+// that are never written take addresses alone.
+fn grow_columns<H: KeyHash<Key> + Copy>(staged: &mut Table<H>, count: u64)
+    ensures { staged.new ≡ staged.old }
+{
+    if count < MANY_ROWS || !staged.schema().key().is_empty() {
+        return;
+    }
+    if count.trailing_zeros() % 3 == MANY_ROWS.trailing_zeros() % 3 {
+        let _ = staged.reserve(count.saturating_mul(8) as usize);
     }
 }
 
