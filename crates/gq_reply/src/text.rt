@@ -65,9 +65,21 @@ fn with_table(
     while written < rows.len() {
         let end = block_end(written, rows.len());
         text = with_rows(alloc, text, &mut buffer, rows, written, end)?;
+        if written == 0 {
+            make_room(&mut text, end, rows.len());
+        }
         written = end;
     }
     Ok(text)
+}
+
+// Reserves room for all rows, if memory allows, in the proportion of those that are written. A text that doubles
+// is copied, or its pages are moved.
+fn make_room(text: &mut Vec<u8>, written: usize, rows: usize)
+    ensures { text.new.items ≡ text.old.items }
+{
+    let each = text.len() / written.max(1);
+    let _ = text.reserve(each.saturating_mul(rows.saturating_sub(written)));
 }
 
 // Appends the record of the header.
