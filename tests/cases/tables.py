@@ -51,6 +51,8 @@ LATE = {
     "uneven.csv": lines("n", *MANY, "1,2"),
 }
 THOUSAND = {f"thousand/{number}.csv": f"i\n{number}\n" for number in range(1, 1001)}
+# Columns with more cells than those that grow by doubling, one with nulls, and one whose late texts are long.
+LONG = {"long.csv": lines("n,m,w", *(f"{n},{n if n % 7 else ''},{'a' if n < 135_000 else 'b' * 30}" for n in range(140_000)))}
 LONGEST_NAME = "n" * 63
 NAME_WANTED = Contains("write NAME=FILE, with a name of 1 to 63 bytes")
 USED_TWICE = Contains("error: standard input is used twice")
@@ -227,6 +229,12 @@ def several_files() -> list[Case]:
             [*of_tables(*(f"m={name}" for name in THOUSAND)), "-c", "group m show count(*), sum(i)"],
             stdout="ok 1\ncount(*),sum(i)\n1000,500500\n",
             files=THOUSAND,
+        ),
+        Case(
+            "columns of a long file",
+            ["-t", "long.csv", "-c", "group long by w show count(*), sum(n), count(m), sum(m)"],
+            stdout=f"ok 2\nw,count(*),sum(n),count(m),sum(m)\na,135000,9112432500,115714,7810675715\n{'b' * 30},5000,687497500,4286,589324285\n",
+            files=LONG,
         ),
         Case(
             "one table too many",
