@@ -51,7 +51,7 @@ LATE = {
     "uneven.csv": lines("n", *MANY, "1,2"),
 }
 THOUSAND = {f"thousand/{number}.csv": f"i\n{number}\n" for number in range(1, 1001)}
-# Columns with more cells than those that grow by doubling, one with nulls, and one whose late texts are long.
+# More rows than columns that grow by doubling have: numbers, numbers with nulls, and texts of which the last ones are long.
 LONG = {"long.csv": lines("n,m,w", *(f"{n},{n if n % 7 else ''},{'a' if n < 135_000 else 'b' * 30}" for n in range(140_000)))}
 LONGEST_NAME = "n" * 63
 NAME_WANTED = Contains("write NAME=FILE, with a name of 1 to 63 bytes")

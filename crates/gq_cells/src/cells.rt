@@ -144,7 +144,7 @@ impl Cells {
         }
     }
 
-    // Whether each of these rows is known to have a text out of line in a column that doesn't end with a quote. No
+    // Whether each of these rows is known to have, in a column, a text out of line that doesn't end with a quote. No
     // contract covers it.
     pub(crate) fn have_texts_apart(&self, rows: &[RowSpan], column: usize) -> bool {
         match &self.stored {

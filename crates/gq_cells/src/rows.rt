@@ -163,8 +163,8 @@ impl Rows {
         }
     }
 
-    /// Whether all rows from `start` up to `end` are known to have a text out of line in a column that doesn't end
-    /// with a quote. It reads each text's last byte in as short a loop. No contract covers it.
+    /// Whether all rows from `start` up to `end` are known to have, in a column, a text out of line that doesn't end
+    /// with a quote. As above, the loop over their last bytes is so short that these reads overlap. No contract covers it.
     pub fn have_texts_apart(&self, start: usize, end: usize, column: usize) -> bool {
         match self.spans.get(start..end) {
             Some(rows) => self.cells.have_texts_apart(rows, column),

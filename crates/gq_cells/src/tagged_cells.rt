@@ -195,16 +195,19 @@ impl TaggedCells {
         all < OVERFLOW
     }
 
-    // Whether each of these rows has a text out of line in a column that doesn't end with a quote. A loop as short as
-    // this one waits for the texts of many rows at once. No contract covers it.
+    // Whether each of these rows has, in a column, a text out of line that doesn't end with a quote. A loop as short
+    // as this one waits for the texts of many rows at once. No contract covers it.
     pub(crate) fn have_texts_apart(&self, rows: &[RowSpan], column: usize) -> bool {
         for row in rows {
             let Some(word) = self.words.get(row.get().start.saturating_add(column)) else {
                 return false;
             };
-            match self.overflow.get(word.wrapping_sub(OVERFLOW) as usize) {
-                Some(Value::Text(text)) if text.as_str().as_bytes().last() != Some(&b'"') => {}
-                _ => return false,
+            let index = word.wrapping_sub(OVERFLOW) as usize;
+            let Some(Value::Text(text)) = self.overflow.get(index) else {
+                return false;
+            };
+            if text.as_str().as_bytes().last() == Some(&b'"') {
+                return false;
             }
         }
         true

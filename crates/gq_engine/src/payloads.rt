@@ -129,8 +129,8 @@ fn stage<H: KeyHash<Key> + Copy, R: Read + Drop>(
     }
 }
 
-// Makes room for all lines of a payload if their rows are expected to have new keys. If there is no
-// memory for that, the table grows on its own.
+// Makes room for all lines of a payload if their rows are expected to have new keys, or for more rows if its
+// lines weren't counted. If there is no memory for that, the table grows on its own.
 #[cold]
 fn make_room<H: KeyHash<Key> + Copy>(staged: &mut Table<H>, count: u64, lines: usize)
     ensures { staged.new ≡ staged.old }
@@ -143,8 +143,8 @@ fn make_room<H: KeyHash<Key> + Copy>(staged: &mut Table<H>, count: u64, lines: u
     }
 }
 
-// Lets the columns of a long text grow eightfold at once, so that most of their pages are large ones. Pages
-// that are never written take addresses alone.
+// Reserves room for eight times the rows at each third power of two, so that most pages of the columns are
+// large ones. Pages that are never written take addresses alone.
 fn grow_columns<H: KeyHash<Key> + Copy>(staged: &mut Table<H>, count: u64)
     ensures { staged.new ≡ staged.old }
 {

@@ -1,10 +1,9 @@
-use Rattle.std.proofs.Common.{rules, ◌≡◌, ◌++◌, ◌∷◌, [], slice_set, ap, sym, ◌∙◌}
+use Rattle.std.proofs.Common.{◌++◌, ◌∷◌, [], slice_set, ap, sym, ◌∙◌}
 use Rattle.std.proofs.lemmas.List.{set_at}
 use Rattle.gq_row.specs.declared.value.Value.{Value}
 use Rattle.gq_row.specs.declared.value.Value.TheVariants as variant
 use Rattle.gq_row.proofs.key.push_short.Goals as goal
 
--- src/key.rt:204:9
 pub returns-clause-pushed : goal.returns-clause-pushed
 returns-clause-pushed c =
     let last : Value = variant.Text c.copy_short_from.new.self in
