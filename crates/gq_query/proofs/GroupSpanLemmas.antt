@@ -1,11 +1,11 @@
 -- Groups in one list of cells.
-use Rattle.std.proofs.Common.{◌≡◌, ◌<◌, ◌≤◌, ◌+◌, ◌-◌, ℕ, List, [], ◌∷◌, ◌++◌, length, map, take, drop, get_or, All, Ordering, Less, Equal, Greater, refl, sym, ap, subst, ◌∙◌, arith}
+use Rattle.std.proofs.Common.{◌≡◌, ◌<◌, ◌≤◌, ◌+◌, ◌-◌, ℕ, List, [], ◌∷◌, ◌++◌, length, map, take, drop, get_or, All, Ordering, refl, sym, ap, subst, ◌∙◌, arith}
 use denote.Param.Members.{Mut}
 use denote.Ref.{Bor}
 use Rattle.std.specs.Cmp.{IsTotalOrder}
 use Rattle.std.specs.Fn.{Called}
 use Rattle.std.specs.List.Sorted.{IsSorted, IsSortedByKey, IsSortedByClosure}
-use Rattle.std.specs.Ordering.{is_lt, ordering_then}
+use Rattle.std.specs.Ordering.{is_lt}
 use Rattle.std.proofs.lemmas.Cmp.{nat_cmp_total, on_total, then_total}
 use Rattle.std.proofs.lemmas.Fn.{always_returns_same}
 use Rattle.std.proofs.lemmas.List.Sorted.{ranks_by}
@@ -21,18 +21,13 @@ use Rattle.gq_cells.proofs.RowsLemmas.{part_kept, last_part}
 use Rattle.gq_group.specs.Groups.{Group}
 use Rattle.gq_query.specs.declared.sort_prefix.SortPrefix.{SortPrefix}
 use Rattle.gq_query.specs.declared.group_list.GroupSpan.{GroupSpan}
-use Rattle.gq_query.specs.SortPrefixes.{IsSortPrefix}
-use Rattle.gq_query.specs.GroupSpans.{IsGroupAt, IsSpan, group_at, compare_at, middle_of, end_of}
+use Rattle.gq_query.specs.GroupSpans.{IsGroupAt, IsSpan, group_at, key_at, compare_at, middle_of, end_of}
 use Rattle.gq_query.specs.Joining.{row_of}
-use Rattle.gq_query.proofs.SortPrefixLemmas.{compare_prefixes, told}
 
 -- ---- a group more
 
 kept_at : (xs ys : List Value) (s : GroupSpan) → IsGroupAt xs s → IsGroupAt (xs ++ ys) s
-kept_at xs ys s h = record {
-  within = omega (arith, h.within, length-append xs ys);
-  prefixed = subst (λ key. IsSortPrefix key s.prefix) (sym (part_kept xs ys s.start (middle_of s) (omega arith) (omega (arith, h.within)))) h.prefixed;
-}
+kept_at xs ys s h = omega (arith, h, length-append xs ys)
 
 all_kept : (xs ys : List Value) (spans : List GroupSpan) → All (IsGroupAt xs) spans → All (IsGroupAt (xs ++ ys)) spans
 all_kept xs ys spans h = λ k d lt. kept_at xs ys (get_or spans k d) (h k d lt)
@@ -41,7 +36,7 @@ groups_kept : (xs ys : List Value) (spans : List GroupSpan) → All (IsGroupAt x
 groups_kept xs ys [] h = refl
 groups_kept xs ys (s ∷ spans) h =
     let first = All-head (IsGroupAt xs) s spans h in
-    λ i. (part_kept xs ys s.start (middle_of s) (omega arith) (omega (arith, first.within)) i, part_kept xs ys (middle_of s) (end_of s) (omega arith) first.within i)
+    λ i. (part_kept xs ys s.start (middle_of s) (omega arith) (omega (arith, first)) i, part_kept xs ys (middle_of s) (end_of s) (omega arith) first i)
     ∷ groups_kept xs ys spans (All-tail (IsGroupAt xs) s spans h) i
 
 -- appending cells doesn't change the groups
@@ -55,17 +50,14 @@ record IsNext (xs key values cells : List Value) (s : GroupSpan) : Type 0 where
   pub keyed : s.key ≡ length key
   pub valued : s.values ≡ length values
   pub whole : cells ≡ (xs ++ key) ++ values
-  pub prefixed : IsSortPrefix key s.prefix
 
 -- a span of as many cells as the key and the values have
-next_by : (xs key values cells : List Value) (prefix : SortPrefix) (s : GroupSpan) → IsSpan prefix (length xs) (length key) (length values) s → IsSortPrefix key prefix → cells ≡ (xs ++ key) ++ values
-    → IsNext xs key values cells s
-next_by xs key values cells prefix s span prefixed whole = record {
+next_by : (xs key values cells : List Value) (s : GroupSpan) → IsSpan (length xs) (length key) (length values) s → cells ≡ (xs ++ key) ++ values → IsNext xs key values cells s
+next_by xs key values cells s span whole = record {
   start = span.begins;
   keyed = span.keyed;
   valued = span.valued;
   whole = whole;
-  prefixed = subst (IsSortPrefix key) (sym span.prefixed) prefixed;
 }
 
 middle_next : (xs key values cells : List Value) (s : GroupSpan) → IsNext xs key values cells s → middle_of s ≡ length (xs ++ key)
@@ -91,26 +83,23 @@ span_pushed : (xs key values cells : List Value) (spans : List GroupSpan) (s : G
     → All (IsGroupAt cells) (spans ++ s ∷ [])
 span_pushed xs key values cells spans s next h =
     let others : All (IsGroupAt ((xs ++ key) ++ values)) spans = subst (λ l. All (IsGroupAt l) spans) (sym (append_assoc xs key values)) (all_kept xs (key ++ values) spans h) in
-    let one : IsGroupAt ((xs ++ key) ++ values) s = record {
-      within = omega (arith, end_next xs key values cells s next);
-      prefixed = subst (λ k. IsSortPrefix k s.prefix) (sym (key_next xs key values cells s next)) next.prefixed;
-    } in
+    let one : IsGroupAt ((xs ++ key) ++ values) s = omega (arith, end_next xs key values cells s next) in
     subst (λ l. All (IsGroupAt l) (spans ++ s ∷ [])) (sym next.whole) (All-push (IsGroupAt ((xs ++ key) ++ values)) spans s others one)
 
 -- a group more, whose cells were appended to the list
-module _ (xs key values cells : List Value) (prefix : SortPrefix) (s : GroupSpan) (spans now : List GroupSpan) (whole : cells ≡ (xs ++ key) ++ values) (h : All (IsGroupAt xs) spans) where
-  pub put_groups : IsSpan prefix (length xs) (length key) (length values) s → IsSortPrefix key prefix → now ≡ spans ++ s ∷ [] → All (IsGroupAt cells) now
-  put_groups span prefixed is = subst (All (IsGroupAt cells)) (sym is) (span_pushed xs key values cells spans s (next_by xs key values cells prefix s span prefixed whole) h)
+module _ (xs key values cells : List Value) (s : GroupSpan) (spans now : List GroupSpan) (whole : cells ≡ (xs ++ key) ++ values) (h : All (IsGroupAt xs) spans) where
+  pub put_groups : IsSpan (length xs) (length key) (length values) s → now ≡ spans ++ s ∷ [] → All (IsGroupAt cells) now
+  put_groups span is = subst (All (IsGroupAt cells)) (sym is) (span_pushed xs key values cells spans s (next_by xs key values cells s span whole) h)
 
-  pub put_is : IsSpan prefix (length xs) (length key) (length values) s → IsSortPrefix key prefix → now ≡ spans ++ s ∷ [] → map (group_at cells) now ≡ map (group_at xs) spans ++ (key, values) ∷ []
-  put_is span prefixed is = ap (map (group_at cells)) is ∙ group_pushed xs key values cells spans s (next_by xs key values cells prefix s span prefixed whole) h
+  pub put_is : IsSpan (length xs) (length key) (length values) s → now ≡ spans ++ s ∷ [] → map (group_at cells) now ≡ map (group_at xs) spans ++ (key, values) ∷ []
+  put_is span is = ap (map (group_at cells)) is ∙ group_pushed xs key values cells spans s (next_by xs key values cells s span whole) h
 
   pub not_put : now ≡ spans → All (IsGroupAt cells) now
   not_put same = kept_on xs cells (key ++ values) spans now (whole ∙ append_assoc xs key values) same h
 
 -- the same span, by other names for where it begins and how many cells it has
-pub span_as : {prefix : SortPrefix} {start key values start' key' values' : ℕ} {s : GroupSpan} → start ≡ start' → key ≡ key' → values ≡ values' → IsSpan prefix start key values s → IsSpan prefix start' key' values' s
-span_as {prefix} {start} {key} {values} {start'} {key'} {values'} {s} a b c is = subst (λ n. IsSpan prefix n key' values' s) a (subst (λ n. IsSpan prefix start n values' s) b (subst (λ n. IsSpan prefix start key n s) c is))
+pub span_as : {start key values start' key' values' : ℕ} {s : GroupSpan} → start ≡ start' → key ≡ key' → values ≡ values' → IsSpan start key values s → IsSpan start' key' values' s
+span_as {start} {key} {values} {start'} {key'} {values'} {s} a b c is = subst (λ n. IsSpan n key' values' s) a (subst (λ n. IsSpan start n values' s) b (subst (λ n. IsSpan start key n s) c is))
 
 -- the cells behind others
 pub key_behind : (xs key cells : List Value) (start : ℕ) → start ≡ length xs → cells ≡ xs ++ key → drop start cells ≡ key
@@ -130,24 +119,13 @@ sorted_at {g = g} {f = f} cells spans up h =
     up (λ x y. is_lt (compare_at cells x y)) (ranks_by (spans_total cells) (λ s. s))
     (always_returns_same g (λ a r. is_lt r ≡ is_lt (compare_at cells a.0.now a.1.0.now)) f (λ a r f' k. (ap is_lt (h a r f' k).0, (h a r f' k).1)))
 
--- so they are in the order of the keys
-order_is : (cells : List Value) (a b : GroupSpan) → IsGroupAt cells a → IsGroupAt cells b
-    → compare_at cells a b ≡ compare_keys (part cells a.start (middle_of a)) (part cells b.start (middle_of b))
-order_is cells a b p q = decided (compare_prefixes a.prefix b.prefix) refl
-  where
-    decided : (o : Ordering) → o ≡ compare_prefixes a.prefix b.prefix → ordering_then o (compare_keys (part cells a.start (middle_of a)) (part cells b.start (middle_of b))) ≡ compare_keys (part cells a.start (middle_of a)) (part cells b.start (middle_of b))
-    decided Equal e = refl
-    decided Less e = told (part cells a.start (middle_of a)) (part cells b.start (middle_of b)) a.prefix b.prefix Less p.prefixed q.prefixed e (λ no. let none : ⊥ = cc in none)
-    decided Greater e = told (part cells a.start (middle_of a)) (part cells b.start (middle_of b)) a.prefix b.prefix Greater p.prefixed q.prefixed e (λ no. let none : ⊥ = cc in none)
-
-pub groups_sorted : (cells : List Value) (spans : List GroupSpan) → All (IsGroupAt cells) spans → IsSorted (compare_at cells) spans
-    → IsSortedByKey (λ (g : Group). g.0) compare_keys (map (group_at cells) spans)
-groups_sorted cells spans h up = λ k d low high.
+-- groups whose spans are in the order of their keys
+pub groups_sorted : (cells : List Value) (spans : List GroupSpan) → IsSortedByKey (key_at cells) compare_keys spans → IsSortedByKey (λ (g : Group). g.0) compare_keys (map (group_at cells) spans)
+groups_sorted cells spans up = λ k d low high.
     let none : GroupSpan = record { prefix = record { high = 0; low = 0 }; start = 0; key = 0; values = 0 } in
     let within : k + 1 < length spans = omega (arith, high, length-map spans (group_at cells)) in
     let before : k < length spans = omega (arith, within) in
-    rw (get_or-map (group_at cells) spans (k + 1) none d within, get_or-map (group_at cells) spans k none d before)
-    (ap is_lt (sym (order_is cells (get_or spans (k + 1) none) (get_or spans k none) (h (k + 1) none within) (h k none before))) ∙ up k none low within)
+    rw (get_or-map (group_at cells) spans (k + 1) none d within, get_or-map (group_at cells) spans k none d before) (up k none low within)
 
 -- ---- as rows
 
@@ -171,7 +149,7 @@ rows_within cells [] h = All-nil (IsPart cells)
 rows_within cells (s ∷ spans) h =
     let first = All-head (IsGroupAt cells) s spans h in
     All-cons (IsPart cells) (record { start = s.start; end = end_of s }) (map (λ (s : GroupSpan). record { start = s.start; end = end_of s }) spans)
-    (omega arith, first.within) (rows_within cells spans (All-tail (IsGroupAt cells) s spans h))
+    (omega arith, first) (rows_within cells spans (All-tail (IsGroupAt cells) s spans h))
 
 pub values_are : (cells : List Value) (spans : List GroupSpan)
     → map (row_at cells) (map (λ (s : GroupSpan). record { start = middle_of s; end = end_of s }) spans) ≡ map (λ (g : Group). g.1) (map (group_at cells) spans)
@@ -183,4 +161,4 @@ values_within cells [] h = All-nil (IsPart cells)
 values_within cells (s ∷ spans) h =
     let first = All-head (IsGroupAt cells) s spans h in
     All-cons (IsPart cells) (record { start = middle_of s; end = end_of s }) (map (λ (s : GroupSpan). record { start = middle_of s; end = end_of s }) spans)
-    (omega arith, first.within) (values_within cells spans (All-tail (IsGroupAt cells) s spans h))
+    (omega arith, first) (values_within cells spans (All-tail (IsGroupAt cells) s spans h))

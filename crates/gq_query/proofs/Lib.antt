@@ -1,4 +1,5 @@
 pub mod SortPrefixLemmas
+pub mod FrameLemmas
 pub mod GroupSpanLemmas
 pub mod HavingLemmas
 pub mod Joined

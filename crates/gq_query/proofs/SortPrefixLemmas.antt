@@ -19,7 +19,7 @@ use Rattle.gq_row.specs.Rows.{cell}
 use Rattle.gq_row.proofs.FoldLemmas.{folds_once, length-fold, then_same}
 use Rattle.gq_query.specs.declared.sort_prefix.SortPrefix.{SortPrefix}
 use Rattle.gq_query.specs.Ties.{TieUpTo, first_without, rest}
-use Rattle.gq_query.specs.SortPrefixes.{from_least, is_open, is_whole, is_wide, leading, number_word, past, past_word, rest_word, text_word, without_bytes, word_of, IsOfBytes, IsPairPrefix, IsSortPrefix, IsWord, Place}
+use Rattle.gq_query.specs.SortPrefixes.{from_least, is_open, is_whole, is_wide, leading, number_word, past, past_word, rest_word, text_word, without_bytes, word_of, IsOfBytes, IsPairPrefix, IsWord, Place}
 
 -- the order of prefixes, as that of numbers of sixteen bytes
 abbrev pub compare_prefixes : SortPrefix → SortPrefix → Ordering
@@ -30,10 +30,10 @@ AreBytes text = (i : ℕ) → get_or text i 0 < 256
 
 -- ---- numbers
 
-less : (x y : ℕ) → x < y → nat_cmp x y ≡ Less
+pub less : (x y : ℕ) → x < y → nat_cmp x y ≡ Less
 less x y lt = grind (arith, nat_tests)
 
-greater : (x y : ℕ) → y < x → nat_cmp x y ≡ Greater
+pub greater : (x y : ℕ) → y < x → nat_cmp x y ≡ Greater
 greater x y lt = grind (arith, nat_tests)
 
 pub same : (x y : ℕ) → x ≡ y → nat_cmp x y ≡ Equal
@@ -45,7 +45,7 @@ shifted k x y = by_ranked (x < y) (x ≡ y) (y < x) (nat_cmp x y) (ranked x y (n
     (λ e eq. same (k + x) (k + y) (ap (λ z. k + z) eq) ∙ sym e)
     (λ e gt. greater (k + x) (k + y) (omega (arith, gt)) ∙ sym e)
 
-below : (p a b x y : ℕ) → a < b → x < p → a * p + x < b * p + y
+pub below : (p a b x y : ℕ) → a < b → x < p → a * p + x < b * p + y
 below p a b x y lt small =
     let up : (a + 1) * p ≤ b * p = mul-le-mul_right p (omega (arith, lt)) in
     let parts : (a + 1) * p ≡ a * p + 1 * p = add-mul a 1 p in
@@ -275,7 +275,7 @@ by_words (NoCase s) (NoCase t) p q = texts_first 5 (fold_case s) (fold_case t) (
 
 -- ---- words that tie
 
-tied : (x y : ℕ) → nat_cmp x y ≡ Equal → x ≡ y
+pub tied : (x y : ℕ) → nat_cmp x y ≡ Equal → x ≡ y
 tied x y h = grind (arith, nat_tests)
 
 -- texts with the same first bytes, whose lengths tie up to one more, are in the order of what follows
@@ -361,7 +361,7 @@ equal_numbers : (m n : ℤ) → FitsSigned w64 m → FitsSigned w64 n → from_l
 equal_numbers m n p q e = sym (numbers m n p q) ∙ same (from_least m) (from_least n) e
 
 -- values with one whole word tie
-whole_tie : (v w : Value) → IsOfBytes v → IsOfBytes w → word_of v ≡ word_of w → is_whole (word_of v) ≡ true → folded_order v w ≡ Equal
+pub whole_tie : (v w : Value) → IsOfBytes v → IsOfBytes w → word_of v ≡ word_of w → is_whole (word_of v) ≡ true → folded_order v w ≡ Equal
 whole_tie = kinds (λ v w. is_whole (word_of v) ≡ true → folded_order v w ≡ Equal) (λ whole. refl)
     (λ m n p q e whole. equal_numbers m n p q (whole_number m n e whole))
     (λ s t p q e whole. whole_texts 4 s t (omega arith) p q e whole)
@@ -380,7 +380,7 @@ rest_tie = kinds (λ v w. ordering_then (nat_cmp (rest_word v) (rest_word w)) (f
     ∙ texts_first 5 (fold_case (drop 6 s)) (fold_case (drop 6 t)) (folded_bytes (drop 6 s) (dropped_bytes 6 s p)) (folded_bytes (drop 6 t) (dropped_bytes 6 t q)) ∙ sym on)
 
 -- and they are in the order of what follows in a text
-values_go_on : (v w : Value) → IsOfBytes v → IsOfBytes w → word_of v ≡ word_of w → folded_order v w ≡ folded_order (without_bytes 6 v) (without_bytes 6 w)
+pub values_go_on : (v w : Value) → IsOfBytes v → IsOfBytes w → word_of v ≡ word_of w → folded_order v w ≡ folded_order (without_bytes 6 v) (without_bytes 6 w)
 values_go_on = kinds (λ v w. folded_order v w ≡ folded_order (without_bytes 6 v) (without_bytes 6 w)) refl (λ m n p q e. refl)
     (λ s t p q e. texts_go_on s t p q (omega (arith, e)))
     folds_go_on
@@ -399,7 +399,7 @@ wide_tie = kinds (λ v w. is_wide (word_of v) ≡ true → rest_word v ≡ rest_
         let no : true ≡ false = sym wide ∙ (λ i. low i || high i) in
         cc no
 
-grouped : (a b c : Ordering) → ordering_then a b ≡ b → ordering_then a (ordering_then b c) ≡ ordering_then b c
+pub grouped : (a b c : Ordering) → ordering_then a b ≡ b → ordering_then a (ordering_then b c) ≡ ordering_then b c
 grouped Less Less c h = refl
 grouped Less Equal c h = cc h
 grouped Less Greater c h = cc h
@@ -425,7 +425,7 @@ null_last (Text t) o h = h
 null_last (NoCase t) o h = h
 
 -- So are keys, by the words of their first values.
-keys_by_words : (xs ys : List Value) → IsOfBytes (cell xs 0) → IsOfBytes (cell ys 0)
+pub keys_by_words : (xs ys : List Value) → IsOfBytes (cell xs 0) → IsOfBytes (cell ys 0)
     → ordering_then (nat_cmp (word_of (cell xs 0)) (word_of (cell ys 0))) (slice_cmp folded_order xs ys) ≡ slice_cmp folded_order xs ys
 keys_by_words [] [] p q = refl
 keys_by_words [] (y ∷ ys) p q = null_first y (nat_cmp (word_of Null) (word_of y)) (by_words Null y p q)
@@ -451,7 +451,7 @@ rest_words [] (y ∷ ys) p q e = nothing_below (rest_word y)
 rest_words (x ∷ xs) [] p q e = nothing_above (rest_word x)
 rest_words (x ∷ xs) (y ∷ ys) p q e = grouped (nat_cmp (rest_word x) (rest_word y)) (folded_order x y) (slice_cmp folded_order xs ys) (rest_tie x y p q e)
 
-one_by_one : (h l s : Ordering) → ordering_then h s ≡ s → (h ≡ Equal → ordering_then l s ≡ s) → ordering_then (ordering_then h l) s ≡ s
+pub one_by_one : (h l s : Ordering) → ordering_then h s ≡ s → (h ≡ Equal → ordering_then l s ≡ s) → ordering_then (ordering_then h l) s ≡ s
 one_by_one Less l s first second = first
 one_by_one Equal l s first second = second refl
 one_by_one Greater l s first second = first
@@ -465,6 +465,10 @@ low_rest v w p h e = ap (λ (f : SortPrefix). f.low) h.is ∙ (λ i. if (ap is_w
 
 high_is : (v w : Value) (p : SortPrefix) → IsPairPrefix v w p → p.high ≡ word_of v
 high_is v w p h = ap (λ (f : SortPrefix). f.high) h.is
+
+-- the prefix of a key is that of its first two values
+abbrev IsSortPrefix : List Value → SortPrefix → Type 0
+IsSortPrefix key prefix = IsPairPrefix (cell key 0) (cell key 1) prefix
 
 -- So keys are compared by the prefixes of their first values.
 folds_by_prefixes : (xs ys : List Value) (a b : SortPrefix) → IsSortPrefix xs a → IsSortPrefix ys b → ordering_then (compare_prefixes a b) (slice_cmp folded_order xs ys) ≡ slice_cmp folded_order xs ys
@@ -487,18 +491,6 @@ folds_by_prefixes xs ys a b p q =
         let other : is_whole b.high ≡ false = ap is_whole (sym e) ∙ w in
         (λ i. ordering_then (nat_cmp (low_rest (cell xs 0) (cell xs 1) a p w i) (low_rest (cell ys 0) (cell ys 1) b q other i)) (slice_cmp folded_order xs ys))
         ∙ rest_words xs ys p.first_held q.first_held tie
-
-keys_by_prefixes : (xs ys : List Value) (a b : SortPrefix) → IsSortPrefix xs a → IsSortPrefix ys b → ordering_then (compare_prefixes a b) (compare_keys xs ys) ≡ compare_keys xs ys
-keys_by_prefixes xs ys a b p q = grouped (compare_prefixes a b) (slice_cmp folded_order xs ys) (slice_cmp plain_order xs ys) (folds_by_prefixes xs ys a b p q)
-
-decided : (r k : Ordering) → (r ≡ Equal → ⊥) → ordering_then r k ≡ k → r ≡ k
-decided Less k not h = h
-decided Equal k not h = absurd (not refl)
-decided Greater k not h = h
-
--- If the prefixes of two keys don't tie, they decide the order of the keys.
-pub told : (xs ys : List Value) (a b : SortPrefix) (r : Ordering) → IsSortPrefix xs a → IsSortPrefix ys b → r ≡ compare_prefixes a b → (r ≡ Equal → ⊥) → r ≡ compare_keys xs ys
-told xs ys a b r p q e not = decided r (compare_keys xs ys) not (ap (λ o. ordering_then o (compare_keys xs ys)) e ∙ keys_by_prefixes xs ys a b p q)
 
 -- ---- keys that tie up to a place
 
@@ -523,7 +515,7 @@ first_whole : (values : List Value) → first_without 0 values ≡ values
 first_whole [] = refl
 first_whole (value ∷ values) = ap (λ v. v ∷ values) (none_without value)
 
-rest_cell : (place skip : ℕ) (key : List Value) → cell (rest place skip key) 0 ≡ without_bytes skip (cell key place)
+pub rest_cell : (place skip : ℕ) (key : List Value) → cell (rest place skip key) 0 ≡ without_bytes skip (cell key place)
 rest_cell place skip key =
     let at : place + 0 ≡ place = omega arith in
     first_cell skip (drop place key) ∙ ap (without_bytes skip) (get_or-drop place key 0 Null ∙ ap (λ k. get_or key k Null) at)
@@ -562,13 +554,13 @@ module _ (place skip : ℕ) (a b : List Value) (in_a : place < length a) (in_b :
   by_cells : slice_cmp folded_order a b ≡ ordering_then (folded_order (without_bytes skip (cell a place)) (without_bytes skip (cell b place))) (slice_cmp folded_order (drop (suc place) a) (drop (suc place) b))
   by_cells = tie ∙ (λ i. slice_cmp folded_order (rest_is place skip a in_a i) (rest_is place skip b in_b i))
 
-  past_cell : folded_order (without_bytes skip (cell a place)) (without_bytes skip (cell b place)) ≡ Equal → TieUpTo (suc place) 0 a b
+  pub past_cell : folded_order (without_bytes skip (cell a place)) (without_bytes skip (cell b place)) ≡ Equal → TieUpTo (suc place) 0 a b
   past_cell e =
       by_cells
       ∙ ap (λ o. ordering_then o (slice_cmp folded_order (drop (suc place) a) (drop (suc place) b))) e
       ∙ (λ i. slice_cmp folded_order (sym (first_whole (drop (suc place) a)) i) (sym (first_whole (drop (suc place) b)) i))
 
-  past_bytes : folded_order (without_bytes skip (cell a place)) (without_bytes skip (cell b place)) ≡ folded_order (without_bytes 6 (without_bytes skip (cell a place))) (without_bytes 6 (without_bytes skip (cell b place)))
+  pub past_bytes : folded_order (without_bytes skip (cell a place)) (without_bytes skip (cell b place)) ≡ folded_order (without_bytes 6 (without_bytes skip (cell a place))) (without_bytes 6 (without_bytes skip (cell b place)))
       → TieUpTo place (skip + 6) a b
   past_bytes e =
       by_cells

@@ -6,7 +6,7 @@ use Rattle.std.specs.List.Sorted.{IsSorted, IsSortedBy, IsSortedByKey, IsSortedW
 use Rattle.std.specs.Ordering.{is_lt, ordering_then}
 use Rattle.std.proofs.lemmas.List.{drop-map, get_or-append-add, get_or-drop, get_or-map, get_or-set_other, get_or-set_same, get_or-take, get_or_append_left, get_or_default, length-drop, length-map, length-take-le, map-append, take-map, take_at}
 use Rattle.std.proofs.lemmas.Bool.{cases_lt, cases_order}
-use Rattle.std.proofs.lemmas.List.Elements.{All-drop, All-head, All-tail, All-take}
+use Rattle.std.proofs.lemmas.List.Elements.{All-drop, All-head, All-map, All-tail, All-take}
 use Rattle.std.proofs.lemmas.List.Sorted.{All-permutation, IsPermutation-map, IsPermutation-put_mid, length_permutation}
 use Rattle.gq_query.specs.declared.sort_prefix.SortPrefix.{SortPrefix}
 use Rattle.gq_query.specs.declared.group_list.GroupSpan.{GroupSpan}
@@ -15,11 +15,14 @@ use Rattle.gq_row.specs.Order.{compare_keys}
 use Rattle.gq_row.specs.Rows.{cell}
 use Rattle.gq_cells.specs.declared.cell_ref.CellRef.{CellRef}
 use Rattle.gq_cells.specs.Cells.{value_of}
+use Rattle.gq_query.specs.declared.frames.Frames.{Frames}
 use Rattle.gq_query.specs.declared.tie_sort.Tie.{Tie}
 use Rattle.gq_query.specs.SortPrefixes.{IsPairPrefix, Place, past, without_bytes}
-use Rattle.gq_query.specs.GroupSpans.{HasPrefix, IsGroupAt, compare_at, key_at, middle_of, with_prefix}
+use Rattle.gq_query.specs.GroupSpans.{HasPrefix, IsGroupAt, compare_at, group_at, key_at, middle_of, with_prefix}
+use Rattle.gq_query.specs.Frames.{AreFrames, HasFramePrefix}
 use Rattle.gq_query.specs.Ties.{AreTied, GoesOn, HasRestPrefix, KeysTie, TieUpTo}
-use Rattle.gq_query.proofs.SortPrefixLemmas.{none_without, past_prefix, rest_first, same, tie_whole}
+use Rattle.gq_query.proofs.FrameLemmas.{frames_first}
+use Rattle.gq_query.proofs.SortPrefixLemmas.{past_prefix, rest_first, same, tie_whole}
 
 -- a span is below another by its prefix and its key, or by its key alone
 abbrev pub span_below : List Value → GroupSpan → GroupSpan → Bool
@@ -74,6 +77,37 @@ set_more P xs i x within is h k d lt = elim (cases_lt k i) [
 -- what was found is the cell at a position of the key of a span
 abbrev pub IsCellAt : List Value → List GroupSpan → ℕ → ℕ → CellRef → Type 0
 IsCellAt cells spans position k found = (d : GroupSpan) → value_of found ≡ cell (key_at cells (get_or spans k d)) position
+
+-- spans that were moved as the slice of a vector, and have other prefixes
+pub spans_moved : (n : ℕ) (ys xs zs : List GroupSpan) → n ≡ length ys → xs ≡ ys → ((p : SortPrefix) → IsPermutation (map (with_prefix p) xs) (map (with_prefix p) zs))
+    → (take n (zs ++ drop (length zs) ys) ≡ zs) × ((p : SortPrefix) → IsPermutation (map (with_prefix p) ys) (map (with_prefix p) (take n (zs ++ drop (length zs) ys))))
+spans_moved n ys xs zs long is moved =
+    let none : SortPrefix = record { high = 0; low = 0 } in
+    let from : (p : SortPrefix) → IsPermutation (map (with_prefix p) ys) (map (with_prefix p) zs) = λ p. subst (λ l. IsPermutation (map (with_prefix p) l) (map (with_prefix p) zs)) is (moved p) in
+    let as_long : length zs ≡ length ys = sym (length-map zs (with_prefix none)) ∙ length_permutation (map (with_prefix none) ys) (map (with_prefix none) zs) (from none) ∙ length-map ys (with_prefix none) in
+    let whole : take n (zs ++ drop (length zs) ys) ≡ zs = take_at zs (drop (length zs) ys) n (as_long ∙ sym long) in
+    (whole, λ p. subst (λ l. IsPermutation (map (with_prefix p) ys) (map (with_prefix p) l)) (sym whole) (from p))
+
+groups_same : (cells : List Value) (p : SortPrefix) (spans : List GroupSpan) → map (group_at cells) (map (with_prefix p) spans) ≡ map (group_at cells) spans
+groups_same cells p [] = refl
+groups_same cells p (s ∷ spans) = ap (λ l. group_at cells s ∷ l) (groups_same cells p spans)
+
+pub groups_moved : (cells : List Value) (ys zs : List GroupSpan) → ((p : SortPrefix) → IsPermutation (map (with_prefix p) ys) (map (with_prefix p) zs)) → IsPermutation (map (group_at cells) ys) (map (group_at cells) zs)
+groups_moved cells ys zs moved =
+    let p : SortPrefix = record { high = 0; low = 0 } in
+    subst (λ l. IsPermutation l (map (group_at cells) zs)) (groups_same cells p ys)
+    (subst (IsPermutation (map (group_at cells) (map (with_prefix p) ys))) (groups_same cells p zs) (IsPermutation-map (group_at cells) (map (with_prefix p) ys) (map (with_prefix p) zs) (moved p)))
+
+-- what doesn't depend on prefixes holds of spans that were moved
+pub moved_all : (P : GroupSpan → Type 0) (ys zs : List GroupSpan) → ((p : SortPrefix) (s : GroupSpan) → P s → P (with_prefix p s)) → ((s : GroupSpan) (p : SortPrefix) → P (with_prefix p s) → P s)
+    → ((p : SortPrefix) → IsPermutation (map (with_prefix p) ys) (map (with_prefix p) zs)) → All P ys → All P zs
+moved_all P ys zs to from moved all =
+    let p : SortPrefix = record { high = 0; low = 0 } in
+    let there : All P (map (with_prefix p) zs) = All-permutation P (map (with_prefix p) ys) (map (with_prefix p) zs) (moved p) (All-map P (with_prefix p) ys (λ k d lt. to p (get_or ys k d) (all k d lt))) in
+    λ k d lt. from (get_or zs k d) p (subst P (get_or-map (with_prefix p) zs k d d lt) (there k d (omega (arith, lt, length-map zs (with_prefix p)))))
+
+pub keep_places : (cells : List Value) (ys zs : List GroupSpan) → ((p : SortPrefix) → IsPermutation (map (with_prefix p) ys) (map (with_prefix p) zs)) → All (IsGroupAt cells) ys → All (IsGroupAt cells) zs
+keep_places cells ys zs moved all = moved_all (IsGroupAt cells) ys zs (λ p s h. h) (λ s p h. h) moved all
 
 -- a vector of `n` elements that were moved as a slice
 pub slice_moved : {X : Type 0} (n : ℕ) (ys zs : List X) → n ≡ length ys → IsPermutation ys zs → take n (zs ++ drop (length zs) ys) ≡ zs
@@ -220,25 +254,36 @@ tied_next cells tie next p spans on tied has same = record {
         subst (λ (at : Place). TieUpTo at.0 at.1 (key_at cells (get_or spans j d)) (key_at cells (get_or spans k d))) (sym on.further)
         (past_prefix tie.cell tie.skip (key_at cells (get_or spans j d)) (key_at cells (get_or spans k d)) p (pair_ties cells tie spans tied j k d at_j at_k) (one j d at_j) (one k d at_k) (within j d at_j) (within k d at_k))
 
+-- spans that were moved after their prefixes were changed
+pub changed_moved : (old changed new : List GroupSpan) → ((p : SortPrefix) → map (with_prefix p) changed ≡ map (with_prefix p) old) → IsPermutation changed new → (p : SortPrefix) → IsPermutation (map (with_prefix p) old) (map (with_prefix p) new)
+changed_moved old changed new kept moved p = subst (λ l. IsPermutation l (map (with_prefix p) new)) (kept p) (IsPermutation-map (with_prefix p) changed new moved)
+
+pub keep_widths : (width : ℕ) (ys zs : List GroupSpan) → ((p : SortPrefix) → IsPermutation (map (with_prefix p) ys) (map (with_prefix p) zs)) → All (λ (g : GroupSpan). width ≤ g.key) ys → All (λ (g : GroupSpan). width ≤ g.key) zs
+keep_widths width ys zs moved all = moved_all (λ (g : GroupSpan). width ≤ g.key) ys zs (λ p s h. h) (λ s p h. h) moved all
+
+key_long : (cells : List Value) (width : ℕ) (s : GroupSpan) → IsGroupAt cells s → width ≤ s.key → width ≤ length (key_at cells s)
+key_long cells width s group le = omega (arith, le, group, length-take-le (middle_of s - s.start) (drop s.start cells) (omega (arith, group, length-drop s.start cells)))
+
+-- groups in the order of prefixes that are made of codes, and of their keys if these tie
+pub frames_sorted : (cells : List Value) (width : ℕ) (frames : Frames) (spans : List GroupSpan) → AreFrames width frames → All (IsGroupAt cells) spans → All (λ (g : GroupSpan). width ≤ g.key) spans
+    → All (HasFramePrefix cells frames) spans → IsSorted (compare_at cells) spans → IsSortedByKey (key_at cells) compare_keys spans
+frames_sorted cells width frames spans valid at wide prefixed up = λ n d low high.
+    let before : n < length spans = omega (arith, high) in
+    let a = get_or spans (n + 1) d in
+    let b = get_or spans n d in
+    ap is_lt (sym (frames_first (key_at cells a) (key_at cells b) width (key_long cells width a (at (n + 1) d high) (wide (n + 1) d high)) (key_long cells width b (at n d before) (wide n d before)) frames valid a.prefix b.prefix (prefixed (n + 1) d high) (prefixed n d before)))
+    ∙ up n d low high
+
 -- all groups tie in nothing
 pub start_tied : (cells : List Value) (tie : Tie) (spans : List GroupSpan) → tie.cell ≡ 0 → tie.skip ≡ 0 → All (IsGroupAt cells) spans → All (λ (g : GroupSpan). tie.width ≤ g.key) spans → AreTied cells tie spans
 start_tied cells tie spans none nothing at wide = record {
   wide = λ k d lt.
       let span : GroupSpan = record { prefix = record { high = 0; low = 0 }; start = 0; key = 0; values = 0 } in
       let within : k < length spans = omega (arith, lt, length-map spans (key_at cells)) in
-      subst (λ key. tie.width ≤ length key) (sym (get_or-map (key_at cells) spans k span d within)) (long (get_or spans k span) (at k span within) (wide k span within));
+      subst (λ key. tie.width ≤ length key) (sym (get_or-map (key_at cells) spans k span d within)) (key_long cells tie.width (get_or spans k span) (at k span within) (wide k span within));
   ties = λ j a below k b within. subst (λ c. TieUpTo c tie.skip (get_or (map (key_at cells) spans) j a) (get_or (map (key_at cells) spans) k b)) (sym none)
       (subst (λ s. TieUpTo 0 s (get_or (map (key_at cells) spans) j a) (get_or (map (key_at cells) spans) k b)) (sym nothing) (tie_whole (get_or (map (key_at cells) spans) j a) (get_or (map (key_at cells) spans) k b)));
 }
-  where
-    long : (s : GroupSpan) → IsGroupAt cells s → tie.width ≤ s.key → tie.width ≤ length (key_at cells s)
-    long s group le = omega (arith, le, group.within, length-take-le (middle_of s - s.start) (drop s.start cells) (omega (arith, group.within, length-drop s.start cells)))
-
-pub start_prefixed : (cells : List Value) (tie : Tie) (spans : List GroupSpan) → tie.cell ≡ 0 → tie.skip ≡ 0 → All (IsGroupAt cells) spans → All (HasRestPrefix cells tie) spans
-start_prefixed cells tie spans none nothing at k d lt =
-    let s = get_or spans k d in
-    subst (λ c. IsPairPrefix (without_bytes tie.skip (cell (key_at cells s) c)) (cell (key_at cells s) (suc c)) s.prefix) (sym none)
-    (subst (λ n. IsPairPrefix (without_bytes n (cell (key_at cells s) 0)) (cell (key_at cells s) 1) s.prefix) (sym nothing) (subst (λ v. IsPairPrefix v (cell (key_at cells s) 1) s.prefix) (sym (none_without (cell (key_at cells s) 0))) (at k d lt).prefixed))
 
 -- the key of a span whose prefix was changed
 pub key_kept : (cells : List Value) (p : SortPrefix) (xs ys : List GroupSpan) (k : ℕ) (d : GroupSpan) → map (with_prefix p) xs ≡ map (with_prefix p) ys → k < length xs → key_at cells (get_or xs k d) ≡ key_at cells (get_or ys k d)

@@ -8,7 +8,6 @@ use Rattle.gq_row.specs.Order.{compare_keys}
 use Rattle.gq_group.specs.Groups.{Group}
 use Rattle.gq_query.specs.declared.sort_prefix.SortPrefix.{SortPrefix}
 use Rattle.gq_query.specs.declared.group_list.GroupSpan.{GroupSpan}
-use Rattle.gq_query.specs.SortPrefixes.{IsSortPrefix}
 
 -- where the cells of a span's key end
 abbrev pub middle_of : GroupSpan → ℕ
@@ -18,9 +17,8 @@ middle_of span = span.start + span.key
 abbrev pub end_of : GroupSpan → ℕ
 end_of span = middle_of span + span.values
 
--- a span with this prefix that begins at `start`, with `key` cells of the key and then `values` cells of the values
-pub record IsSpan (prefix : SortPrefix) (start key values : ℕ) (span : GroupSpan) : Type 0 where
-  pub prefixed : span.prefix ≡ prefix
+-- a span that begins at `start`, with `key` cells of the key and then `values` cells of the values
+pub record IsSpan (start key values : ℕ) (span : GroupSpan) : Type 0 where
   pub begins : span.start ≡ start
   pub keyed : span.key ≡ key
   pub valued : span.values ≡ values
@@ -33,10 +31,9 @@ group_at cells span = (part cells span.start (middle_of span), part cells (middl
 abbrev pub key_at : List Value → GroupSpan → List Value
 key_at cells span = part cells span.start (middle_of span)
 
--- a span is within a list, and its prefix is that of the key there
-pub record IsGroupAt (cells : List Value) (span : GroupSpan) : Type 0 where
-  pub within : end_of span ≤ length cells
-  pub prefixed : IsSortPrefix (part cells span.start (middle_of span)) span.prefix
+-- a span is within a list
+abbrev pub IsGroupAt : List Value → GroupSpan → Type 0
+IsGroupAt cells span = end_of span ≤ length cells
 
 -- a span has this prefix
 abbrev pub HasPrefix : SortPrefix → GroupSpan → Type 0

@@ -7,6 +7,7 @@ pub mod Selecting
 pub mod Work
 -- contracts of single functions
 pub mod Cells
+pub mod Frames
 pub mod SortPrefixes
 pub mod GroupSpans
 pub mod Joining

@@ -80,10 +80,6 @@ pub record IsPairPrefix (first second : Value) (prefix : SortPrefix) : Type 0 wh
   pub first_held : IsOfBytes first
   pub second_held : is_whole prefix.high ≡ true → IsOfBytes second
 
--- the prefix of a key is that of its first two values
-abbrev pub IsSortPrefix : List Value → SortPrefix → Type 0
-IsSortPrefix key prefix = IsPairPrefix (cell key 0) (cell key 1) prefix
-
 -- the prefixes of a key without its first value, and without its first two
 pub record AreNextPrefixes (key : List Value) (prefixes : NextPrefixes) : Type 0 where
   pub second : IsPairPrefix (cell key 1) (cell key 2) prefixes.second

@@ -5,17 +5,14 @@
 ghost use Rattle.std.specs.Prelude.{◌≡◌, ◌+◌, ◌<◌, ◌^◌, ◌++◌, ◌∷◌, [], IfOk, IsOk, IsPermutation, OnOk, drop, length, slice_index_or, map};
 ghost use Rattle.std.specs.List.Sorted.{IsSortedByKey};
 ghost use Rattle.gq_row.specs.Order.{compare_keys};
-ghost use Rattle.gq_row.specs.Rows.{cell};
-ghost use Rattle.gq_cells.specs.Cells.{value_of};
 ghost use Rattle.gq_cells.specs.Lists.{IsPart, part, row_at};
 ghost use Rattle.gq_group.specs.Groups.{Group};
 ghost use Rattle.gq_query.specs.GroupSpans.{IsSpan, compare_at, end_of, middle_of};
-ghost use Rattle.gq_query.specs.SortPrefixes.{IsSortPrefix};
 ghost use Rattle.gq_query.specs.Joining.{row_of};
 
-use crate::sort_prefix::{SortPrefix, pair_prefix, prefix_in};
+use crate::sort_prefix::SortPrefix;
 use crate::tie_sort::sort_groups;
-use gq_cells::{CellRef, Cells, KeysLeft, RowSpan, Rows, Span};
+use gq_cells::{Cells, KeysLeft, RowSpan, Rows, Span};
 use gq_group::{GroupSink, Refusal};
 use gq_row::{Key, Value};
 use gq_spill::RunStore;
@@ -23,8 +20,8 @@ use std::alloc::{AllocError, Global};
 use std::cmp::Ordering;
 use std::marker::Model;
 
-/// The cells of a group, and the prefix of its key: `key` cells of the key from `start` on, then
-/// `values` cells of its values. It has 24 bytes, since each group has one and sorts move it.
+/// The cells of a group: `key` cells of its key from `start` on, then `values` cells of its values. Sorts
+/// set the prefix. It has 24 bytes, since each group has one and sorts move it.
 #[derive(Clone, Copy)]
 pub struct GroupSpan {
     pub(crate) prefix: SortPrefix,
@@ -37,13 +34,8 @@ impl GroupSpan {
     // A start of 2^32 cells (32 GiB or more), or a key or values of 2^16 cells, count as out of
     // memory.
     #[inline]
-    fn new(
-        prefix: SortPrefix,
-        start: usize,
-        key: usize,
-        values: usize,
-    ) -> Result<GroupSpan, AllocError>
-        ensures made { IfOk result (IsSpan prefix start key values) }
+    fn new(start: usize, key: usize, values: usize) -> Result<GroupSpan, AllocError>
+        ensures made { IfOk result (IsSpan start key values) }
         ensures fits { start < 2 ^ 32 → key < 2 ^ 16 → values < 2 ^ 16 → IsOk result }
     {
         match (
@@ -52,7 +44,7 @@ impl GroupSpan {
             u16::try_from(values),
         ) {
             (Ok(start), Ok(key), Ok(values)) => Ok(GroupSpan {
-                prefix,
+                prefix: SortPrefix { high: 0, low: 0 },
                 start,
                 key,
                 values,
@@ -159,9 +151,8 @@ impl GroupList {
     fn add(&mut self, key: Key, values: &mut Vec<Value>) -> Result<(), AllocError>
         ensures { OnOk result (self.new ≡ self.old ++ (key, values.old.items) ∷ []) }
     {
-        let prefix = prefix_in(&[], key.cells(), 0);
         let start = self.cells.len();
-        let span = GroupSpan::new(prefix, start, key.len(), values.len())?;
+        let span = GroupSpan::new(start, key.len(), values.len())?;
         put_key(self.alloc, &mut self.cells, key)?;
         self.cells.push_all(self.alloc, values.as_mut_slice())?;
         self.groups.push(span)?;
@@ -181,7 +172,7 @@ impl GroupList {
         let start = self.cells.len();
         self.cells.push_key(self.alloc, keys)?;
         let width = self.cells.len() - start;
-        let span = GroupSpan::new(prefix_at(&self.cells, start), start, width, values.len())?;
+        let span = GroupSpan::new(start, width, values.len())?;
         self.cells.push_all(self.alloc, values.as_mut_slice())?;
         self.groups.push(span)?;
         self.make_room(start);
@@ -197,8 +188,7 @@ impl GroupList {
     ) -> Result<(), AllocError>
         ensures { OnOk result (self.new ≡ self.old ++ (key.old.items, values.old.items) ∷ []) }
     {
-        let prefix = prefix_in(&[], key.as_slice(), 0);
-        let span = GroupSpan::new(prefix, self.cells.len(), key.len(), values.len())?;
+        let span = GroupSpan::new(self.cells.len(), key.len(), values.len())?;
         self.cells.push_all(self.alloc, key.as_mut_slice())?;
         self.cells.push_all(self.alloc, values.as_mut_slice())?;
         self.groups.push(span)?;
@@ -236,7 +226,7 @@ impl GroupList {
         ensures moved { IsPermutation self.old self.new }
         ensures ascending { IsSortedByKey (λ (g : Group). g.0) compare_keys self.new }
     {
-        sort_groups(&self.cells, self.groups.as_mut_slice());
+        sort_groups(self.alloc, &self.cells, self.groups.as_mut_slice());
     }
 
     /// The result rows of the groups: the key's values, then the shown values. No cell moves.
@@ -267,26 +257,6 @@ impl GroupList {
             spans.push(RowSpan::new(span)?)?;
         }
         Ok(Rows::of(self.cells, spans))
-    }
-}
-
-// The prefix of a key that is the cells from a position on.
-#[inline(always)]
-fn prefix_at(cells: &Cells, start: usize) -> SortPrefix
-    ensures { IsSortPrefix (drop start cells.now) result }
-{
-    pair_prefix(cell_after(cells, start, 0), cell_after(cells, start, 1))
-}
-
-// The cell `count` cells after a position, or null past the end.
-#[inline(always)]
-fn cell_after(cells: &Cells, start: usize, count: usize) -> CellRef<'_>
-    ensures { value_of result ≡ cell (drop start cells.now) count }
-{
-    let len = cells.len();
-    match start.checked_add(count) {
-        Some(place) if place < len => cells.get(place),
-        _ => CellRef::Null,
     }
 }
 

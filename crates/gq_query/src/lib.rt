@@ -37,6 +37,7 @@
 
 mod cells;
 mod distinct;
+mod frames;
 mod group_list;
 mod grouping;
 pub mod laws;

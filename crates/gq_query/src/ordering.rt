@@ -2,8 +2,8 @@
 //!
 //! Sorting moves spans and no cells. It compares the prefixes of up to three values first, which
 //! are computed once. They leave the rows mostly in order, so the sort by whole rows after it is
-//! about one pass, and moves only spans whose prefixes tie. Groups keep their prefixes, and are
-//! sorted in place.
+//! about one pass, and moves only spans whose prefixes tie. Groups are sorted in place, by prefixes
+//! of more columns.
 ghost use Rattle.std.specs.Prelude.{◌≡◌, IfOk, IsPermutation, OnOk};
 ghost use Rattle.std.specs.List.Sorted.{IsSortedByKey};
 ghost use Rattle.gq_row.specs.Laws.{IsArranged};

@@ -11,7 +11,8 @@ use gq_cells::CellRef;
 use gq_row::{Value, fold_eight};
 
 /// The normalized key of two values in two words: that of the first value, then what it doesn't say
-/// of it; if it says all, that of the second value. As numbers they are in the order of the folds.
+/// of it; if it says all, that of the second value. As numbers they are in the order of the folds. While
+/// groups are sorted, the words may be numbers of codes instead.
 #[derive(Clone, Copy, PartialEq, Eq, PartialOrd, Ord)]
 pub struct SortPrefix {
     pub(crate) high: u64,
@@ -34,7 +35,7 @@ const TEXT: u64 = 4 << 56;
 const NO_CASE: u64 = 5 << 56;
 
 // How many bytes of a text a word has.
-const WORD_BYTES: usize = 6;
+pub(crate) const WORD_BYTES: usize = 6;
 
 // The length of texts that have more bytes than a word.
 const LONGER: u64 = 7;
@@ -68,7 +69,7 @@ fn past_word(word: u64, place: (usize, usize)) -> Option<(usize, usize)>
 
 // Whether a word is of a text that has more bytes.
 #[inline]
-fn is_open(word: u64) -> bool
+pub(crate) fn is_open(word: u64) -> bool
     ensures { result ≡ is_open word }
 {
     word >= TEXT && word % 256 == LONGER
@@ -147,9 +148,9 @@ fn column_in<'a>(columns: &[usize], row: &'a [Value], position: usize) -> CellRe
     }
 }
 
-/// The prefix of two values.
+// The prefix of two values.
 #[inline]
-pub fn pair_prefix(first: CellRef<'_>, second: CellRef<'_>) -> SortPrefix
+fn pair_prefix(first: CellRef<'_>, second: CellRef<'_>) -> SortPrefix
     ensures { IsPairPrefix (value_of first.entry) (value_of second.entry) result }
 {
     let high = word_of(first, 0);

@@ -1,20 +1,25 @@
-//! Sorts groups by their keys: by prefixes first, then by what follows them, depth first.
+//! Sorts groups by their keys: by prefixes of codes first, then those that tie by what follows, depth first.
 //!
-//! Those that tie are sorted by the prefixes of what follows in their keys: further cells, or the rest of a
-//! text that is longer than a prefix; then those that tie again, and so on. Prefixes that differ decide,
-//! so whole keys are compared only among a few groups, or where no cell is left.
+//! The codes of a prefix are chosen so that few keys tie in it. Groups that do are sorted by the normalized
+//! keys of their first cells, then by those of what follows: further cells, or the rest of a longer text; and
+//! so on. Prefixes that differ decide, so whole keys are compared only among a few groups, or where no cell is
+//! left.
 ghost use Rattle.std.specs.Prelude.{◌≡◌, ◌<◌, ◌≤◌, ◌+◌, ◌-◌, ℕ, not, All, IfSome, IsTrue, IsPermutation, length, map, slice_index_or};
-ghost use Rattle.std.specs.List.Sorted.{IsSorted};
+ghost use Rattle.std.specs.List.Sorted.{IsSorted, IsSortedByKey};
 ghost use Rattle.std.specs.Ordering.{is_lt};
+ghost use Rattle.gq_row.specs.Order.{compare_keys};
 ghost use Rattle.gq_row.specs.Rows.{cell};
 ghost use Rattle.gq_cells.specs.declared.cell_ref.CellRef.{CellRef as Reference};
 ghost use Rattle.gq_cells.specs.Cells.{value_of};
+ghost use Rattle.gq_query.specs.declared.sort_prefix.SortPrefix.{SortPrefix as Prefix};
 ghost use Rattle.gq_query.specs.GroupSpans.{HasPrefix, IsGroupAt, compare_at, key_at, with_prefix};
 ghost use Rattle.gq_query.specs.Ties.{AreTied, GoesOn, HasRestPrefix};
 
+use crate::frames::Frames;
 use crate::group_list::{GroupSpan, compare_keys_at, compare_spans};
 use crate::sort_prefix::{SortPrefix, is_whole, rest_word, word_of};
 use gq_cells::{CellRef, Cells};
+use std::alloc::Global;
 use std::cmp::Ordering;
 
 // How deep ties are nested at most. Deeper ones are sorted by whole keys.
@@ -56,11 +61,12 @@ impl Tie {
     }
 }
 
-/// Sorts groups by their keys: by their prefixes, then those that tie.
-pub(crate) fn sort_groups(cells: &Cells, groups: &mut [GroupSpan])
+/// Sorts groups by their keys, and overwrites their prefixes.
+pub(crate) fn sort_groups(alloc: Global, cells: &Cells, groups: &mut [GroupSpan])
     requires { All (IsGroupAt cells.now) groups.old }
-    ensures moved { IsPermutation groups.old groups.new }
-    ensures sorted { IsSorted (compare_at cells.now) groups.new }
+    ensures moved { (p : Prefix) → IsPermutation (map (with_prefix p) groups.old)
+        (map (with_prefix p) groups.new) }
+    ensures sorted { IsSortedByKey (key_at cells.now) compare_keys groups.new }
 {
     let whole = Tie {
         cell: 0,
@@ -68,10 +74,65 @@ pub(crate) fn sort_groups(cells: &Cells, groups: &mut [GroupSpan])
         width: least_width(groups),
         depth: MAX_DEPTH,
     };
+    let frames = Frames::of(alloc, cells, groups, whole.width);
+    frames.write_prefixes(cells, groups);
+    sort_prefixed(cells, groups, whole);
+}
+
+// Sorts groups by their prefixes, and by their keys where these tie.
+fn sort_prefixed(cells: &Cells, groups: &mut [GroupSpan], tie: Tie)
+    requires { AreTied cells.now tie groups.old }
+    ensures moved { IsPermutation groups.old groups.new }
+    ensures sorted { IsSorted (compare_at cells.now) groups.new }
+{
     groups.sort_unstable_by(|a, b| a.prefix.cmp(&b.prefix));
-    if !sort_ties(cells, groups, whole) {
+    if !sort_runs(cells, groups, tie) {
         groups.sort_unstable_by(|a, b| compare_spans(cells, a, b));
     }
+}
+
+// Sorts the groups of each prefix by their keys. Returns whether all are in order, which is so if they came
+// sorted by their prefixes.
+fn sort_runs(cells: &Cells, groups: &mut [GroupSpan], tie: Tie) -> bool
+    requires { AreTied cells.now tie groups.old }
+    ensures moved { IsPermutation groups.old groups.new }
+    ensures sorted { IsTrue result → IsSorted (compare_at cells.now) groups.new }
+{
+    let mut sorted = true;
+    let mut at = 0;
+    'runs: while at < groups.len() {
+        let end = tie_end(groups, at);
+        let prefix = groups[at].prefix;
+        sorted &= sort_run(cells, &mut groups[at..end], tie, prefix);
+        sorted &= follows(cells, groups, at);
+        at = end;
+    }
+    sorted
+}
+
+// Sorts groups with one prefix, which they keep, by their keys. Returns whether these are in order.
+#[inline]
+fn sort_run(cells: &Cells, groups: &mut [GroupSpan], tie: Tie, prefix: SortPrefix) -> bool
+    requires same { All (HasPrefix prefix) groups.old }
+    requires tied { AreTied cells.now tie groups.old }
+    ensures moved { IsPermutation groups.old groups.new }
+    ensures sorted { IsTrue result → IsSorted (compare_at cells.now) groups.new }
+{
+    groups.len() < 2 || sort_long_run(cells, groups, tie, prefix)
+}
+
+// The same for two groups or more.
+fn sort_long_run(cells: &Cells, groups: &mut [GroupSpan], tie: Tie, prefix: SortPrefix) -> bool
+    requires same { All (HasPrefix prefix) groups.old }
+    requires tied { AreTied cells.now tie groups.old }
+    ensures moved { IsPermutation groups.old groups.new }
+    ensures sorted { IsTrue result → IsSorted (compare_at cells.now) groups.new }
+{
+    if groups.len() > MAX_SHORT {
+        return sort_next(cells, groups, tie, prefix);
+    }
+    groups.sort_unstable_by(|a, b| compare_keys_at(cells, a, b));
+    true
 }
 
 // The minimum number of cells of a key.
@@ -251,7 +312,7 @@ fn cells_at<'a>(cells: &'a Cells, groups: &[GroupSpan], position: usize) -> [Cel
 
 // The cell of a group's key at a position, or null if the key is too short.
 #[inline]
-fn cell_at<'a>(cells: &'a Cells, group: &GroupSpan, position: usize) -> CellRef<'a>
+pub(crate) fn cell_at<'a>(cells: &'a Cells, group: &GroupSpan, position: usize) -> CellRef<'a>
     ensures { value_of result ≡ cell (key_at cells.now group.now) position }
 {
     if position >= group.key as usize {

@@ -16,7 +16,7 @@ invariant_of-self-in_err-push c =
     let key = c.args.key in
     let values = c.args.values.now.items in
     let whole : c.push_all.new.self ≡ (xs ++ key) ++ values = c.in_ok-push_all.ensures.pushed ∙ ap (λ l. c.put_key.new.cells ++ l) c.as_mut_slice.ensures.value ∙ ap (λ l. l ++ values) c.in_ok-put_key.ensures.put in
-    not_put xs key values c.push_all.new.self c.in_ok-span.span.prefix c.in_ok-span.span c.self.inside.groups.items c.push.new.self.items whole c.self.invariant (search rules)
+    not_put xs key values c.push_all.new.self c.in_ok-span.span c.self.inside.groups.items c.push.new.self.items whole c.self.invariant (search rules)
 
 pub invariant_of-self-2 : goal.invariant_of-self-2
 invariant_of-self-2 c =
@@ -24,9 +24,8 @@ invariant_of-self-2 c =
     let key = c.args.key in
     let values = c.args.values.now.items in
     let span = c.in_ok-span.span in
-    let prefix = c.prefix_in-prefix.result in
     let whole : c.push_all.new.self ≡ (xs ++ key) ++ values = c.in_ok-push_all.ensures.pushed ∙ ap (λ l. c.put_key.new.cells ++ l) c.as_mut_slice.ensures.value ∙ ap (λ l. l ++ values) c.in_ok-put_key.ensures.put in
-    put_groups xs key values c.push_all.new.self prefix span c.self.inside.groups.items c.push.new.self.items whole c.self.invariant (search rules) (search rules) c.in_ok-push.ensures.items
+    put_groups xs key values c.push_all.new.self span c.self.inside.groups.items c.push.new.self.items whole c.self.invariant (search rules) c.in_ok-push.ensures.items
 
 pub returns : goal.returns
 returns c =
@@ -34,7 +33,6 @@ returns c =
     let key = c.args.key in
     let values = c.args.values.now.items in
     let span = c.in_ok-span.span in
-    let prefix = c.prefix_in-prefix.result in
     let whole : c.push_all.new.self ≡ (xs ++ key) ++ values = c.in_ok-push_all.ensures.pushed ∙ ap (λ l. c.put_key.new.cells ++ l) c.as_mut_slice.ensures.value ∙ ap (λ l. l ++ values) c.in_ok-put_key.ensures.put in
-    c.make_room.ensures ∙ put_is xs key values c.push_all.new.self prefix span c.self.inside.groups.items c.push.new.self.items whole c.self.invariant (search rules) (search rules) c.in_ok-push.ensures.items
+    c.make_room.ensures ∙ put_is xs key values c.push_all.new.self span c.self.inside.groups.items c.push.new.self.items whole c.self.invariant (search rules) c.in_ok-push.ensures.items
     ∙ ap (λ l. l ++ (key, values) ∷ []) c.self.view_is

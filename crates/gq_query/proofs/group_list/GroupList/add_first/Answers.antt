@@ -1,8 +1,7 @@
-use Rattle.std.proofs.Common.{◌≡◌, ◌++◌, ◌∷◌, ◌∙◌, [], append_assoc, drop, length, refl, ap, subst, arith, rules}
+use Rattle.std.proofs.Common.{◌≡◌, ◌++◌, ◌∷◌, ◌∙◌, [], append_assoc, drop, length, refl, ap, arith, rules}
 use Rattle.std.specs.Prelude.{slice_index_or}
 use Rattle.std.proofs.lemmas.List.{length-append}
-use Rattle.gq_query.specs.SortPrefixes.{IsSortPrefix}
-use Rattle.gq_query.proofs.GroupSpanLemmas.{key_behind, kept_on, not_put, put_groups, put_is, span_as}
+use Rattle.gq_query.proofs.GroupSpanLemmas.{kept_on, not_put, put_groups, put_is, span_as}
 use Rattle.gq_query.proofs.group_list.GroupList.add_first.Goals as goal
 
 pub invariant_of-self-in_err-span : goal.invariant_of-self-in_err-span
@@ -24,7 +23,7 @@ invariant_of-self-in_err-push c =
     let key = slice_index_or c.args.keys.now 0 [] in
     let values = c.args.values.now.items in
     let whole : c.push_all.new.self ≡ (xs ++ key) ++ values = c.in_ok-push_all.ensures.pushed ∙ ap (λ l. c.push_key.new.self ++ l) c.as_mut_slice.ensures.value ∙ ap (λ l. l ++ values) c.in_ok-push_key.ensures.pushed in
-    not_put xs key values c.push_all.new.self c.in_ok-span.span.prefix c.in_ok-span.span c.self.inside.groups.items c.push.new.self.items whole c.self.invariant (search rules)
+    not_put xs key values c.push_all.new.self c.in_ok-span.span c.self.inside.groups.items c.push.new.self.items whole c.self.invariant (search rules)
 
 pub invariant_of-self-2 : goal.invariant_of-self-2
 invariant_of-self-2 c =
@@ -32,15 +31,13 @@ invariant_of-self-2 c =
     let key = slice_index_or c.args.keys.now 0 [] in
     let values = c.args.values.now.items in
     let span = c.in_ok-span.span in
-    let prefix = c.prefix_at.result in
     let whole : c.push_all.new.self ≡ (xs ++ key) ++ values = c.in_ok-push_all.ensures.pushed ∙ ap (λ l. c.push_key.new.self ++ l) c.as_mut_slice.ensures.value ∙ ap (λ l. l ++ values) c.in_ok-push_key.ensures.pushed in
     let begins = c.len-start.ensures in
     let both = length-append xs key in
     let more = ap length c.in_ok-push_key.ensures.pushed in
     let all = c.len.ensures in
     let is = span_as begins (omega (arith, begins, both, more, all)) (search rules) c.in_ok-span.ensures.made in
-    let prefixed = subst (λ k. IsSortPrefix k prefix) (key_behind xs key c.push_key.new.self c.len-start.result begins c.in_ok-push_key.ensures.pushed) c.prefix_at.ensures in
-    put_groups xs key values c.push_all.new.self prefix span c.self.inside.groups.items c.push.new.self.items whole c.self.invariant is prefixed c.in_ok-push.ensures.items
+    put_groups xs key values c.push_all.new.self span c.self.inside.groups.items c.push.new.self.items whole c.self.invariant is c.in_ok-push.ensures.items
 
 pub returns-clause-added : goal.returns-clause-added
 returns-clause-added c =
@@ -48,13 +45,11 @@ returns-clause-added c =
     let key = slice_index_or c.args.keys.now 0 [] in
     let values = c.args.values.now.items in
     let span = c.in_ok-span.span in
-    let prefix = c.prefix_at.result in
     let whole : c.push_all.new.self ≡ (xs ++ key) ++ values = c.in_ok-push_all.ensures.pushed ∙ ap (λ l. c.push_key.new.self ++ l) c.as_mut_slice.ensures.value ∙ ap (λ l. l ++ values) c.in_ok-push_key.ensures.pushed in
     let begins = c.len-start.ensures in
     let both = length-append xs key in
     let more = ap length c.in_ok-push_key.ensures.pushed in
     let all = c.len.ensures in
     let is = span_as begins (omega (arith, begins, both, more, all)) (search rules) c.in_ok-span.ensures.made in
-    let prefixed = subst (λ k. IsSortPrefix k prefix) (key_behind xs key c.push_key.new.self c.len-start.result begins c.in_ok-push_key.ensures.pushed) c.prefix_at.ensures in
-    c.make_room.ensures ∙ put_is xs key values c.push_all.new.self prefix span c.self.inside.groups.items c.push.new.self.items whole c.self.invariant is prefixed c.in_ok-push.ensures.items
+    c.make_room.ensures ∙ put_is xs key values c.push_all.new.self span c.self.inside.groups.items c.push.new.self.items whole c.self.invariant is c.in_ok-push.ensures.items
     ∙ ap (λ l. l ++ (key, values) ∷ []) c.self.view_is

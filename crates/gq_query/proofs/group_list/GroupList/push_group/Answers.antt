@@ -16,7 +16,7 @@ invariant_of-self-in_err-push c =
     let key = c.args.key.now.items in
     let values = c.args.values.now.items in
     let whole : c.push_all-2.new.self ≡ (xs ++ key) ++ values = c.in_ok-push_all-2.ensures.pushed ∙ ap (λ l. c.push_all.new.self ++ l) c.as_mut_slice-2.ensures.value ∙ ap (λ l. l ++ values) (c.in_ok-push_all.ensures.pushed ∙ ap (λ l. xs ++ l) c.as_mut_slice.ensures.value) in
-    not_put xs key values c.push_all-2.new.self c.in_ok-span.span.prefix c.in_ok-span.span c.self.inside.groups.items c.push.new.self.items whole c.self.invariant (search rules)
+    not_put xs key values c.push_all-2.new.self c.in_ok-span.span c.self.inside.groups.items c.push.new.self.items whole c.self.invariant (search rules)
 
 pub invariant_of-self-2 : goal.invariant_of-self-2
 invariant_of-self-2 c =
@@ -24,9 +24,8 @@ invariant_of-self-2 c =
     let key = c.args.key.now.items in
     let values = c.args.values.now.items in
     let span = c.in_ok-span.span in
-    let prefix = c.prefix_in-prefix.result in
     let whole : c.push_all-2.new.self ≡ (xs ++ key) ++ values = c.in_ok-push_all-2.ensures.pushed ∙ ap (λ l. c.push_all.new.self ++ l) c.as_mut_slice-2.ensures.value ∙ ap (λ l. l ++ values) (c.in_ok-push_all.ensures.pushed ∙ ap (λ l. xs ++ l) c.as_mut_slice.ensures.value) in
-    put_groups xs key values c.push_all-2.new.self prefix span c.self.inside.groups.items c.push.new.self.items whole c.self.invariant (search rules) (search rules) c.in_ok-push.ensures.items
+    put_groups xs key values c.push_all-2.new.self span c.self.inside.groups.items c.push.new.self.items whole c.self.invariant (search rules) c.in_ok-push.ensures.items
 
 pub returns : goal.returns
 returns c =
@@ -34,7 +33,6 @@ returns c =
     let key = c.args.key.now.items in
     let values = c.args.values.now.items in
     let span = c.in_ok-span.span in
-    let prefix = c.prefix_in-prefix.result in
     let whole : c.push_all-2.new.self ≡ (xs ++ key) ++ values = c.in_ok-push_all-2.ensures.pushed ∙ ap (λ l. c.push_all.new.self ++ l) c.as_mut_slice-2.ensures.value ∙ ap (λ l. l ++ values) (c.in_ok-push_all.ensures.pushed ∙ ap (λ l. xs ++ l) c.as_mut_slice.ensures.value) in
-    put_is xs key values c.push_all-2.new.self prefix span c.self.inside.groups.items c.push.new.self.items whole c.self.invariant (search rules) (search rules) c.in_ok-push.ensures.items
+    put_is xs key values c.push_all-2.new.self span c.self.inside.groups.items c.push.new.self.items whole c.self.invariant (search rules) c.in_ok-push.ensures.items
     ∙ ap (λ l. l ++ (key, values) ∷ []) c.self.view_is
