@@ -12,7 +12,7 @@ use Rattle.gq_row.specs.declared.value.Value.TheVariants.{Int, Null, Text}
 use Rattle.gq_row.specs.Order.{equal_value, same_key}
 use Rattle.gq_row.specs.Rows.{cell}
 use Rattle.gq_cells.specs.Keys.{AreInOrder, keys_in, values_in_order}
-use Rattle.gq_cells.specs.Words.{HasUtf8, IsWord, is_index, text_in, word_value}
+use Rattle.gq_cells.specs.Words.{HasText, IsWord, is_index, text_in, word_value}
 
 -- ---- words in order
 
@@ -83,15 +83,15 @@ ordered_words from to (word ∷ words) is = All-cons (IsWord to) word words (fir
       utf8 = is.1;
     }
 
-pub ordered_utf8 : (from to : ℕ) (words : List ℕ) → AreInOrder from words to → All HasUtf8 words
+pub ordered_utf8 : (from to : ℕ) (words : List ℕ) → AreInOrder from words to → All HasText words
 ordered_utf8 from to words is = λ k d lt. (ordered_words from to words is k d lt).utf8
 
 -- if words are UTF-8, so are the first one and the others
-pub utf8_taken : (all rest : List ℕ) (first : Option ℕ) → all ≡ option_to_list first ++ rest → All HasUtf8 all → IfSome first HasUtf8 × All HasUtf8 rest
-utf8_taken all rest None is utf8 = (tt, subst (All HasUtf8) is utf8)
-utf8_taken all rest (Some word) is utf8 = let both = subst (All HasUtf8) is utf8 in (All-head HasUtf8 word rest both, All-tail HasUtf8 word rest both)
+pub utf8_taken : (all rest : List ℕ) (first : Option ℕ) → all ≡ option_to_list first ++ rest → All HasText all → IfSome first HasText × All HasText rest
+utf8_taken all rest None is utf8 = (tt, subst (All HasText) is utf8)
+utf8_taken all rest (Some word) is utf8 = let both = subst (All HasText) is utf8 in (All-head HasText word rest both, All-tail HasText word rest both)
 
-pub ordered_own : (from to word : ℕ) (words : List ℕ) → is_index word ≡ false → HasUtf8 word → AreInOrder from words to → AreInOrder from (words ++ word ∷ []) to
+pub ordered_own : (from to word : ℕ) (words : List ℕ) → is_index word ≡ false → HasText word → AreInOrder from words to → AreInOrder from (words ++ word ∷ []) to
 ordered_own from to word [] own utf8 is = (λ index. let bad : ⊥ = cc in absurd bad, utf8, ap (λ b. cond b (suc from) from) own ∙ is)
 ordered_own from to word (w ∷ words) own utf8 is = (is.0, is.1, ordered_own (cond (is_index w) (suc from) from) to word words own utf8 is.2)
 

@@ -9,7 +9,7 @@ use Rattle.gq_row.specs.declared.value.Value.{Value}
 use Rattle.gq_row.specs.declared.value.Value.TheVariants.{Int, Null, Text}
 use Rattle.gq_cells.specs.declared.rows.Span.{Span}
 use Rattle.gq_cells.specs.Lists.{part, row_at}
-use Rattle.gq_cells.specs.Words.{AreWords, HasUtf8, IsWord, text_in, word_value}
+use Rattle.gq_cells.specs.Words.{AreWords, HasText, IsWord, text_in, word_value}
 use Rattle.gq_cells.proofs.RowsLemmas.{part_map}
 
 -- what is appended to the overflow changes no value of a word
@@ -118,6 +118,6 @@ pub words_at : (overflow : List Value) (words : List ℕ) (all : List Value) (s 
 words_at overflow words all s is = sym (part_map (word_value overflow) words s.start s.end) ∙ ap (λ cells. row_at cells s) is
 
 -- the texts of a part of the words
-pub utf8_at : (places : ℕ) (words : List ℕ) (s : Span) → All (IsWord places) words → All HasUtf8 (part words s.start s.end)
+pub utf8_at : (places : ℕ) (words : List ℕ) (s : Span) → All (IsWord places) words → All HasText (part words s.start s.end)
 utf8_at places words s all =
-    All-take HasUtf8 (s.end - s.start) (drop s.start words) (All-drop HasUtf8 s.start words (λ k d lt. (all k d lt).utf8))
+    All-take HasText (s.end - s.start) (drop s.start words) (All-drop HasText s.start words (λ k d lt. (all k d lt).utf8))

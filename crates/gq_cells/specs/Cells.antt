@@ -9,7 +9,7 @@ use Rattle.gq_cells.specs.declared.text_ref.TextRef.TheVariants as text_at
 use Rattle.gq_cells.specs.declared.row_ref.CellSlice.{CellSlice}
 use Rattle.gq_cells.specs.declared.row_ref.CellSlice.TheVariants as together
 use Rattle.gq_cells.specs.declared.cells.Stored.{Stored}
-use Rattle.gq_cells.specs.Words.{HasUtf8, short_in, word_value}
+use Rattle.gq_cells.specs.Words.{HasText, short_in, word_value}
 use Rattle.gq_cells.specs.declared.cells.Stored.TheVariants.{Numbers, Nullable, Values, Tagged}
 
 -- the value of a number, or null
@@ -54,7 +54,7 @@ abbrev pub HaveUtf8 : CellSlice → Type 0
 HaveUtf8 (together.Numbers numbers) = Unit {0}
 HaveUtf8 (together.Nullable numbers) = Unit {0}
 HaveUtf8 (together.Values values) = Unit {0}
-HaveUtf8 (together.Tagged words overflow) = All HasUtf8 words.now
+HaveUtf8 (together.Tagged words overflow) = All HasText words.now
 
 -- values are stored as numbers and nulls
 abbrev pub HasNullable : Stored → Type 0

@@ -3,7 +3,7 @@ use Rattle.std.specs.Prelude.{◌≡◌, ◌^◌, ◌+◌, ◌*◌, ℕ, zero, s
 use Rattle.gq_row.specs.Order.{same_key}
 use Rattle.gq_row.specs.declared.value.Value.{Value}
 use Rattle.gq_row.specs.declared.value.Value.TheVariants.{Null}
-use Rattle.gq_cells.specs.Words.{HasUtf8, is_index, word_value}
+use Rattle.gq_cells.specs.Words.{HasText, is_index, word_value}
 
 -- the first keys of a list of cells
 abbrev pub keys_in : ℕ → ℕ → List Value → List (List Value)
@@ -19,7 +19,7 @@ values_in_order (word ∷ words) others =
 -- words that are indices are those from one up to another, in order, and texts are UTF-8
 abbrev pub AreInOrder : ℕ → List ℕ → ℕ → Type 0
 AreInOrder from [] to = from ≡ to
-AreInOrder from (word ∷ words) to = (is_index word ≡ true → word ≡ 2 ^ 63 + from) × HasUtf8 word × AreInOrder (cond (is_index word) (suc from) from) words to
+AreInOrder from (word ∷ words) to = (is_index word ≡ true → word ≡ 2 ^ 63 + from) × HasText word × AreInOrder (cond (is_index word) (suc from) from) words to
 
 -- whether a key is the same as another, if there is another
 abbrev pub is_same : List Value → Option (List Value) → Bool

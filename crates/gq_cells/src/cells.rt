@@ -183,6 +183,7 @@ impl Cells {
                 Ok(())
             }
             Stored::Values(values) => over.copy_from(alloc, &values[position]),
+            Stored::Tagged(values) if values.copy_short(position, over) => Ok(()),
             Stored::Nullable(_) | Stored::Tagged(_) => self.copy_other_to(alloc, position, over),
         }
     }

@@ -3,7 +3,7 @@ ghost use Rattle.std.specs.Prelude.{◌≡◌, ◌<◌, ◌++◌, ◌∷◌, [],
 ghost use Rattle.std.specs.Vec.Iter.{into_iter_items};
 ghost use Rattle.gq_row.specs.declared.value.Value.TheVariants.{Null};
 ghost use Rattle.gq_cells.specs.Keys.{AreInOrder};
-ghost use Rattle.gq_cells.specs.Words.{HasUtf8, word_value};
+ghost use Rattle.gq_cells.specs.Words.{HasText, word_value};
 
 use crate::tagged_cells::{OVERFLOW, TEXT, TaggedCells, own_value};
 use gq_row::Value;
@@ -24,13 +24,13 @@ impl Model for CellsLeft {
     ghost use Rattle.std.specs.Vec.Iter.{into_iter_items};
     ghost use Rattle.gq_row.specs.declared.value.Value.{Value as Cell};
     ghost use Rattle.gq_cells.specs.Keys.{values_in_order};
-    ghost use Rattle.gq_cells.specs.Words.{HasUtf8};
+    ghost use Rattle.gq_cells.specs.Words.{HasText};
 
     ghost Value = { List Cell };
 
     ghost view = { λ c. values_in_order (into_iter_items c.words) (into_iter_items c.overflow) };
 
-    ghost invariant = { λ c. All HasUtf8 (into_iter_items c.words) };
+    ghost invariant = { λ c. All HasText (into_iter_items c.words) };
 }
 
 impl CellsLeft {
@@ -74,11 +74,11 @@ impl CellsLeft {
 // The next word.
 #[inline(always)]
 fn next_word(words: &mut vec::IntoIter<u64>) -> Option<u64>
-    requires { All HasUtf8 (into_iter_items words.old) }
+    requires { All HasText (into_iter_items words.old) }
     ensures taken { into_iter_items words.old ≡ option_to_list result ++ into_iter_items words.new }
     ensures end { IfNone result (into_iter_items words.old ≡ []) }
-    ensures utf8 { IfSome result HasUtf8 }
-    ensures left { All HasUtf8 (into_iter_items words.new) }
+    ensures utf8 { IfSome result HasText }
+    ensures left { All HasText (into_iter_items words.new) }
 {
     words.next()
 }

@@ -4,7 +4,7 @@ ghost use Rattle.std.specs.List.{slice_get};
 ghost use Rattle.gq_row.specs.Order.{equal_value, same_key};
 ghost use Rattle.gq_row.specs.Rows.{cell};
 ghost use Rattle.gq_cells.specs.Keys.{AreInOrder, is_same};
-ghost use Rattle.gq_cells.specs.Words.{HasUtf8, is_index, word_value};
+ghost use Rattle.gq_cells.specs.Words.{HasText, is_index, word_value};
 
 use crate::cells_left::CellsLeft;
 use crate::tagged_cells::{
@@ -123,7 +123,7 @@ impl Keys {
 #[inline(always)]
 fn has_values(words: &[u64], overflow: &[Value], key: &KeyRef<'_>) -> bool
     requires long { length words.now ≡ length key.now }
-    requires utf8 { All HasUtf8 words.now }
+    requires utf8 { All HasText words.now }
     ensures { result ≡ same_key key.now (map (word_value overflow.now) words.now) }
 {
     if words.len() == 1 {
@@ -136,7 +136,7 @@ fn has_values(words: &[u64], overflow: &[Value], key: &KeyRef<'_>) -> bool
 #[inline(never)]
 fn has_each(words: &[u64], overflow: &[Value], key: &KeyRef<'_>) -> bool
     requires long { length words.now ≡ length key.now }
-    requires utf8 { All HasUtf8 words.now }
+    requires utf8 { All HasText words.now }
     ensures { result ≡ same_key key.now (map (word_value overflow.now) words.now) }
 {
     for i in 0..words.len() {
@@ -151,7 +151,7 @@ fn has_each(words: &[u64], overflow: &[Value], key: &KeyRef<'_>) -> bool
 #[inline(always)]
 fn has_value(word: u64, overflow: &[Value], key: &KeyRef<'_>, position: usize) -> bool
     requires position { position < length key.now }
-    requires utf8 { HasUtf8 word }
+    requires utf8 { HasText word }
     ensures { result ≡ equal_value (cell key.now position) (word_value overflow.now word) }
 {
     if word < OVERFLOW {
@@ -173,7 +173,7 @@ fn has_value(word: u64, overflow: &[Value], key: &KeyRef<'_>, position: usize) -
 #[inline(always)]
 fn has_text(word: u64, key: &KeyRef<'_>, position: usize) -> bool
     requires position { position < length key.now }
-    requires utf8 { HasUtf8 word }
+    requires utf8 { HasText word }
     ensures { result ≡ equal_value (cell key.now position) (word_value [] word) }
 {
     if let Some(text) = key.text(position)
@@ -238,7 +238,7 @@ fn push_value(
 #[inline(always)]
 fn own_word(key: &KeyRef<'_>, position: usize) -> Option<u64>
     requires { position < length key.now }
-    ensures word { IfSome result (λ word. (is_index word ≡ false) × HasUtf8 word) }
+    ensures word { IfSome result (λ word. (is_index word ≡ false) × HasText word) }
     ensures value { IfSome result (λ word. word_value [] word ≡ cell key.now position) }
 {
     match key.number(position) {

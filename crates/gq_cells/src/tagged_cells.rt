@@ -1,5 +1,5 @@
 //! Numbers and short texts in eight bytes each, and longer texts out of line.
-ghost use Rattle.std.specs.Prelude.{◌≡◌, ◌<◌, ◌≤◌, ◌+◌, ◌*◌, ◌^◌, ◌++◌, ◌∷◌, ◌-ℤ◌, [], ℕ, false, pos, All, IfOk, IfNone, IfSome, IsOk, IsTrue, OnOk, OnErr, drop, length, map, take, slice_index_or};
+ghost use Rattle.std.specs.Prelude.{◌≡◌, ◌<◌, ◌≤◌, ◌+◌, ◌*◌, ◌^◌, ◌++◌, ◌∷◌, ◌-ℤ◌, [], ℕ, false, true, pos, All, IfOk, IfNone, IfSome, IsOk, IsTrue, OnOk, OnErr, drop, length, map, take, slice_index_or};
 ghost use Rattle.gq_row.specs.declared.value.Value.TheVariants.{Null};
 ghost use Rattle.gq_row.specs.Order.{compare_keys};
 ghost use Rattle.gq_row.specs.Written.{IsInPlace};
@@ -7,7 +7,7 @@ ghost use Rattle.std.specs.Cmp.Lexicographic.{slice_cmp};
 ghost use Rattle.std.specs.Ordering.{nat_cmp};
 ghost use Rattle.gq_cells.specs.Cells.{text_of, value_of};
 ghost use Rattle.gq_cells.specs.Lists.{IsPart, row_at};
-ghost use Rattle.gq_cells.specs.Words.{HasUtf8, IsWord, text_in, value_order, word_value};
+ghost use Rattle.gq_cells.specs.Words.{HasText, IsWord, text_in, value_order, word_value};
 
 use crate::cell_ref::CellRef;
 use crate::cells::push_value;
@@ -19,8 +19,8 @@ use std::cmp::Ordering;
 use std::marker::Model;
 
 /// A list of values, each with a tagged word: below 2^63 an integer biased by 2^62; below 3 · 2^62 an index
-/// into `overflow`, biased by 2^63, or null if that has no such place; else a text of up to seven bytes.
-/// `overflow` has all other values.
+/// into `overflow`, biased by 2^63, or null if that has no such place; else a text of up to seven bytes, padded with
+/// zeros. `overflow` has all other values.
 #[derive(Drop)]
 pub(crate) struct TaggedCells {
     pub(crate) words: Vec<u64>,
@@ -153,6 +153,20 @@ impl TaggedCells {
         self.get(position).copy_to(alloc, over)
     }
 
+    // Overwrites `over` with the value at a position, if that is a text in a word and `over` one that is stored inline.
+    // Returns whether it did; if not, `over` is unspecified.
+    #[inline(always)]
+    pub(crate) fn copy_short(&self, position: usize, over: &mut Value) -> bool
+        requires { position < length self.now }
+        ensures { result ≡ true → over.new ≡ slice_index_or self.now position Null }
+    {
+        let word = self.words[position];
+        if word < TEXT {
+            return false;
+        }
+        over.write_padded(word << 8, ((word >> 56) % 8) as usize)
+    }
+
     // How many values there may be before the list grows. No contract covers it.
     pub(crate) fn room(&self) -> usize {
         self.words.capacity()
@@ -176,7 +190,7 @@ impl TaggedCells {
     pub(crate) fn lend(&self, part: Span) -> (&[u64], &[Value])
         requires { IsPart self.now part }
         ensures values { map (word_value result.1.now) result.0.now ≡ row_at self.now part }
-        ensures utf8 { All HasUtf8 result.0.now }
+        ensures utf8 { All HasText result.0.now }
     {
         (&self.words[part.start..part.end], self.overflow.as_slice())
     }
@@ -254,7 +268,7 @@ pub(crate) fn word_of(value: &Value) -> Option<u64>
 pub(crate) fn word_of_text(text: &Text) -> Option<u64>
     ensures word { IfSome result (λ word. 3 * 2 ^ 62 ≤ word) }
     ensures text { IfSome result (λ word. text_in word ≡ text.now) }
-    ensures utf8 { IfSome result HasUtf8 }
+    ensures utf8 { IfSome result HasText }
 {
     let number = text.padded_number()?;
     Some(TEXT + ((text.len() as u64) << 56) + number / 256)
@@ -288,7 +302,7 @@ pub(crate) fn word_of_number(n: i64) -> Option<u64>
 // A reference to the value of a word.
 #[inline(always)]
 pub(crate) fn lend_word(word: u64, overflow: &[Value]) -> CellRef<'_>
-    requires { HasUtf8 word }
+    requires { HasText word }
     ensures { value_of result ≡ word_value overflow.now word }
 {
     if word < OVERFLOW {
@@ -305,7 +319,7 @@ pub(crate) fn lend_word(word: u64, overflow: &[Value]) -> CellRef<'_>
 
 // Compares the values of words lexicographically: by their folds alone, or by their bytes too.
 fn compare_words(a: &[u64], b: &[u64], overflow: &[Value], by_folds: bool) -> Ordering
-    requires { All HasUtf8 a.now × All HasUtf8 b.now }
+    requires { All HasText a.now × All HasText b.now }
     ensures { result ≡ slice_cmp (value_order by_folds)
         (map (word_value overflow.now) a.now) (map (word_value overflow.now) b.now) }
 {
@@ -330,7 +344,7 @@ fn compare_words(a: &[u64], b: &[u64], overflow: &[Value], by_folds: bool) -> Or
 // Compares the values of two words. Numbers, and texts with case, take no `Value`.
 #[inline(always)]
 fn compare_word(x: u64, y: u64, overflow: &[Value], by_folds: bool) -> Ordering
-    requires { HasUtf8 x × HasUtf8 y }
+    requires { HasText x × HasText y }
     ensures { result ≡ value_order by_folds (word_value overflow.now x) (word_value overflow.now y) }
 {
     if x < OVERFLOW && y < OVERFLOW {
@@ -357,7 +371,7 @@ fn compare_texts(a: TextRef<'_>, b: TextRef<'_>) -> Ordering
 
 // Compares the values of two words of any kinds.
 fn compare_other(x: u64, y: u64, overflow: &[Value], by_folds: bool) -> Ordering
-    requires { HasUtf8 x × HasUtf8 y }
+    requires { HasText x × HasText y }
     ensures { result ≡ value_order by_folds (word_value overflow.now x) (word_value overflow.now y) }
 {
     let (own_x, own_y) = (own_value(x), own_value(y));
@@ -372,7 +386,7 @@ fn compare_other(x: u64, y: u64, overflow: &[Value], by_folds: bool) -> Ordering
 
 // The number or the text in a word, or null if the word is an index.
 pub(crate) fn own_value(word: u64) -> Value
-    requires { HasUtf8 word }
+    requires { HasText word }
     ensures { result ≡ word_value [] word }
 {
     if word < OVERFLOW {

@@ -1,14 +1,15 @@
 -- Texts that fit in 22 bytes: how they are made, and when two are equal.
-use Rattle.std.proofs.Common.{◌≡◌, ◌+◌, ◌-◌, ◌≤◌, ℕ, Bool, true, false, List, [], ◌++◌, length, take, drop, replicate, bytes_eq, ◌&&◌, refl, sym, ap, subst, ◌∙◌, arith, append_assoc, length-append, length-drop, length-take-le}
+use Rattle.std.proofs.Common.{◌≡◌, ◌+◌, ◌-◌, ◌≤◌, ℕ, Bool, true, false, List, [], ◌∷◌, ◌++◌, get_or, length, take, drop, replicate, bytes_eq, ◌&&◌, refl, sym, ap, subst, ◌∙◌, arith, append_assoc, length-append, length-drop, length-take-le}
+use Rattle.std.specs.Int.{w64, to_be_bytes}
 use Rattle.std.specs.Prelude.{IsUtf8}
 use lib.Lanes.{put_chunk}
-use Rattle.std.proofs.lemmas.List.{drop-replicate, take_all, drop-drop, length-replicate, take-append-drop, take-append-le, take-take}
+use Rattle.std.proofs.lemmas.List.{drop-append-le, drop-replicate, replicate-append-replicate, take_all, drop-drop, length-replicate, take-append-drop, take-append-le, take-take}
 use Rattle.std.proofs.lemmas.Simd.{put_chunk_is}
 use Rattle.std.proofs.lemmas.Slice.{drop-append-drop}
 use Rattle.std.proofs.Math.Seq.{take-append_seam, drop-append_seam}
 use Rattle.std.proofs.lemmas.Bool.{and_parts}
 use Rattle.std.proofs.lemmas.Slice.Eq.{bytes_eq-Decides}
-use Rattle.gq_row.specs.ShortTexts.{IsShort, whole_again}
+use Rattle.gq_row.specs.ShortTexts.{IsPadded, IsShort, whole_again}
 
 -- as many zeros
 abbrev blank : ℕ → List ℕ
@@ -24,6 +25,31 @@ made text fits utf8 =
       text = ∣ subst IsUtf8 (sym (take-append_seam text (drop (length text) (blank 22)))) utf8 ∣₁;
       zeros = drop-append_seam text (drop (length text) (blank 22)) ∙ rest;
     }
+
+-- eight bytes, and zeros after them
+pub padded : (len : ℕ) (eight : List ℕ) → length eight ≡ 8 → IsPadded len eight → IsShort len (eight ++ blank 14) × (take len (eight ++ blank 14) ≡ take len eight)
+padded len eight long is =
+    let within : len ≤ length eight = omega (arith, is.few, long) in
+    let text = take-append-le len eight (blank 14) within in
+    let more : (8 - len) + 14 ≡ 22 - len = omega (arith, is.few) in
+    let fourteen : length (blank 14) ≡ 14 = refl in (
+      record {
+        fits = omega (arith, is.few);
+        whole = omega (arith, length-append eight (blank 14), fourteen, long);
+        text = subst (λ l. ∥ IsUtf8 l ∥₁) (sym text) is.text;
+        zeros = drop-append-le len eight (blank 14) within ∙ ap (λ l. l ++ blank 14) is.zeros ∙ replicate-append-replicate (8 - len) 14 0 ∙ ap blank more;
+      },
+      text,
+    )
+
+-- eight bytes of a list, and zeros after them
+abbrev pub eight_of : List ℕ → List ℕ
+eight_of b =
+    get_or b 0 0 ∷ get_or b 1 0 ∷ get_or b 2 0 ∷ get_or b 3 0 ∷ get_or b 4 0 ∷ get_or b 5 0 ∷ get_or b 6 0 ∷ get_or b 7 0
+    ∷ 0 ∷ 0 ∷ 0 ∷ 0 ∷ 0 ∷ 0 ∷ 0 ∷ 0 ∷ 0 ∷ 0 ∷ 0 ∷ 0 ∷ 0 ∷ 0 ∷ []
+
+pub eight_is : (n : ℕ) (b : List ℕ) → b ≡ to_be_bytes w64 n → eight_of b ≡ to_be_bytes w64 n ++ blank 14
+eight_is n b e = ap eight_of e
 
 -- the empty text has only zeros
 pub all_zeros : (len : ℕ) (bytes : List ℕ) → IsShort len bytes → take len bytes ≡ [] → bytes ≡ blank 22

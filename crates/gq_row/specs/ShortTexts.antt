@@ -1,5 +1,5 @@
 -- Texts of up to 22 bytes, stored inline.
-use Rattle.std.specs.Prelude.{◌≡◌, ◌-◌, ◌≤◌, ◌++◌, ℕ, List, length, take, drop, replicate, IsUtf8}
+use Rattle.std.specs.Prelude.{◌≡◌, ◌-◌, ◌≤◌, ◌<◌, ◌++◌, ℕ, List, length, take, drop, replicate, IsUtf8}
 use Rattle.std.proofs.Common.{◌∙◌, ap, sym, arith, take-append-drop, length-take-le}
 
 -- 22 bytes are a UTF-8 text of length `len`, padded with zeros
@@ -8,6 +8,12 @@ pub record IsShort (len : ℕ) (bytes : List ℕ) : Type 0 where
   pub whole : length bytes ≡ 22
   pub text : ∥ IsUtf8 (take len bytes) ∥₁
   pub zeros : drop len bytes ≡ replicate (22 - len) 0
+
+-- of eight bytes the first `len` are a UTF-8 text, and the others are zeros
+pub record IsPadded (len : ℕ) (bytes : List ℕ) : Type 0 where
+  pub few : len < 8
+  pub text : ∥ IsUtf8 (take len bytes) ∥₁
+  pub zeros : drop len bytes ≡ replicate (8 - len) 0
 
 -- a short text alone determines its length and all 22 bytes
 pub whole_again : (len : ℕ) (bytes : List ℕ) → IsShort len bytes

@@ -2,6 +2,7 @@
 ghost use Rattle.std.specs.Int.{w64, to_be_bytes};
 ghost use Rattle.std.specs.Prelude.{◌≡◌, ◌+◌, ◌-◌, ◌≤◌, ◌<◌, ◌++◌, [], IfNone, IfSome, IsUtf8, length, take, drop, replicate, bytes_eq};
 ghost use Rattle.sw_probe.specs.Hashes.{number_of};
+ghost use Rattle.gq_row.specs.ShortTexts.{IsPadded};
 
 use std::marker::Model;
 use std::simd::prelude::*;
@@ -85,6 +86,20 @@ impl ShortText {
     {
         copy_over(&mut self.bytes, chars.as_bytes());
         self.len = chars.len() as u8;
+    }
+
+    /// Overwrites this text with the first `len` of eight bytes, which are those of a number, big-endian.
+    #[inline(always)]
+    pub(crate) fn write_padded(&mut self, number: u64, len: usize)
+        requires { IsPadded len (to_be_bytes w64 number) }
+        ensures { self.new ≡ take len (to_be_bytes w64 number) }
+    {
+        let b = number.to_be_bytes();
+        self.bytes = [
+            b[0], b[1], b[2], b[3], b[4], b[5], b[6], b[7], 0, 0, 0, 0, 0, 0, 0, 0, 0, 0, 0, 0, 0,
+            0,
+        ];
+        self.len = len as u8;
     }
 
     #[inline]

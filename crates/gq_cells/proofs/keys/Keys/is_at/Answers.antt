@@ -5,7 +5,7 @@ use Rattle.std.proofs.lemmas.List.Elements.{All-drop, All-take}
 use Rattle.std.specs.List.{slice_get}
 use Rattle.gq_row.specs.Order.{same_key}
 use Rattle.gq_cells.specs.Keys.{is_same}
-use Rattle.gq_cells.specs.Words.{HasUtf8, word_value}
+use Rattle.gq_cells.specs.Words.{HasText, word_value}
 use Rattle.gq_cells.proofs.KeyLemmas.{key_long, key_words, no_key, ordered_utf8, other_length}
 use Rattle.gq_cells.proofs.keys.Keys.is_at.Goals as goal
 
@@ -14,8 +14,8 @@ has_values-requires-clause-utf8 c =
     let own = c.self.inside in
     let start = c.args.position * own.width in
     let end = start + own.width in
-    subst (λ l. All HasUtf8 (take (end - start) (drop start l))) (sym c.deref.ensures.value)
-    (All-take HasUtf8 (end - start) (drop start own.words.items) (All-drop HasUtf8 start own.words.items (ordered_utf8 0 (length own.overflow.items) own.words.items c.self.invariant.ordered)))
+    subst (λ l. All HasText (take (end - start) (drop start l))) (sym c.deref.ensures.value)
+    (All-take HasText (end - start) (drop start own.words.items) (All-drop HasText start own.words.items (ordered_utf8 0 (length own.overflow.items) own.words.items c.self.invariant.ordered)))
 
 pub returns-then-position-self : goal.returns-then-position-self
 returns-then-position-self c =

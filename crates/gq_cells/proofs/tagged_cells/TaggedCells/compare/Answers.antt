@@ -2,7 +2,7 @@ use Rattle.std.proofs.Common.{◌≡◌, ◌∙◌, All, Equal, length, map, sub
 use Rattle.std.specs.Cmp.Lexicographic.{slice_cmp}
 use Rattle.gq_row.specs.Order.{compare_values, folded_order}
 use Rattle.gq_cells.specs.Lists.{part, row_at}
-use Rattle.gq_cells.specs.Words.{HasUtf8, word_value}
+use Rattle.gq_cells.specs.Words.{HasText, word_value}
 use Rattle.gq_cells.proofs.TaggedCellLemmas.{utf8_at, words_at}
 use Rattle.gq_cells.proofs.OrderLemmas.{keys_by_folds, keys_by_values}
 use Rattle.gq_cells.proofs.tagged_cells.TaggedCells.compare.Goals as goal
@@ -13,8 +13,8 @@ compare_words-requires c =
     let words = c.self.inside.words.items in
     let a = c.args.a in
     let b = c.args.b in (
-      subst (λ l. All HasUtf8 (part l a.start a.end)) (sym c.deref.ensures.value) (utf8_at places words a c.self.invariant.all),
-      subst (λ l. All HasUtf8 (part l b.start b.end)) (sym c.deref-2.ensures.value) (utf8_at places words b c.self.invariant.all),
+      subst (λ l. All HasText (part l a.start a.end)) (sym c.deref.ensures.value) (utf8_at places words a c.self.invariant.all),
+      subst (λ l. All HasText (part l b.start b.end)) (sym c.deref-2.ensures.value) (utf8_at places words b c.self.invariant.all),
     )
 
 pub compare_words-requires-in-Equal : goal.compare_words-requires-in-Equal
@@ -23,8 +23,8 @@ compare_words-requires-in-Equal c =
     let words = c.self.inside.words.items in
     let a = c.args.a in
     let b = c.args.b in (
-      subst (λ l. All HasUtf8 (part l a.start a.end)) (sym c.deref.ensures.value) (utf8_at places words a c.self.invariant.all),
-      subst (λ l. All HasUtf8 (part l b.start b.end)) (sym c.deref-2.ensures.value) (utf8_at places words b c.self.invariant.all),
+      subst (λ l. All HasText (part l a.start a.end)) (sym c.deref.ensures.value) (utf8_at places words a c.self.invariant.all),
+      subst (λ l. All HasText (part l b.start b.end)) (sym c.deref-2.ensures.value) (utf8_at places words b c.self.invariant.all),
     )
 
 pub returns-in-Equal : goal.returns-in-Equal
