@@ -131,6 +131,23 @@ def matches(example):
     example.drop("ours")
 
 
+def close_keys(example):
+    """Groups whose keys mostly lie close, in order: a few texts begin otherwise or are long, and a few numbers are far off."""
+    names = ["path", "far", "near"]
+    front = "https://example.com/items/"
+    others = [None, "", front[:9], "~" * 40, front + "é", front + "0" * 30]
+    example.create("k", [("path", "text"), ("far", "int"), ("near", "int")])
+    paths = [front + str(i * 7919 % 60_013) if i % 997 else others[i // 997 % len(others)] for i in range(MANY)]
+    far = [i % 1013 * 64 - 500 if i % 991 else (-1) ** i * (GREATEST - i % 5) for i in range(MANY)]
+    example.load("k", names, [(path, number, i % 3 or None) for i, (path, number) in enumerate(zip(paths, far))])
+    example.group("k", names, [COUNT])
+    example.group("k", ["far", "path"], [("sum", "near")])
+    example.group("k", ["near", "far"], [COUNT, ("min", "path"), ("max", "path")])
+    example.group("k", ["near", "path", "far"], [("count distinct", "far")], rollup=True)
+    example.distinct("k", ["path", "near"])
+    example.drop("k")
+
+
 def sums(example):
     """Sums that pass 64 bits many thousand times over, and one that does so in the last group."""
     example.create("s", [("g", "int"), ("n", "int")])
@@ -311,6 +328,7 @@ PARTS = (
     longest_lists,
     groups_and_pairs,
     matches,
+    close_keys,
     sums,
     extremes,
     spellings,
