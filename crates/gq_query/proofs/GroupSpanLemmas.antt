@@ -9,7 +9,7 @@ use Rattle.std.specs.Ordering.{is_lt}
 use Rattle.std.proofs.lemmas.Cmp.{nat_cmp_total, on_total, then_total}
 use Rattle.std.proofs.lemmas.Fn.{always_returns_same}
 use Rattle.std.proofs.lemmas.List.Sorted.{ranks_by}
-use Rattle.std.proofs.Math.Seq.{drop-append_seam, take-add}
+use Rattle.std.proofs.Math.Seq.{take-add}
 use Rattle.std.proofs.lemmas.Grind.{common_steps}
 use Rattle.std.proofs.lemmas.List.{append_assoc, get_or-map, length-append, length-map, map-append}
 use Rattle.std.proofs.lemmas.List.Elements.{All-nil, All-cons, All-push, All-head, All-tail}
@@ -100,10 +100,6 @@ module _ (xs key values cells : List Value) (s : GroupSpan) (spans now : List Gr
 -- the same span, by other names for where it begins and how many cells it has
 pub span_as : {start key values start' key' values' : ℕ} {s : GroupSpan} → start ≡ start' → key ≡ key' → values ≡ values' → IsSpan start key values s → IsSpan start' key' values' s
 span_as {start} {key} {values} {start'} {key'} {values'} {s} a b c is = subst (λ n. IsSpan n key' values' s) a (subst (λ n. IsSpan start n values' s) b (subst (λ n. IsSpan start key n s) c is))
-
--- the cells behind others
-pub key_behind : (xs key cells : List Value) (start : ℕ) → start ≡ length xs → cells ≡ xs ++ key → drop start cells ≡ key
-key_behind xs key cells start at is = (λ i. drop (at i) (is i)) ∙ drop-append_seam xs key
 
 -- ---- their order
 

@@ -18,7 +18,7 @@ use Rattle.gq_cells.specs.Cells.{value_of}
 use Rattle.gq_query.specs.declared.frames.Frames.{Frames}
 use Rattle.gq_query.specs.declared.tie_sort.Tie.{Tie}
 use Rattle.gq_query.specs.SortPrefixes.{IsPairPrefix, Place, past, without_bytes}
-use Rattle.gq_query.specs.GroupSpans.{HasPrefix, IsGroupAt, compare_at, group_at, key_at, middle_of, with_prefix}
+use Rattle.gq_query.specs.GroupSpans.{HasPrefix, IsGroupAt, PrefixesDecide, compare_at, group_at, key_at, middle_of, with_prefix}
 use Rattle.gq_query.specs.Frames.{AreFrames, HasFramePrefix}
 use Rattle.gq_query.specs.Ties.{AreTied, GoesOn, HasRestPrefix, KeysTie, TieUpTo}
 use Rattle.gq_query.proofs.FrameLemmas.{frames_first}
@@ -108,10 +108,6 @@ moved_all P ys zs to from moved all =
 
 pub keep_places : (cells : List Value) (ys zs : List GroupSpan) → ((p : SortPrefix) → IsPermutation (map (with_prefix p) ys) (map (with_prefix p) zs)) → All (IsGroupAt cells) ys → All (IsGroupAt cells) zs
 keep_places cells ys zs moved all = moved_all (IsGroupAt cells) ys zs (λ p s h. h) (λ s p h. h) moved all
-
--- a vector of `n` elements that were moved as a slice
-pub slice_moved : {X : Type 0} (n : ℕ) (ys zs : List X) → n ≡ length ys → IsPermutation ys zs → take n (zs ++ drop (length zs) ys) ≡ zs
-slice_moved n ys zs long moved = take_at zs (drop (length zs) ys) n (length_permutation ys zs moved ∙ sym long)
 
 -- spans that are given prefixes keep the order of their keys
 pub resorted : {X K : Type 0} (key : X → K) (cmp : K → K → Ordering) (xs ys : List X) → map key ys ≡ map key xs → IsSortedByKey key cmp xs → IsSortedByKey key cmp ys
@@ -264,15 +260,24 @@ keep_widths width ys zs moved all = moved_all (λ (g : GroupSpan). width ≤ g.k
 key_long : (cells : List Value) (width : ℕ) (s : GroupSpan) → IsGroupAt cells s → width ≤ s.key → width ≤ length (key_at cells s)
 key_long cells width s group le = omega (arith, le, group, length-take-le (middle_of s - s.start) (drop s.start cells) (omega (arith, group, length-drop s.start cells)))
 
--- groups in the order of prefixes that are made of codes, and of their keys if these tie
-pub frames_sorted : (cells : List Value) (width : ℕ) (frames : Frames) (spans : List GroupSpan) → AreFrames width frames → All (IsGroupAt cells) spans → All (λ (g : GroupSpan). width ≤ g.key) spans
-    → All (HasFramePrefix cells frames) spans → IsSorted (compare_at cells) spans → IsSortedByKey (key_at cells) compare_keys spans
-frames_sorted cells width frames spans valid at wide prefixed up = λ n d low high.
-    let before : n < length spans = omega (arith, high) in
-    let a = get_or spans (n + 1) d in
-    let b = get_or spans n d in
-    ap is_lt (sym (frames_first (key_at cells a) (key_at cells b) width (key_long cells width a (at (n + 1) d high) (wide (n + 1) d high)) (key_long cells width b (at n d before) (wide n d before)) frames valid a.prefix b.prefix (prefixed (n + 1) d high) (prefixed n d before)))
-    ∙ up n d low high
+-- prefixes that are made of codes decide the order of keys
+pub frames_decide : (cells : List Value) (width : ℕ) (frames : Frames) (spans : List GroupSpan) → AreFrames width frames → All (IsGroupAt cells) spans → All (λ (g : GroupSpan). width ≤ g.key) spans
+    → All (HasFramePrefix cells frames) spans → PrefixesDecide cells spans
+frames_decide cells width frames spans valid at wide prefixed = λ j a below k b within.
+    let x = get_or spans j a in
+    let y = get_or spans k b in
+    frames_first (key_at cells x) (key_at cells y) width (key_long cells width x (at j a below) (wide j a below)) (key_long cells width y (at k b within) (wide k b within)) frames valid x.prefix y.prefix (prefixed j a below) (prefixed k b within)
+
+-- so groups in the order of prefixes and then of keys are in the order of keys
+pub decided_sorted : (cells : List Value) (old new : List GroupSpan) → PrefixesDecide cells old → IsPermutation old new → IsSorted (compare_at cells) new → IsSortedByKey (key_at cells) compare_keys new
+decided_sorted cells old new decide moved up = λ n d low high.
+    let before : n < length new = omega (arith, high) in
+    ap is_lt (sym (all (n + 1) d high n d before)) ∙ up n d low high
+  where
+    all : PrefixesDecide cells new
+    all = λ j a below k b within.
+        All-permutation (λ y. compare_at cells (get_or new j a) y ≡ compare_keys (key_at cells (get_or new j a)) (key_at cells y)) old new moved
+        (All-permutation (λ x. All (λ y. compare_at cells x y ≡ compare_keys (key_at cells x) (key_at cells y)) old) old new moved decide j a below) k b within
 
 -- all groups tie in nothing
 pub start_tied : (cells : List Value) (tie : Tie) (spans : List GroupSpan) → tie.cell ≡ 0 → tie.skip ≡ 0 → All (IsGroupAt cells) spans → All (λ (g : GroupSpan). tie.width ≤ g.key) spans → AreTied cells tie spans

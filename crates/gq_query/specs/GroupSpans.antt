@@ -1,5 +1,5 @@
 -- Groups in one list of cells.
-use Rattle.std.specs.Prelude.{◌≡◌, ◌≤◌, ◌+◌, ℕ, List, length}
+use Rattle.std.specs.Prelude.{◌≡◌, ◌≤◌, ◌+◌, ℕ, List, All, length}
 use Rattle.std.specs.Ordering.{nat_cmp, ordering_then}
 use Rattle.std.specs.declared.cmp.Ordering.{Ordering}
 use Rattle.gq_row.specs.declared.value.Value.{Value}
@@ -46,3 +46,7 @@ with_prefix prefix span = record { prefix = prefix; start = span.start; key = sp
 -- the order of two spans: by the two words of their prefixes, and by their keys if these tie
 abbrev pub compare_at : List Value → GroupSpan → GroupSpan → Ordering
 compare_at cells a b = ordering_then (ordering_then (nat_cmp a.prefix.high b.prefix.high) (nat_cmp a.prefix.low b.prefix.low)) (compare_keys (part cells a.start (middle_of a)) (part cells b.start (middle_of b)))
+
+-- of each two groups, the order by prefixes and then by keys is that of their keys
+abbrev pub PrefixesDecide : List Value → List GroupSpan → Type 0
+PrefixesDecide cells groups = All (λ a. All (λ b. compare_at cells a b ≡ compare_keys (key_at cells a) (key_at cells b)) groups) groups

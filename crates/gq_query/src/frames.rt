@@ -5,10 +5,10 @@
 //! first words are the digits of two numbers, its prefix. A word that a frame doesn't fit has the first
 //! code or the last, and what follows it in the key doesn't count, so prefixes are in order for every
 //! sample, and only how many of them tie depends on it.
-ghost use Rattle.std.specs.Prelude.{◌≡◌, ℕ, All, IfSome, IsTrue, map};
+ghost use Rattle.std.specs.Prelude.{◌≡◌, ◌≤◌, ℕ, All, IfSome, IsTrue, map};
 ghost use Rattle.gq_query.specs.declared.sort_prefix.SortPrefix.{SortPrefix as Prefix};
-ghost use Rattle.gq_query.specs.GroupSpans.{key_at, with_prefix};
-ghost use Rattle.gq_query.specs.Frames.{AreFrames, Fit, Follow, HasFramePrefix, IsDigit, IsFramePrefix, IsNumber, code_of, has_own_code, last_of, next_place, none_before};
+ghost use Rattle.gq_query.specs.GroupSpans.{IsGroupAt, PrefixesDecide, key_at, with_prefix};
+ghost use Rattle.gq_query.specs.Frames.{AreFrames, Fit, Follow, HasFramePrefix, IsDigit, IsFramePrefix, IsNumber, code_of, has_own_code, last_of, next_place, none_before, product};
 
 use crate::group_list::GroupSpan;
 use crate::sort_prefix::{SortPrefix, WORD_BYTES, is_open, is_whole, word_of};
@@ -27,10 +27,10 @@ const SAMPLE: usize = 4096;
 // If more than one in this number of a sample's keys ties, prefixes of codes are not worth their time.
 const MAX_TIES: usize = 8;
 
-/// What gives a word of a key its code: the word of the cell `cell`, without the first `skip` bytes if
-/// it is a text.
+// What gives a word of a key its code: the word of the cell `cell`, without the first `skip` bytes if
+// it is a text.
 #[derive(Clone, Copy)]
-pub(crate) struct Frame {
+struct Frame {
     cell: usize,
     skip: usize,
     // The lowest word with a code of its own. The others follow in steps of 2^shift, modulo 64.
@@ -42,9 +42,9 @@ pub(crate) struct Frame {
     ends: bool,
 }
 
-/// A code, or a number of which codes are the digits.
+// A code, or a number of which codes are the digits.
 #[derive(Clone, Copy)]
-pub(crate) struct Code {
+struct Code {
     code: u64,
     // Whether it gives the words that it is made of, so that what follows them counts.
     exact: bool,
@@ -110,17 +110,29 @@ impl Frame {
     }
 }
 
-/// The frames of the first words of keys: those whose codes are in the high word of a prefix, and those
-/// whose codes are in the low one.
+/// Gives groups prefixes: of two that differ, the lower one is that of the lower key. Each key has at least
+/// `width` cells.
+pub(crate) fn write_prefixes(alloc: Global, cells: &Cells, groups: &mut [GroupSpan], width: usize)
+    requires within { All (IsGroupAt cells.now) groups.old }
+    requires wide { All (λ (g : GroupSpan). width ≤ g.key) groups.old }
+    ensures kept { (p : Prefix) → map (with_prefix p) groups.new ≡ map (with_prefix p) groups.old }
+    ensures decide { PrefixesDecide cells.now groups.new }
+{
+    let frames = Frames::of(alloc, cells, groups, width);
+    frames.write_to(cells, groups);
+}
+
+// The frames of the first words of keys: those whose codes are in the high word of a prefix, and those
+// whose codes are in the low one.
 #[derive(Drop)]
-pub(crate) struct Frames {
+struct Frames {
     high: Vec<Frame>,
     low: Vec<Frame>,
 }
 
 impl Frames {
-    /// Frames for keys that have at least `width` cells each.
-    pub(crate) fn of(alloc: Global, cells: &Cells, groups: &[GroupSpan], width: usize) -> Frames
+    // Frames for keys that have at least `width` cells each.
+    fn of(alloc: Global, cells: &Cells, groups: &[GroupSpan], width: usize) -> Frames
         ensures { AreFrames width result }
     {
         let mut frames = Frames::none(alloc);
@@ -166,7 +178,7 @@ impl Frames {
         ties <= sample.len() / MAX_TIES
     }
 
-    // Adds a frame if there is place for its codes. Returns whether there was.
+    // Adds a frame if there is place for its codes. Returns whether there was. No contract covers it.
     fn push(&mut self, frame: Frame) -> bool {
         if self.low.is_empty() && push_to(&mut self.high, frame) {
             return true;
@@ -174,9 +186,9 @@ impl Frames {
         push_to(&mut self.low, frame)
     }
 
-    // How many keys have the prefix of another. They are sorted by their prefixes for that.
+    // How many keys have the prefix of another. They are sorted by their prefixes for that. No contract covers it.
     fn ties(&self, cells: &Cells, groups: &mut [GroupSpan]) -> usize {
-        self.write_prefixes(cells, groups);
+        self.write_to(cells, groups);
         groups.sort_unstable_by(|a, b| a.prefix.cmp(&b.prefix));
         let mut ties: usize = 0;
         for i in 1..groups.len() {
@@ -198,8 +210,8 @@ impl Frames {
         }
     }
 
-    /// Gives each group the prefix of its key.
-    pub(crate) fn write_prefixes(&self, cells: &Cells, groups: &mut [GroupSpan])
+    // Gives each group the prefix of its key.
+    fn write_to(&self, cells: &Cells, groups: &mut [GroupSpan])
         ensures kept { (p : Prefix) → map (with_prefix p) groups.new ≡ map (with_prefix p) groups.old }
         ensures prefixed { All (HasFramePrefix cells.now self.now) groups.new }
     {
@@ -251,33 +263,44 @@ fn end_of(frames: &[Frame], start: (usize, usize), width: usize) -> Option<(usiz
     ensures fit { IfSome result (λ _. Fit frames.now) }
 {
     let mut place = start;
-    let mut product: u64 = 1;
     for frame in frames {
         if (frame.cell, frame.skip) != place || frame.cell >= width {
             return None;
         }
         place = frame.next()?;
-        product = product.checked_mul(frame.codes)?;
     }
-    if product == 0 {
+    let numbers = product(frames)?;
+    if numbers == 0 {
         return None;
     }
     Some(place)
 }
 
-// Appends a frame if there are less than 2^64 numbers with its codes too. Returns whether it did.
-fn push_to(frames: &mut Vec<Frame>, frame: Frame) -> bool {
-    let mut product = frame.codes;
-    for other in frames.as_slice() {
-        match product.checked_mul(other.codes) {
-            Some(more) => product = more,
-            None => return false,
-        }
+// How many numbers there are of the codes of frames, if they are less than 2^64.
+fn product(frames: &[Frame]) -> Option<u64>
+    ensures { IfSome result (λ n. n ≡ product frames.now) }
+{
+    let mut product: u64 = 1;
+    for frame in frames {
+        product = product.checked_mul(frame.codes)?;
     }
-    frames.push(frame).is_ok()
+    Some(product)
 }
 
-// Groups from all over a list.
+// Appends a frame if there are less than 2^64 numbers with its codes too. Returns whether it did. No contract
+// covers it.
+fn push_to(frames: &mut Vec<Frame>, frame: Frame) -> bool {
+    if frames.push(frame).is_err() {
+        return false;
+    }
+    if product(frames.as_slice()).is_some() {
+        return true;
+    }
+    frames.pop();
+    false
+}
+
+// Groups from all over a list. No contract covers it.
 fn sample_of(alloc: Global, groups: &[GroupSpan]) -> Result<Vec<GroupSpan>, AllocError> {
     let step = STEP.max(groups.len() / SAMPLE + 1);
     let mut sample = Vec::with_capacity(alloc, SAMPLE.min(groups.len()))?;

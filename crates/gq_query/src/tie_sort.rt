@@ -15,7 +15,7 @@ ghost use Rattle.gq_query.specs.declared.sort_prefix.SortPrefix.{SortPrefix as P
 ghost use Rattle.gq_query.specs.GroupSpans.{HasPrefix, IsGroupAt, compare_at, key_at, with_prefix};
 ghost use Rattle.gq_query.specs.Ties.{AreTied, GoesOn, HasRestPrefix};
 
-use crate::frames::Frames;
+use crate::frames;
 use crate::group_list::{GroupSpan, compare_keys_at, compare_spans};
 use crate::sort_prefix::{SortPrefix, is_whole, rest_word, word_of};
 use gq_cells::{CellRef, Cells};
@@ -74,8 +74,7 @@ pub(crate) fn sort_groups(alloc: Global, cells: &Cells, groups: &mut [GroupSpan]
         width: least_width(groups),
         depth: MAX_DEPTH,
     };
-    let frames = Frames::of(alloc, cells, groups, whole.width);
-    frames.write_prefixes(cells, groups);
+    frames::write_prefixes(alloc, cells, groups, whole.width);
     sort_prefixed(cells, groups, whole);
 }
 

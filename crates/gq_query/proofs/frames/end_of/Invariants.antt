@@ -1,11 +1,7 @@
-use Rattle.std.proofs.Common.{◌≡◌, ◌<◌, ◌*◌, ◌^◌, drop}
+use Rattle.std.proofs.Common.{drop}
 use Rattle.gq_query.specs.SortPrefixes.{Place}
-use Rattle.gq_query.specs.Frames.{Follow, product}
+use Rattle.gq_query.specs.Frames.{Follow}
 use Rattle.gq_query.proofs.frames.end_of.Given as goal
 
 abbrev pub invariant-loop-frame : goal.invariant-loop-frame
-invariant-loop-frame l = record {
-  follow : (end : Place) → Follow l.width (drop l.frame-index l.frames) l.place end → Follow l.width l.frames l.fn.start end;
-  small : l.product < 2 ^ 64;
-  fit : l.product * product (drop l.frame-index l.frames) ≡ product l.frames;
-}
+invariant-loop-frame l = (end : Place) → Follow l.width (drop l.frame-index l.frames) l.place end → Follow l.width l.frames l.fn.start end

@@ -1,8 +1,7 @@
 use Rattle.std.proofs.Common.{refl}
-use Rattle.std.proofs.lemmas.List.Sorted.{All-permutation, IsPermutation-refl}
+use Rattle.std.proofs.lemmas.List.Sorted.{IsPermutation-refl}
 use Rattle.gq_query.specs.declared.tie_sort.Tie.{Tie}
-use Rattle.gq_query.specs.Frames.{HasFramePrefix}
-use Rattle.gq_query.proofs.TieLemmas.{changed_moved, frames_sorted, keep_places, keep_widths, start_tied}
+use Rattle.gq_query.proofs.TieLemmas.{changed_moved, decided_sorted, keep_places, keep_widths, start_tied}
 use Rattle.gq_query.proofs.tie_sort.sort_groups.Goals as goal
 
 pub sort_prefixed-requires : goal.sort_prefixed-requires
@@ -19,13 +18,4 @@ pub returns-clause-moved : goal.returns-clause-moved
 returns-clause-moved c = changed_moved c.args.groups.now c.write_prefixes.new.groups c.sort_prefixed.new.groups c.write_prefixes.ensures.kept c.sort_prefixed.ensures.moved
 
 pub returns-clause-sorted : goal.returns-clause-sorted
-returns-clause-sorted c =
-    let cells = c.args.cells.now in
-    let old = c.args.groups.now in
-    let changed = c.write_prefixes.new.groups in
-    let new = c.sort_prefixed.new.groups in
-    let frames = c.of-frames.result in
-    let width = c.least_width.result in
-    let moved = changed_moved old changed new c.write_prefixes.ensures.kept c.sort_prefixed.ensures.moved in
-    frames_sorted cells width frames new c.of-frames.ensures (keep_places cells old new moved c.requires) (keep_widths width old new moved c.least_width.ensures)
-    (All-permutation (HasFramePrefix cells frames) changed new c.sort_prefixed.ensures.moved c.write_prefixes.ensures.prefixed) c.sort_prefixed.ensures.sorted
+returns-clause-sorted c = decided_sorted c.args.cells.now c.write_prefixes.new.groups c.sort_prefixed.new.groups c.write_prefixes.ensures.decide c.sort_prefixed.ensures.moved c.sort_prefixed.ensures.sorted

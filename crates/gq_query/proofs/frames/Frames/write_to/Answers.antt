@@ -4,7 +4,7 @@ use Rattle.gq_query.specs.declared.group_list.GroupSpan.{GroupSpan}
 use Rattle.gq_query.specs.GroupSpans.{with_prefix}
 use Rattle.gq_query.specs.Frames.{HasFramePrefix}
 use Rattle.gq_query.proofs.TieLemmas.{set_more}
-use Rattle.gq_query.proofs.frames.Frames.write_prefixes.Goals as goal
+use Rattle.gq_query.proofs.frames.Frames.write_to.Goals as goal
 
 pub loop-i-preserved : goal.loop-i-preserved
 loop-i-preserved c =

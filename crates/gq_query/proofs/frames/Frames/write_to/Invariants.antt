@@ -3,7 +3,7 @@ use Rattle.gq_query.specs.declared.sort_prefix.SortPrefix.{SortPrefix}
 use Rattle.gq_query.specs.declared.group_list.GroupSpan.{GroupSpan}
 use Rattle.gq_query.specs.GroupSpans.{with_prefix}
 use Rattle.gq_query.specs.Frames.{HasFramePrefix}
-use Rattle.gq_query.proofs.frames.Frames.write_prefixes.Given as goal
+use Rattle.gq_query.proofs.frames.Frames.write_to.Given as goal
 
 abbrev pub invariant-loop-i : goal.invariant-loop-i
 invariant-loop-i l = record {
