@@ -2,9 +2,10 @@
 
     quotes.py GROUPSH
 
-Each script loads rows into a table of one to three columns, and shows them. Sixty-four rows are written at a time, so answers
-have up to some thousand rows: some blocks of sixty-four have rows that need quotes, and others don't. The last line counts the
-answers; the status is 0 if each is as the module writes it.
+Each script loads rows into a table of one to three columns, and shows them, once as a reply and once as CSV records alone.
+Sixty-four rows are written at a time, so answers have up to some thousand rows: some blocks of sixty-four have rows that need
+quotes, and others don't. Records are written through a buffer of 16,384 bytes, so a few texts are that long. The last line counts
+the answers; the status is 0 if each is as the module writes it.
 """
 import csv
 import io
@@ -17,6 +18,9 @@ COLUMNS = (("text",), ("int",), ("text", "int"), ("int", "text", "text"))
 ROWS = (1, 2, 63, 64, 65, 128, 1_000, 3_000)
 # One of how many texts may have bytes that need quotes; None for no such text.
 RARITIES = (None, 1, 50, 1_000)
+# One of how many texts is long.
+LONG = 300
+LENGTHS, LONG_LENGTHS = (1, 2, 8, 15, 22, 23, 200), (16_383, 16_384, 16_385, 40_000)
 PLAIN = "abcdefghij ABC 0123456789.-äé"
 MARKED = 'a,"\nb '
 EDGES = [0, 9, 10, 99, 100, 999, 1_000, 1_001, 1_010, 1_100, 99_999, 100_000, 999_999, 1_000_000, -1, -1_000, 2**63 - 1, -(2**63)]
@@ -24,9 +28,10 @@ EDGES = [0, 9, 10, 99, 100, 999, 1_000, 1_001, 1_010, 1_100, 99_999, 100_000, 99
 
 def text(chance, rarity):
     """A text, mostly short enough to be stored in its value. One with bytes that need quotes may also be empty."""
+    is_long = chance.randrange(LONG) == 0
     if rarity and chance.randrange(rarity) == 0:
-        return "".join(chance.choice(MARKED) for _ in range(chance.randrange(10)))
-    return "".join(chance.choice(PLAIN) for _ in range(chance.choice((1, 2, 8, 15, 22, 23, 200))))
+        return "".join(chance.choices(MARKED, k=chance.choice(LONG_LENGTHS) // 2 if is_long else chance.randrange(10)))
+    return "".join(chance.choices(PLAIN, k=chance.choice(LONG_LENGTHS if is_long else LENGTHS)))
 
 
 def number(chance):
@@ -60,12 +65,13 @@ def main(program):
         rows = [[text(chance, rarity) if kind == "text" else number(chance) for kind in kinds] for _ in range(count)]
         columns = ", ".join(f"{name} {kind}" for name, kind in zip(header, kinds))
         script = f"create s ({columns})\nload s\n{written(header, rows)}\\.\nshow s\n"
-        run = subprocess.run([program], input=script.encode(), stdout=subprocess.PIPE, timeout=60, check=False)
-        due = f"ok 0\nok {count}\nok {count}\n" + written(header, sorted(rows, key=place))
-        tried += 1
-        if run.stdout.decode() != due:
-            wrong += 1
-            print(f"{count} rows of {columns}, quotes in one of {rarity}: not as the module writes them")
+        shown = written(header, sorted(rows, key=place))
+        for options, due in ((), f"ok 0\nok {count}\nok {count}\n{shown}"), (("-o", "csv"), shown):
+            run = subprocess.run([program, *options], input=script.encode(), stdout=subprocess.PIPE, timeout=60, check=False)
+            tried += 1
+            if run.stdout.decode() != due:
+                wrong += 1
+                print(f"{count} rows of {columns}, quotes in one of {rarity}, {options}: not as the module writes them")
     print(f"{tried} answers, {wrong} wrong")
     return wrong != 0
 

@@ -237,6 +237,15 @@ def several_files() -> list[Case]:
             files=LONG,
         ),
         Case(
+            "CSV records into a pipe that is closed",
+            ["-t", "long.csv", "-o", "csv", "-c", "show long"],
+            status=3,
+            stdout="n,m,w\n",
+            stderr="groupsh: write fault\n",
+            files=LONG,
+            shell='"$@" | head -n 1; exit "${PIPESTATUS[0]}"',
+        ),
+        Case(
             "one table too many",
             [*of_tables(*(f"t{number}=a.csv" for number in range(1, 66))), "-c", "show t1"],
             status=1,
