@@ -1,4 +1,3 @@
-pub mod Bytes
 pub mod CarryingLemmas
 pub mod CaseLemmas
 pub mod FormLemmas

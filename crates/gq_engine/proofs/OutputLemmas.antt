@@ -18,13 +18,13 @@ use Rattle.gq_engine.specs.declared.output.Output.{Output}
 use Rattle.gq_engine.specs.declared.output.Output.TheVariants.{Replies, Results}
 use Rattle.gq_engine.specs.declared.run.Summary.{Summary}
 use Rattle.gq_engine.specs.declared.run.Fault.{Fault}
-use Rattle.gq_engine.specs.declared.sending.WriteFault.{WriteFault}
+use Rattle.gq_reply.specs.declared.sending.WriteFault.{WriteFault}
 use Rattle.gq_engine.specs.declared.run.Fault.TheVariants as fault
 use Rattle.gq_engine.specs.Headline.{Answered, Ran, State}
 use Rattle.gq_engine.specs.Outputs.{AreComplaints, IsComplaint, IsResultIn, RanAs, Complains, ComplainsOn, between, complaint, is_result, result_in, text_as, texts, texts_after}
 use Rattle.gq_engine.specs.Runs.{Setting}
-use Rattle.gq_engine.specs.Sending.{AppendsPrefix}
-use Rattle.gq_engine.proofs.Bytes.{appends_more, appends_nothing}
+use Rattle.gq_reply.specs.Sending.{AppendsPrefix}
+use Rattle.gq_reply.proofs.Bytes.{appends_more, appends_nothing, prefix_after, prefix_longer, whole_prefix}
 
 or_false : (b : Bool) → (b || false) ≡ b
 or_false true = refl
@@ -56,15 +56,6 @@ Reported false before after bytes = AppendsPrefix before after bytes
 
 pub reported_nothing : (a : Option Bytes) → Reported true a a []
 reported_nothing a = appends_nothing a
-
-pub prefix_longer : (a b : Option Bytes) (x y : Bytes) → AppendsPrefix a b x → AppendsPrefix a b (x ++ y)
-prefix_longer a b x y h = record { prefix = h.prefix; rest = h.rest ++ y; is = ap (λ l. l ++ y) h.is ∙ append_assoc h.prefix h.rest y; appends = h.appends }
-
-pub whole_prefix : (a b : Option Bytes) (x : Bytes) → Appends a b x → AppendsPrefix a b x
-whole_prefix a b x h = record { prefix = x; rest = []; is = sym (append-nil x); appends = h }
-
-pub prefix_after : (a b c : Option Bytes) (x y : Bytes) → Appends a b x → AppendsPrefix b c y → AppendsPrefix a c (x ++ y)
-prefix_after a b c x y h k = record { prefix = x ++ k.prefix; rest = k.rest; is = ap (λ l. x ++ l) k.is ∙ sym (append_assoc x k.prefix k.rest); appends = appends_more a b c x k.prefix h k.appends }
 
 -- a result's text after what comes before it: a prefix of the latter was written, or all of it and a prefix of the text
 pub result_prefix : (output : Output) (earlier : Bool) (r : Reply) (a b : Option Bytes) (bytes : Bytes) → IsResultIn output r bytes → AppendsPrefix a b (between output earlier) → AppendsPrefix a b (text_as output earlier r)

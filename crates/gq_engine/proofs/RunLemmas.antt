@@ -18,7 +18,7 @@ use Rattle.gq_reply.specs.declared.reply.Reply.{Reply}
 use Rattle.gq_engine.specs.declared.run.Summary.{Summary}
 use Rattle.gq_engine.specs.declared.run.Fault.{Fault}
 use Rattle.gq_engine.specs.declared.run.Fault.TheVariants as fault
-use Rattle.gq_engine.specs.Sending.{AppendsPrefix}
+use Rattle.gq_reply.specs.Sending.{AppendsPrefix}
 use Rattle.gq_engine.specs.Databases.{Database, IsKeyed}
 use Rattle.gq_reply.specs.Refusals.{refused}
 use Rattle.gq_reply.specs.Replies.{is_refusal}
@@ -27,9 +27,9 @@ use Rattle.gq_engine.specs.Headline.{State}
 use Rattle.gq_engine.specs.declared.output.Output.{Output}
 use Rattle.gq_engine.specs.Outputs.{AreComplaints, RanAs, Complains, complaint, is_result, text_as, texts}
 use Rattle.gq_engine.specs.Serving.{Wrote, WrotePrefix}
-use Rattle.gq_engine.proofs.OutputLemmas.{Reported, prefix_longer, any_push, complaints_push, reported_as_prefix, reported_more, reported_nothing, texts_push}
+use Rattle.gq_engine.proofs.OutputLemmas.{Reported, any_push, complaints_push, reported_as_prefix, reported_more, reported_nothing, texts_push}
 use Rattle.gq_engine.proofs.OrderLemmas.{same_tables, answer_lost, answered_from, keyed_after}
-use Rattle.gq_engine.proofs.Bytes.{appends_more, appends_nothing}
+use Rattle.gq_reply.proofs.Bytes.{appends_more, appends_nothing, prefix_longer}
 
 -- what stays the same in a run
 pub record Course : Type 0 where

@@ -14,7 +14,6 @@ pub mod Loading
 pub mod Refusing
 pub mod Engines
 -- contracts of single functions
-pub mod Sending
 pub mod Outputs
 pub mod Serving
 pub mod Carrying

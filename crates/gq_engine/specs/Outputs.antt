@@ -13,6 +13,7 @@ use Rattle.gq_reply.specs.declared.reply.Reply.{Reply}
 use Rattle.gq_reply.specs.declared.reply.Reply.TheVariants as reply
 use Rattle.gq_reply.specs.Replies.{text, is_refusal}
 use Rattle.gq_format.specs.Formats.{result_text, separator_of}
+use Rattle.gq_format.specs.declared.format.Format.TheVariants as format
 use Rattle.gq_format.specs.Refusals.{diagnosis, refusal_text}
 use Rattle.gq_engine.specs.declared.output.Output.{Output}
 use Rattle.gq_engine.specs.declared.output.Output.TheVariants.{Replies, Results}
@@ -21,7 +22,7 @@ use Rattle.gq_engine.specs.declared.run.Fault.{Fault}
 use Rattle.gq_engine.specs.declared.run.Fault.TheVariants as fault
 use Rattle.gq_engine.specs.Headline.{Answered, State}
 use Rattle.gq_engine.specs.Runs.{Setting}
-use Rattle.gq_engine.specs.Sending.{AppendsPrefix}
+use Rattle.gq_reply.specs.Sending.{AppendsPrefix}
 
 abbrev pub is_result : Reply → Bool
 is_result (reply.Done n) = false
@@ -48,6 +49,12 @@ IsResultIn output (reply.Refused why number) bytes = ⊥
 abbrev pub line_in : Output → Reply → Bytes
 line_in Replies r = text r
 line_in (Results format) r = []
+
+-- a reply that is written without allocation: a line, or a result as CSV records
+abbrev pub IsDirect : Output → Reply → Type 0
+IsDirect output (reply.Done n) = Unit {0}
+IsDirect output (reply.Rows header rows) = output ≡ Results format.Csv
+IsDirect output (reply.Refused why number) = Unit {0}
 
 -- what a reply brings to the standard output
 abbrev pub text_as : Output → Bool → Reply → Bytes

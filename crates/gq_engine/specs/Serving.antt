@@ -11,7 +11,7 @@ use Rattle.gq_reply.specs.declared.refusal.Refusal.TheVariants.{Memory, StoreFau
 use Rattle.gq_reply.specs.declared.refusal.Refused.{Refused}
 use Rattle.gq_reply.specs.declared.reply.Reply.{Reply}
 use Rattle.gq_reply.specs.declared.reply.Reply.TheVariants as reply
-use Rattle.gq_engine.specs.declared.sending.WriteFault.{WriteFault}
+use Rattle.gq_reply.specs.declared.sending.WriteFault.{WriteFault}
 use Rattle.gq_engine.specs.Databases.{Database}
 use Rattle.gq_engine.specs.Headline.{State}
 use Rattle.gq_reply.specs.Refusals.{unnumbered, of_refused}
@@ -19,7 +19,7 @@ use Rattle.gq_engine.specs.declared.output.Output.{Output}
 use Rattle.gq_engine.specs.Outputs.{text_as}
 use Rattle.gq_engine.specs.Runs.{Setting, AnsweredAlike, IsGrouped, is_store_fault, SameTables, KeptUnlessDone, FaultsHappened}
 use Rattle.gq_engine.specs.Refusing.{key_within, stored_key}
-use Rattle.gq_engine.specs.Sending.{AppendsPrefix}
+use Rattle.gq_reply.specs.Sending.{AppendsPrefix}
 use Rattle.gq_engine.specs.Steps.{Outcome, settle, key_named}
 
 -- the steps of a command result in this reply, and in tables that are these but for the order of rows

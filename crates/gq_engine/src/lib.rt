@@ -42,7 +42,6 @@ pub mod laws;
 mod output;
 mod payloads;
 mod run;
-mod sending;
 mod showing;
 
 pub use csv_fault::CsvFault;

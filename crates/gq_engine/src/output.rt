@@ -1,18 +1,17 @@
 //! What a run writes of its replies.
 ghost use Rattle.std.specs.Option.{option_map_or};
-ghost use Rattle.std.specs.Prelude.{◌≡◌, ◌||◌, IfErr, IfOk, IfSome, OnOk, [], false, is_some, string_bytes, true};
+ghost use Rattle.std.specs.Prelude.{◌≡◌, ◌||◌, IfErr, IfNone, IfOk, IfSome, OnOk, [], false, is_some, string_bytes, true};
 ghost use Rattle.std.specs.Io.KnownBytes.{Appends};
 ghost use Rattle.gq_reply.specs.Replies.{IsLine};
 ghost use Rattle.gq_command.specs.Script.{Gathers, Numbered, line_of};
-ghost use Rattle.gq_engine.specs.Outputs.{Diagnosed, IsDiagnosed, Complains, between, complaint, is_result, line_in, result_in, text_as};
-ghost use Rattle.gq_engine.specs.Sending.{AppendsPrefix};
+ghost use Rattle.gq_engine.specs.Outputs.{Diagnosed, IsDiagnosed, IsDirect, Complains, between, complaint, is_result, line_in, result_in, text_as};
+ghost use Rattle.gq_reply.specs.Sending.{AppendsPrefix};
 
-use crate::sending::{WriteFault, send};
 use gq_cells::Rows;
 use gq_check::{Fault, report_of};
 use gq_command::{CommandReader, OpenLine};
 use gq_format::{Format, RefusalText, diagnosis_text, refusal_text, result_text, separator};
-use gq_reply::{Refusal, Reply, line_of, rows_text};
+use gq_reply::{Buffer, Refusal, Reply, WriteFault, line_of, rows_text, send, send_records};
 use gq_row::{Limits, Sequence, Text};
 use std::alloc::{AllocError, Global};
 use std::io::{Read, Write};
@@ -37,18 +36,23 @@ pub(crate) fn had_result(earlier: bool, reply: &Reply) -> bool
     }
 }
 
-/// The text of a result in an output.
-pub(crate) fn result_in(
+/// The text of a result in an output, if it is made before it is sent; `None` for CSV records, which take no memory.
+pub(crate) fn whole_text(
     alloc: Global,
+    buffer: &mut Buffer,
     output: Output,
     header: &Sequence<Text>,
     rows: &Rows,
-) -> Result<Vec<u8>, AllocError>
-    ensures { IfOk result (λ bytes. bytes.items ≡ result_in output header.now rows.now) }
+) -> Result<Option<Vec<u8>>, AllocError>
+    ensures made { IfOk result (λ made. IfSome made (λ bytes. bytes.items ≡ result_in output header.now rows.now)) }
+    ensures records { IfOk result (λ made. IfNone made (output ≡ Output.Results Format.Csv)) }
 {
     match output {
-        Output::Replies => rows_text(alloc, header, rows),
-        Output::Results(format) => result_text(alloc, format, header, rows),
+        Output::Replies => Ok(Some(rows_text(alloc, buffer, header, rows)?)),
+        Output::Results(Format::Csv) => Ok(None),
+        Output::Results(format @ (Format::Json | Format::Box)) => {
+            Ok(Some(result_text(alloc, format, header, rows)?))
+        }
     }
 }
 
@@ -82,6 +86,28 @@ pub(crate) fn send_line<W: Write>(
     match output {
         Output::Replies => send(writer, line_of(reply).as_slice()),
         Output::Results(_) => Ok(()),
+    }
+}
+
+/// Writes what the output has of a reply that takes no memory.
+pub(crate) fn send_direct<W: Write>(
+    buffer: &mut Buffer,
+    writer: &mut W,
+    output: Output,
+    earlier: bool,
+    reply: &Reply,
+) -> Result<(), WriteFault>
+    requires { IsDirect output reply.now }
+    ensures ok { OnOk result (Appends (W.contents writer.old) (W.contents writer.new) (text_as output earlier reply.now)) }
+    ensures err { IfErr result (λ _. AppendsPrefix (W.contents writer.old) (W.contents writer.new)
+        (text_as output earlier reply.now)) }
+{
+    match reply {
+        Reply::Rows { header, rows } => {
+            send_between(writer, output, earlier)?;
+            send_records(buffer, writer, header, rows)
+        }
+        Reply::Done(_) | Reply::Refused { code: _, number: _ } => send_line(writer, output, reply),
     }
 }
 

@@ -3,15 +3,14 @@ ghost use Rattle.std.specs.Prelude.{◌≡◌, ◌+◌, ◌<◌, ◌≤◌, ◌�
 ghost use Rattle.std.specs.Io.KnownBytes.{Appends};
 ghost use Rattle.gq_command.specs.Items.{IsReady};
 ghost use Rattle.gq_reply.specs.Replies.{IsLine, is_refusal};
-ghost use Rattle.gq_engine.specs.Outputs.{IsResultIn, is_result, text_as};
-ghost use Rattle.gq_engine.specs.Sending.{AppendsPrefix};
+ghost use Rattle.gq_engine.specs.Outputs.{IsResultIn, IsDirect, is_result, text_as};
+ghost use Rattle.gq_reply.specs.Sending.{AppendsPrefix};
 ghost use Rattle.gq_engine.specs.Steps.{line_refusal};
 
 use crate::engine::Engine;
-use crate::output::{Complaints, Output, had_result, result_in, send_between, send_line};
-use crate::sending::{WriteFault, send};
+use crate::output::{Complaints, Output, had_result, send_between, send_direct, whole_text};
 use gq_command::{CommandReader, Item, LineRefusal, ReadFault};
-use gq_reply::{Refusal, Reply};
+use gq_reply::{Buffer, Refusal, Reply, WriteFault, send};
 use gq_row::Key;
 use gq_spill::RunStore;
 use std::alloc::AllocError;
@@ -59,7 +58,7 @@ impl<H: KeyHash<Key> + Copy, S: RunStore> Engine<H, S> {
     ghost use Rattle.gq_command.specs.Items.{IsReady};
     ghost use Rattle.gq_engine.specs.Engines.{database, failures_of, setting_of, budget_of, state_of};
     ghost use Rattle.gq_engine.specs.Headline.{Ran};
-    ghost use Rattle.gq_engine.specs.Outputs.{IsResultIn, RanAs};
+    ghost use Rattle.gq_engine.specs.Outputs.{IsResultIn, IsDirect, RanAs};
     ghost use Rattle.gq_engine.specs.Serving.{Served};
     ghost use Rattle.gq_reply.specs.Replies.{IsLine};
     ghost use Rattle.gq_engine.specs.Runs.{AnsweredAlike, FaultsHappened, KeptUnlessDone};
@@ -81,7 +80,8 @@ impl<H: KeyHash<Key> + Copy, S: RunStore> Engine<H, S> {
     }
 
     /// As [`Engine::run`], but may write only the results of queries. Then refusals are reported to
-    /// `errors` with their line's number; a write fault there ends the reports, not the run.
+    /// `errors` with their line's number; a write fault there ends the reports, not the run. CSV records are
+    /// written through a buffer of fixed size, and take no memory.
     pub fn run_as<R: Read + Drop, W: Write, E: Write>(
         &mut self,
         output: Output,
@@ -99,6 +99,7 @@ impl<H: KeyHash<Key> + Copy, S: RunStore> Engine<H, S> {
     {
         let _tables = self.tables();
         let mut script = CommandReader::new(reader);
+        let mut buffer = Buffer::new();
         let mut earlier = false;
         let mut complaints = Complaints {
             output,
@@ -114,7 +115,7 @@ impl<H: KeyHash<Key> + Copy, S: RunStore> Engine<H, S> {
                 Ok(None) => return Ok(summary),
                 Err(ReadFault) => return Err(Fault::Read),
             };
-            match self.serve(output, earlier, item, writer) {
+            match self.serve(&mut buffer, output, earlier, item, writer) {
                 Ok(reply) => {
                     summary.add(&reply);
                     complaints.report(self.alloc(), self.limits(), &script, &reply, errors);
@@ -129,6 +130,7 @@ impl<H: KeyHash<Key> + Copy, S: RunStore> Engine<H, S> {
     // Answers one item and writes what the output has of the reply.
     fn serve<W: Write>(
         &mut self,
+        buffer: &mut Buffer,
         output: Output,
         earlier: bool,
         item: Item,
@@ -140,8 +142,8 @@ impl<H: KeyHash<Key> + Copy, S: RunStore> Engine<H, S> {
         ensures setting { setting_of S.runs self.new ≡ setting_of S.runs self.old }
         ensures budget { budget_of self.new ≡ budget_of self.old }
     {
-        let (reply, text) = self.answer(output, item);
-        send_reply(writer, output, earlier, &reply, text)?;
+        let (reply, text) = self.answer(buffer, output, item);
+        send_reply(buffer, writer, output, earlier, &reply, text)?;
         Ok(reply)
     }
 
@@ -162,8 +164,13 @@ impl<H: KeyHash<Key> + Copy, S: RunStore> Engine<H, S> {
         }
     }
 
-    // The reply to an item, and the text of a result.
-    fn answer(&mut self, output: Output, item: Item) -> (Reply, Option<Vec<u8>>)
+    // The reply to an item, and the text of a result that is made before it is sent.
+    fn answer(
+        &mut self,
+        buffer: &mut Buffer,
+        output: Output,
+        item: Item,
+    ) -> (Reply, Option<Vec<u8>>)
         requires { IsReady (setting_of S.runs self.old).limits item }
         ensures legal { AnsweredAlike (setting_of S.runs self.old) (database self.old) item result.0
             (database self.new) }
@@ -172,12 +179,18 @@ impl<H: KeyHash<Key> + Copy, S: RunStore> Engine<H, S> {
         ensures setting { setting_of S.runs self.new ≡ setting_of S.runs self.old }
         ensures budget { budget_of self.new ≡ budget_of self.old }
         ensures text { IfSome result.1 (λ bytes. IsResultIn output result.0 bytes.items) }
-        ensures line { IfNone result.1 (IsLine result.0) }
+        ensures direct { IfNone result.1 (IsDirect output result.0) }
     {
         let reply = self.reply_to(item);
         match &reply {
-            Reply::Rows { header, rows } => match result_in(self.alloc(), output, header, rows) {
-                Ok(text) => (reply, Some(text)),
+            Reply::Rows { header, rows } => match whole_text(
+                self.alloc(),
+                buffer,
+                output,
+                header,
+                rows,
+            ) {
+                Ok(text) => (reply, text),
                 Err(AllocError) => (Reply::refused(Refusal::Memory), None),
             },
             Reply::Done(_) | Reply::Refused { code: _, number: _ } => (reply, None),
@@ -185,8 +198,9 @@ impl<H: KeyHash<Key> + Copy, S: RunStore> Engine<H, S> {
     }
 }
 
-// Writes what the output has of a reply, of which a result's text is made.
+// Writes what the output has of a reply, by the text that was made of a result.
 fn send_reply<W: Write>(
+    buffer: &mut Buffer,
     writer: &mut W,
     output: Output,
     earlier: bool,
@@ -194,7 +208,7 @@ fn send_reply<W: Write>(
     made: Option<Vec<u8>>,
 ) -> Result<(), WriteFault>
     requires made { IfSome made (λ bytes. IsResultIn output reply.now bytes.items) }
-    requires line { IfNone made (IsLine reply.now) }
+    requires direct { IfNone made (IsDirect output reply.now) }
     ensures ok { OnOk result (Appends (W.contents writer.old) (W.contents writer.new) (text_as output earlier reply.now)) }
     ensures err { IfErr result (λ _. AppendsPrefix (W.contents writer.old) (W.contents writer.new)
         (text_as output earlier reply.now)) }
@@ -204,7 +218,7 @@ fn send_reply<W: Write>(
             send_between(writer, output, earlier)?;
             send(writer, text.as_slice())
         }
-        None => send_line(writer, output, reply),
+        None => send_direct(buffer, writer, output, earlier, reply),
     }
 }
 

@@ -30,7 +30,7 @@ plain_number : (z : ℤ) → mag z ≤ 2 ^ 63 → needs_quotes default_writer (s
 plain_number (pos n) h = plain_digits (decimal n) (decimal_is_IsNumeral n (omega arith)).0.1
 plain_number (negsuc n) h = plain_digits (decimal (suc n)) (decimal_is_IsNumeral (suc n) (omega arith)).0.1
 
-number_shown : (z : ℤ) → mag z ≤ 2 ^ 63 → (length (signed_decimal z) == 0) ≡ false
+pub number_shown : (z : ℤ) → mag z ≤ 2 ^ 63 → (length (signed_decimal z) == 0) ≡ false
 number_shown (pos n) h = let some = decimal_nonempty n (omega arith) in grind arith
 number_shown (negsuc n) h = grind arith
 

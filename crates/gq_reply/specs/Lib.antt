@@ -4,4 +4,4 @@ pub mod Refusals
 pub mod Outcomes
 -- contracts of single functions
 pub mod Bare
-pub mod Records
+pub mod Sending

@@ -1,32 +1,29 @@
-//! Writes rows whose fields need no quotes directly into the text of a reply.
+//! Rows whose fields need no quotes, as records.
 //!
 //! The rows of a sorted answer are anywhere among its cells, so reading a row waits for memory.
 //! Here the ends of a block of rows are read before its first row is written: such short reads
-//! don't wait for one another. The bytes are collected in a buffer, which moves to the text once
-//! for many rows.
+//! don't wait for one another.
 ghost use Rattle.std.specs.Prelude.{◌≡◌, ◌≤◌, ◌<◌, ◌+◌, ◌++◌, ◌∷◌, ◌==◌, [], List, ℕ, IfOk, IfSome, codes, false, true, length, take};
 ghost use Rattle.std.specs.Fmt.{decimal, signed_decimal};
 ghost use Rattle.csv.specs.Writing.{default_writer, field_text, needs_byte, needs_quotes};
 ghost use Rattle.gq_row.specs.Rows.{cell};
 ghost use Rattle.gq_cells.specs.Cells.{value_of};
-ghost use Rattle.gq_reply.specs.Bare.{AreBare, IsBare, is_bare, is_plain, records, row_record};
+ghost use Rattle.gq_reply.specs.Bare.{is_plain, row_record};
 ghost use Rattle.gq_reply.specs.Replies.{cell_text};
 
+use crate::buffer::CAPACITY;
 use crate::digits::write_number;
 use crate::plain::{MOST, copy_plain, is_plain, needs_byte};
 use gq_cells::{CellRef, RowRef, Rows, TextRef};
-use std::alloc::AllocError;
-
-/// The size of the buffer. It is cleared for each reply, so a small one must not pay for much.
-pub(crate) const CAPACITY: usize = 2048;
 
 // How many rows are looked at before the first of them is written.
 const AHEAD: usize = 64;
 
 // Where the block of rows ends that begins at `start`.
 pub(crate) fn block_end(start: usize, rows: usize) -> usize
-    requires { start < rows }
-    ensures more { start < result }
+    requires { start ≤ rows }
+    ensures order { start ≤ result }
+    ensures more { start < rows → start < result }
     ensures within { result ≤ rows }
 {
     if rows - start <= AHEAD {
@@ -36,11 +33,10 @@ pub(crate) fn block_end(start: usize, rows: usize) -> usize
     }
 }
 
-// False only if a row from `start` up to `end` isn't bare, by some of its values. Reading them all first
-// saves time: both ends of all rows, and then one text of each that is out of line.
+// Whether the rows from `start` up to `end` are probably bare, by some of their values. Reading these first saves
+// time: both ends of all rows, and then one text of each that is out of line. No contract covers it.
 pub(crate) fn may_be_bare(rows: &Rows, start: usize, end: usize) -> bool
     requires { end ≤ length rows.now }
-    ensures { result ≡ false → AreBare rows.now start end → ⊥ }
 {
     let have_number_ends = rows.have_number_ends(start, end);
     match borrowed_column(rows, start, end) {
@@ -62,7 +58,6 @@ enum Checked {
 #[inline(always)]
 fn all_may_be_bare(rows: &Rows, start: usize, end: usize, checked: Checked) -> bool
     requires { end ≤ length rows.now }
-    ensures { result ≡ false → AreBare rows.now start end → ⊥ }
 {
     for i in start..end {
         if !row_may_be_bare(&rows.row(i), checked) {
@@ -73,9 +68,7 @@ fn all_may_be_bare(rows: &Rows, start: usize, end: usize, checked: Checked) -> b
 }
 
 #[inline(always)]
-fn row_may_be_bare(row: &RowRef<'_>, checked: Checked) -> bool
-    ensures { result ≡ false → IsBare row.now → ⊥ }
-{
+fn row_may_be_bare(row: &RowRef<'_>, checked: Checked) -> bool {
     let Some(last) = row.len().checked_sub(1) else {
         return false;
     };
@@ -85,8 +78,7 @@ fn row_may_be_bare(row: &RowRef<'_>, checked: Checked) -> bool
     }
 }
 
-// The column of the first borrowed text in the first of these rows; most others have one there, too. No
-// contract covers it: it only saves time.
+// The column of the first borrowed text in the first of these rows; most others have one there, too.
 #[inline(always)]
 fn borrowed_column(rows: &Rows, start: usize, end: usize) -> Option<usize>
     requires { end ≤ length rows.now }
@@ -112,11 +104,9 @@ fn is_borrowed(cell: CellRef<'_>) -> bool {
     }
 }
 
-// False only if a cell isn't bare; of a text only the last byte is checked.
+// Whether a cell is probably bare; of a text only the last byte is checked.
 #[inline(always)]
-fn cell_may_be_bare(cell: CellRef<'_>) -> bool
-    ensures { result ≡ false → is_bare (value_of cell.entry) ≡ false }
-{
+fn cell_may_be_bare(cell: CellRef<'_>) -> bool {
     match cell {
         CellRef::Null => true,
         // The comparison reads the number. The minimum is left to the CSV writer.
@@ -127,46 +117,16 @@ fn cell_may_be_bare(cell: CellRef<'_>) -> bool
 
 // Whether a field has a last byte, and that byte needs no quotes.
 #[inline(always)]
-fn ends_plainly(field: &[u8]) -> bool
-    ensures { result ≡ false → is_plain field.now ≡ false }
-{
+fn ends_plainly(field: &[u8]) -> bool {
     match field.last() {
         Some(byte) => !needs_byte(*byte),
         None => false,
     }
 }
 
-/// Writes the records of the rows from `start` on, up to `end` or to one that isn't bare or no
-/// longer fits in the buffer. Returns the position after the last that is written.
-pub(crate) fn write_block(
-    text: &mut Vec<u8>,
-    buffer: &mut [u8; CAPACITY],
-    rows: &Rows,
-    start: usize,
-    end: usize,
-) -> Result<usize, AllocError>
-    requires order { start ≤ end }
-    requires within { end ≤ length rows.now }
-    ensures within { IfOk result (λ next. (start ≤ next) × (next ≤ end)) }
-    ensures written { (front : List ℕ) → text.old.items ≡ front ++ records (take start rows.now)
-        → IfOk result (λ next. text.new.items ≡ front ++ records (take next rows.now)) }
-{
-    let mut at = 0;
-    let mut next = start;
-    while next < end {
-        let Some(after) = write_row(buffer, at, &rows.row(next)) else {
-            break;
-        };
-        at = after;
-        next += 1;
-    }
-    text.extend_from_slice(&buffer[..at])?;
-    Ok(next)
-}
-
 // Writes the record of a row at a position of the buffer, and returns the position after it.
 #[inline(always)]
-fn write_row(buffer: &mut [u8; CAPACITY], at: usize, row: &RowRef<'_>) -> Option<usize>
+pub(crate) fn write_row(buffer: &mut [u8; CAPACITY], at: usize, row: &RowRef<'_>) -> Option<usize>
     requires { at ≤ CAPACITY }
     ensures kept { take at buffer.new ≡ take at buffer.old }
     ensures within { IfSome result (λ next. next ≤ CAPACITY) }

@@ -94,8 +94,9 @@ pub(crate) fn is_plain(field: &[u8]) -> bool
     !field.is_empty() && !needs_quotes(field)
 }
 
+/// Whether a byte of a field needs quotes.
 #[inline]
-fn needs_quotes(field: &[u8]) -> bool
+pub(crate) fn needs_quotes(field: &[u8]) -> bool
     ensures { result ≡ needs_quotes default_writer field.now }
 {
     field.iter().any(|byte| needs_byte(*byte))

@@ -7,8 +7,8 @@ use Rattle.gq_row.specs.Limits.{GREATEST}
 use Rattle.gq_token.specs.Texts.{some}
 use Rattle.gq_command.specs.Commands.{Bytes}
 use Rattle.gq_command.specs.Script.{Numbered, numbered_left, without_mark}
-use Rattle.gq_engine.specs.Sending.{AppendsPrefix}
-use Rattle.gq_engine.proofs.Bytes.{appends_more}
+use Rattle.gq_reply.specs.Sending.{AppendsPrefix}
+use Rattle.gq_reply.proofs.Bytes.{appends_more}
 use Rattle.gq_check.specs.declared.report.Report.{Report}
 use Rattle.gq_check.specs.Reports.{Between, Place, Reports, report_text}
 use Rattle.gq_check.proofs.Steps.{end-from, on-from}

@@ -10,7 +10,7 @@ use Rattle.gq_engine.specs.declared.output.Output.TheVariants.{Replies}
 use Rattle.gq_engine.specs.Headline.{State}
 use Rattle.gq_engine.specs.Outputs.{RanAs}
 use Rattle.gq_engine.specs.Runs.{Setting}
-use Rattle.gq_engine.specs.Sending.{AppendsPrefix}
+use Rattle.gq_reply.specs.Sending.{AppendsPrefix}
 use Rattle.gq_shell.specs.Streams.{Stream}
 use Rattle.gq_shell.specs.declared.seeding.RunSeed.{RunSeed}
 use Rattle.gq_shell.specs.declared.seeding.RunSeed.TheVariants.{Given, Drawn}

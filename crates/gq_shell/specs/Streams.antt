@@ -2,7 +2,7 @@
 use Rattle.std.specs.Prelude.{◌≡◌, Option, Result, Ok, Err}
 use Rattle.std.specs.Io.KnownBytes.{Appends}
 use Rattle.gq_command.specs.Commands.{Bytes}
-use Rattle.gq_engine.specs.Sending.{AppendsPrefix}
+use Rattle.gq_reply.specs.Sending.{AppendsPrefix}
 use Rattle.gq_shell.specs.declared.writing.CutShort.{CutShort}
 
 -- one stream's bytes before and after, where they are known

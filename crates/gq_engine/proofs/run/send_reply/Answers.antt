@@ -1,18 +1,8 @@
-use Rattle.std.proofs.Common.{List, ℕ, Result, Ok, Err, subst}
-use Rattle.std.specs.Prelude.{IfErr}
-use Rattle.gq_engine.specs.Sending.{AppendsPrefix}
-use Rattle.gq_engine.specs.declared.sending.WriteFault.{WriteFault}
+use Rattle.std.proofs.Common.{List, ℕ, subst}
+use Rattle.gq_reply.specs.Sending.{AppendsPrefix}
+use Rattle.gq_reply.proofs.Bytes.{of_err, on_err}
 use Rattle.gq_engine.proofs.OutputLemmas.{result_cut, result_prefix}
 use Rattle.gq_engine.proofs.run.send_reply.Goals as goal
-
--- what holds of any result holds of an error
-on_err : {A : Type 0} (P : Type 0) (r : Result A WriteFault) → P → IfErr r (λ _. P)
-on_err P (Ok x) p = tt
-on_err P (Err e) p = p
-
-of_err : {A : Type 0} (P Q : Type 0) (r : Result A WriteFault) → (P → Q) → IfErr r (λ _. P) → IfErr r (λ _. Q)
-of_err P Q (Ok x) f h = tt
-of_err P Q (Err e) f h = f h
 
 pub returns-in_err-send_between-in-Some-clause-err : goal.returns-in_err-send_between-in-Some-clause-err
 returns-in_err-send_between-in-Some-clause-err g c =

@@ -1,7 +1,7 @@
 use Rattle.std.proofs.Common.{◌≡◌, ◌≤◌, ◌+◌, ◌==◌, ◌++◌, ℕ, false, length, drop, take}
 use Rattle.csv.specs.Writing.{default_writer, field_text}
 use Rattle.gq_row.specs.Rows.{cell}
-use Rattle.gq_reply.specs.declared.bare.TheConstants.{CAPACITY}
+use Rattle.gq_reply.specs.declared.buffer.TheConstants.{CAPACITY}
 use Rattle.gq_reply.specs.Replies.{cell_text}
 use Rattle.gq_reply.proofs.BareLemmas.{fields_ended}
 use Rattle.gq_reply.proofs.bare.write_row.Given as goal

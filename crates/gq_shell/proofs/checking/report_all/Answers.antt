@@ -7,7 +7,7 @@ use Rattle.gq_command.specs.Commands.{Bytes}
 use Rattle.gq_command.specs.Script.{numbered_left}
 use Rattle.gq_check.specs.Reports.{Between, Reports}
 use Rattle.gq_check.proofs.Steps.{nothing-between}
-use Rattle.gq_engine.proofs.Bytes.{appends_nothing}
+use Rattle.gq_reply.proofs.Bytes.{appends_nothing}
 use Rattle.gq_shell.proofs.CheckLemmas.{reported-all, reported-cut, reported-prefix, reports-more}
 use Rattle.gq_shell.specs.Checking.{ReportedPrefix, ReportedAs}
 use Rattle.gq_shell.specs.Streams.{Stream}

@@ -1,6 +1,6 @@
 use Rattle.std.proofs.Common.{arith, subst, ℕ, List}
-use Rattle.gq_engine.specs.Sending.{AppendsPrefix}
-use Rattle.gq_engine.proofs.Bytes.{wrote_more, prefix_kept}
+use Rattle.gq_reply.specs.Sending.{AppendsPrefix}
+use Rattle.gq_reply.proofs.Bytes.{wrote_more, prefix_kept}
 use Rattle.gq_shell.proofs.writing.write_text.Goals as goal
 
 pub loop-at-preserved : goal.loop-at-preserved
