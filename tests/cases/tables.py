@@ -53,6 +53,9 @@ LATE = {
 THOUSAND = {f"thousand/{number}.csv": f"i\n{number}\n" for number in range(1, 1001)}
 # More rows than columns that grow by doubling have: numbers, numbers with nulls, and texts of which the last ones are long.
 LONG = {"long.csv": lines("n,m,w", *(f"{n},{n if n % 7 else ''},{'a' if n < 135_000 else 'b' * 30}" for n in range(140_000)))}
+# Numbers on both sides of 32 bits.
+SHORT_NUMBERS, LONG_NUMBERS = range(-70_000, 70_000), range(2**31 - 70_000, 2**31 + 70_000)
+NUMBERS = {"short.csv": lines("n", *SHORT_NUMBERS), "long.csv": lines("n", *LONG_NUMBERS)}
 LONGEST_NAME = "n" * 63
 NAME_WANTED = Contains("write NAME=FILE, with a name of 1 to 63 bytes")
 USED_TWICE = Contains("error: standard input is used twice")
@@ -235,6 +238,19 @@ def several_files() -> list[Case]:
             ["-t", "long.csv", "-c", "group long by w show count(*), sum(n), count(m), sum(m)"],
             stdout=f"ok 2\nw,count(*),sum(n),count(m),sum(m)\na,135000,9112432500,115714,7810675715\n{'b' * 30},5000,687497500,4286,589324285\n",
             files=LONG,
+        ),
+        Case(
+            "numbers of up to 32 bits, and of more",
+            ["-t", "long.csv", "-c", "group long show count(*), sum(n), min(n), max(n)"],
+            stdout=f"ok 1\ncount(*),sum(n),min(n),max(n)\n140000,{sum(LONG_NUMBERS)},{LONG_NUMBERS[0]},{LONG_NUMBERS[-1]}\n",
+            files=NUMBERS,
+        ),
+        Case(
+            "numbers of three files, of which one has more than 32 bits",
+            [*of_tables("m=short.csv", "m=long.csv", "m=short.csv"), "-c", "group m show count(*), sum(n), min(n), max(n)"],
+            stdout="ok 1\ncount(*),sum(n),min(n),max(n)\n"
+            f"420000,{2 * sum(SHORT_NUMBERS) + sum(LONG_NUMBERS)},{SHORT_NUMBERS[0]},{LONG_NUMBERS[-1]}\n",
+            files=NUMBERS,
         ),
         Case(
             "CSV records into a pipe that is closed",
