@@ -10,7 +10,7 @@ use Rattle.gq_cells.specs.declared.row_ref.CellSlice.{CellSlice}
 use Rattle.gq_cells.specs.declared.row_ref.CellSlice.TheVariants as together
 use Rattle.gq_cells.specs.declared.cells.Stored.{Stored}
 use Rattle.gq_cells.specs.Words.{HasText, short_in, word_value}
-use Rattle.gq_cells.specs.declared.cells.Stored.TheVariants.{Numbers, Nullable, Values, Tagged}
+use Rattle.gq_cells.specs.declared.cells.Stored.TheVariants.{Narrow, Numbers, Nullable, Values, Tagged}
 
 -- the value of a number, or null
 abbrev pub number_cell : Option ℤ → Value
@@ -37,6 +37,7 @@ value_of (lent.Text text) = Text (text_of text)
 value_of (lent.NoCase text) = NoCase (text_of text)
 
 abbrev pub cells_of : Stored → List Value
+cells_of (Narrow numbers) = map Int numbers.items
 cells_of (Numbers numbers) = map Int numbers.items
 cells_of (Nullable numbers) = map number_cell numbers.items
 cells_of (Values values) = values.items
@@ -44,6 +45,7 @@ cells_of (Tagged values) = values
 
 -- the values of a borrowed range
 abbrev pub slice_values : CellSlice → List Value
+slice_values (together.Narrow numbers) = map Int numbers.now
 slice_values (together.Numbers numbers) = map Int numbers.now
 slice_values (together.Nullable numbers) = map number_cell numbers.now
 slice_values (together.Values values) = values.now
@@ -51,13 +53,23 @@ slice_values (together.Tagged words overflow) = map (word_value overflow.now) wo
 
 -- each word of a borrowed range has UTF-8 if it is a text
 abbrev pub HaveUtf8 : CellSlice → Type 0
+HaveUtf8 (together.Narrow numbers) = Unit {0}
 HaveUtf8 (together.Numbers numbers) = Unit {0}
 HaveUtf8 (together.Nullable numbers) = Unit {0}
 HaveUtf8 (together.Values values) = Unit {0}
 HaveUtf8 (together.Tagged words overflow) = All HasText words.now
 
+-- values are stored as numbers of 32 bits
+abbrev pub IsNarrow : Stored → Type 0
+IsNarrow (Narrow numbers) = Unit {0}
+IsNarrow (Numbers numbers) = ⊥
+IsNarrow (Nullable numbers) = ⊥
+IsNarrow (Values values) = ⊥
+IsNarrow (Tagged values) = ⊥
+
 -- values are stored as numbers and nulls
 abbrev pub HasNullable : Stored → Type 0
+HasNullable (Narrow numbers) = ⊥
 HasNullable (Numbers numbers) = ⊥
 HasNullable (Nullable numbers) = Unit {0}
 HasNullable (Values values) = ⊥
@@ -65,6 +77,7 @@ HasNullable (Tagged values) = ⊥
 
 -- values are stored as such
 abbrev pub HasValues : Stored → Type 0
+HasValues (Narrow numbers) = ⊥
 HasValues (Numbers numbers) = ⊥
 HasValues (Nullable numbers) = ⊥
 HasValues (Values values) = Unit {0}
@@ -72,6 +85,7 @@ HasValues (Tagged values) = ⊥
 
 -- values are stored in a layout that admits texts
 abbrev pub HasTexts : Stored → Type 0
+HasTexts (Narrow numbers) = ⊥
 HasTexts (Numbers numbers) = ⊥
 HasTexts (Nullable numbers) = ⊥
 HasTexts (Values values) = Unit {0}

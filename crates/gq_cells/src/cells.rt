@@ -9,7 +9,7 @@ ghost use Rattle.gq_cells.specs.Lists.{IsPart, part, row_at};
 use crate::cell_ref::CellRef;
 use crate::cells_left::CellsLeft;
 use crate::keys::KeysLeft;
-use crate::order::{compare_nullable, compare_numbers};
+use crate::order::{compare_narrow, compare_nullable, compare_numbers};
 use crate::row_ref::CellSlice;
 use crate::rows::{RowSpan, Span};
 use crate::tagged_cells::{TaggedCells, word_of};
@@ -21,7 +21,8 @@ use std::mem;
 
 /// A list of values. Each takes eight bytes while all are numbers, or texts of up to seven bytes and nulls; sixteen from
 /// the first null among numbers on; and a [`Value`]'s size from the first other text on. If texts are out of line, each
-/// takes eight bytes then, and those without a word a [`Value`] more.
+/// takes eight bytes then, and those without a word a [`Value`] more. In a list for narrow numbers each takes four bytes
+/// while all are numbers of 32 bits.
 #[derive(Drop)]
 pub struct Cells {
     stored: Stored,
@@ -31,6 +32,7 @@ pub struct Cells {
 
 #[derive(Drop)]
 pub(crate) enum Stored {
+    Narrow(Vec<i32>),
     Numbers(Vec<i64>),
     Nullable(Vec<Option<i64>>),
     Values(Vec<Value>),
@@ -54,6 +56,16 @@ impl Cells {
     {
         Cells {
             stored: Stored::Numbers(Vec::new(alloc)),
+            apart: false,
+        }
+    }
+
+    /// An empty list for narrow numbers: each value takes four bytes while all are numbers of 32 bits. It takes no memory.
+    pub fn with_narrow_numbers(alloc: Global) -> Cells
+        ensures { result ≡ [] }
+    {
+        Cells {
+            stored: Stored::Narrow(Vec::new(alloc)),
             apart: false,
         }
     }
@@ -83,6 +95,10 @@ impl Cells {
         ensures { IfOk result (λ values. values.items ≡ self) }
     {
         match self.stored {
+            Stored::Narrow(numbers) => {
+                let numbers = wide_of(alloc, &numbers)?;
+                values_of(alloc, numbers.as_slice())
+            }
             Stored::Numbers(numbers) => values_of(alloc, numbers.as_slice()),
             Stored::Nullable(numbers) => values_of_nullable(alloc, numbers.as_slice()),
             Stored::Values(values) => Ok(values),
@@ -96,6 +112,7 @@ impl Cells {
         ensures { result ≡ length self.now }
     {
         match &self.stored {
+            Stored::Narrow(numbers) => numbers.len(),
             Stored::Numbers(numbers) => numbers.len(),
             Stored::Nullable(numbers) => numbers.len(),
             Stored::Values(values) => values.len(),
@@ -110,6 +127,7 @@ impl Cells {
         ensures { value_of result ≡ slice_index_or self.now position Null }
     {
         match &self.stored {
+            Stored::Narrow(numbers) => CellRef::Int(i64::from(numbers[position])),
             Stored::Numbers(numbers) => CellRef::Int(numbers[position]),
             Stored::Nullable(numbers) => CellRef::of_number(numbers[position]),
             Stored::Values(values) => CellRef::of(&values[position]),
@@ -125,6 +143,7 @@ impl Cells {
         ensures utf8 { HaveUtf8 result }
     {
         match &self.stored {
+            Stored::Narrow(numbers) => CellSlice::Narrow(&numbers[part.start..part.end]),
             Stored::Numbers(numbers) => CellSlice::Numbers(&numbers[part.start..part.end]),
             Stored::Nullable(numbers) => CellSlice::Nullable(&numbers[part.start..part.end]),
             Stored::Values(values) => CellSlice::Values(&values[part.start..part.end]),
@@ -139,7 +158,7 @@ impl Cells {
     pub(crate) fn have_number_ends(&self, rows: &[RowSpan]) -> bool {
         match &self.stored {
             Stored::Numbers(numbers) => least_end(numbers.as_slice(), rows) > i64::MIN,
-            Stored::Nullable(_) | Stored::Values(_) => false,
+            Stored::Narrow(_) | Stored::Nullable(_) | Stored::Values(_) => false,
             Stored::Tagged(values) => values.have_number_ends(rows),
         }
     }
@@ -148,7 +167,8 @@ impl Cells {
     // contract covers it.
     pub(crate) fn have_texts_apart(&self, rows: &[RowSpan], column: usize) -> bool {
         match &self.stored {
-            Stored::Numbers(_) | Stored::Nullable(_) | Stored::Values(_) => false,
+            Stored::Narrow(_) | Stored::Numbers(_) | Stored::Nullable(_) | Stored::Values(_) =>
+                false,
             Stored::Tagged(values) => values.have_texts_apart(rows, column),
         }
     }
@@ -158,6 +178,7 @@ impl Cells {
         ensures { self.new ≡ self.old }
     {
         match &mut self.stored {
+            Stored::Narrow(numbers) => numbers.reserve(cells),
             Stored::Numbers(numbers) => numbers.reserve(cells),
             Stored::Nullable(numbers) => numbers.reserve(cells),
             Stored::Values(values) => values.reserve(cells),
@@ -178,6 +199,10 @@ impl Cells {
         ensures in_place { IsInPlace (slice_index_or self.now position Null) → IsOk result }
     {
         match &self.stored {
+            Stored::Narrow(numbers) => {
+                over.write_number(i64::from(numbers[position]));
+                Ok(())
+            }
             Stored::Numbers(numbers) => {
                 over.write_number(numbers[position]);
                 Ok(())
@@ -201,6 +226,10 @@ impl Cells {
         ensures in_place { IsInPlace (slice_index_or self.now position Null) → IsOk result }
     {
         match &self.stored {
+            Stored::Narrow(numbers) => {
+                over.write_number(i64::from(numbers[position]));
+                Ok(())
+            }
             Stored::Numbers(numbers) => {
                 over.write_number(numbers[position]);
                 Ok(())
@@ -222,12 +251,24 @@ impl Cells {
     {
         match value {
             Value::Int(n) => match &mut self.stored {
+                Stored::Narrow(numbers) if numbers.len() < numbers.capacity() => {
+                    match i32::try_from(*n) {
+                        Ok(n) => {
+                            numbers.push_reserved(n);
+                            Ok(())
+                        }
+                        Err(_e) => self.push_other(alloc, value),
+                    }
+                }
                 Stored::Numbers(numbers) if numbers.len() < numbers.capacity() => {
                     numbers.push_reserved(*n);
                     Ok(())
                 }
-                Stored::Numbers(_) | Stored::Nullable(_) | Stored::Values(_) | Stored::Tagged(_) =>
-                    self.push_other(alloc, value),
+                Stored::Narrow(_)
+                | Stored::Numbers(_)
+                | Stored::Nullable(_)
+                | Stored::Values(_)
+                | Stored::Tagged(_) => self.push_other(alloc, value),
             },
             Value::Null | Value::Text(_) | Value::NoCase(_) => self.push_other(alloc, value),
         }
@@ -240,6 +281,15 @@ impl Cells {
         ensures unchanged { OnErr result (self.new ≡ self.old) }
     {
         match &mut self.stored {
+            Stored::Narrow(numbers) => match value {
+                Value::Int(n) => match i32::try_from(*n) {
+                    Ok(n) => push_narrow(numbers, n),
+                    Err(_e) => self.stored.push_long(alloc, *n),
+                },
+                Value::Null | Value::Text(_) | Value::NoCase(_) => {
+                    self.stored.push_wide(alloc, self.apart, value)
+                }
+            },
             Stored::Numbers(numbers) => match value {
                 Value::Int(n) => push_number(numbers, *n),
                 Value::Null | Value::Text(_) | Value::NoCase(_) => {
@@ -366,6 +416,9 @@ impl Cells {
         ensures { result ≡ compare_keys (row_at self.now a) (row_at self.now b) }
     {
         match &self.stored {
+            Stored::Narrow(numbers) => {
+                compare_narrow(&numbers[a.start..a.end], &numbers[b.start..b.end])
+            }
             Stored::Numbers(numbers) => {
                 compare_numbers(&numbers[a.start..a.end], &numbers[b.start..b.end])
             }
@@ -384,6 +437,7 @@ impl Cells {
         ensures { self.new ≡ take cells self.old }
     {
         match &mut self.stored {
+            Stored::Narrow(numbers) => numbers.truncate(cells),
             Stored::Numbers(numbers) => numbers.truncate(cells),
             Stored::Nullable(numbers) => numbers.truncate(cells),
             Stored::Values(values) => values.truncate(cells),
@@ -405,7 +459,35 @@ fn least_end(numbers: &[i64], rows: &[RowSpan]) -> i64 {
 }
 
 impl Stored {
-    ghost use Rattle.gq_cells.specs.Cells.{HasNullable, HasTexts, HasValues, cells_of};
+    ghost use Rattle.gq_cells.specs.Cells.{HasNullable, HasTexts, HasValues, IsNarrow, cells_of};
+
+    // Appends a number of more than 32 bits to those of 32 bits.
+    #[cold]
+    fn push_long(&mut self, alloc: Global, number: i64) -> Result<(), AllocError>
+        requires { IsNarrow self.old }
+        ensures pushed { OnOk result (cells_of self.new ≡ cells_of self.old ++ Int number ∷ []) }
+        ensures unchanged { OnErr result (cells_of self.new ≡ cells_of self.old) }
+    {
+        match self {
+            Stored::Narrow(numbers) => {
+                let mut wide = wide_of(alloc, numbers)?;
+                push_number(&mut wide, number)?;
+                *self = Stored::Numbers(wide);
+                Ok(())
+            }
+            _ => unreachable!(),
+        }
+    }
+
+    // Changes the layout to one of numbers of 64 bits, if it is of those of 32.
+    fn admit_long(&mut self, alloc: Global) -> Result<(), AllocError>
+        ensures same { cells_of self.new ≡ cells_of self.old }
+    {
+        if let Stored::Narrow(numbers) = self {
+            *self = Stored::Numbers(wide_of(alloc, numbers)?);
+        }
+        Ok(())
+    }
 
     // Appends a value that the present layout can't store.
     #[cold]
@@ -442,8 +524,15 @@ impl Stored {
         ensures wide { OnOk result (HasNullable self.new) }
         ensures same { cells_of self.new ≡ cells_of self.old }
     {
-        if let Stored::Numbers(numbers) = self {
-            *self = Stored::Nullable(nullable_of(alloc, numbers.as_slice())?);
+        match self {
+            Stored::Narrow(numbers) => {
+                let numbers = wide_of(alloc, numbers)?;
+                *self = Stored::Nullable(nullable_of(alloc, numbers.as_slice())?);
+            }
+            Stored::Numbers(numbers) => {
+                *self = Stored::Nullable(nullable_of(alloc, numbers.as_slice())?);
+            }
+            Stored::Nullable(_) | Stored::Values(_) | Stored::Tagged(_) => {}
         }
         Ok(())
     }
@@ -454,6 +543,10 @@ impl Stored {
         ensures same { cells_of self.new ≡ cells_of self.old }
     {
         match self {
+            Stored::Narrow(numbers) => {
+                let numbers = wide_of(alloc, numbers)?;
+                *self = Stored::Tagged(tagged_of(alloc, numbers.as_slice())?);
+            }
             Stored::Numbers(numbers) => {
                 *self = Stored::Tagged(tagged_of(alloc, numbers.as_slice())?);
             }
@@ -471,6 +564,10 @@ impl Stored {
         ensures same { cells_of self.new ≡ cells_of self.old }
     {
         match self {
+            Stored::Narrow(numbers) => {
+                let numbers = wide_of(alloc, numbers)?;
+                *self = Stored::Values(values_of(alloc, numbers.as_slice())?);
+            }
             Stored::Numbers(numbers) => {
                 *self = Stored::Values(values_of(alloc, numbers.as_slice())?);
             }
@@ -485,9 +582,22 @@ impl Stored {
         Ok(())
     }
 
-    // Appends all of `more`. Numbers, nulls, and words without an overflow stay so; in any other layout all become
-    // `Value`s.
+    // Appends all of `more`. Numbers of 32 bits stay so if all are.
     fn append(&mut self, alloc: Global, more: &mut Stored) -> Result<(), AllocError>
+        ensures appended { OnOk result (cells_of self.new ≡ cells_of self.old ++ cells_of more.old) }
+        ensures unchanged { OnErr result (cells_of self.new ≡ cells_of self.old) }
+    {
+        if let (Stored::Narrow(numbers), Stored::Narrow(behind)) = (&mut *self, &mut *more) {
+            return numbers.append(behind);
+        }
+        more.admit_long(alloc)?;
+        self.admit_long(alloc)?;
+        self.append_wide(alloc, more)
+    }
+
+    // As `append`, where no layout is of numbers of 32 bits. Numbers, nulls, and words without an overflow stay so; in any other
+    // layout all become `Value`s.
+    fn append_wide(&mut self, alloc: Global, more: &mut Stored) -> Result<(), AllocError>
         ensures appended { OnOk result (cells_of self.new ≡ cells_of self.old ++ cells_of more.old) }
         ensures unchanged { OnErr result (cells_of self.new ≡ cells_of self.old) }
     {
@@ -548,6 +658,15 @@ fn number_of(value: &Value) -> Option<Option<i64>>
 }
 
 #[inline]
+fn push_narrow(numbers: &mut Vec<i32>, number: i32) -> Result<(), AllocError>
+    ensures pushed { OnOk result (numbers.new.items ≡ numbers.old.items ++ number ∷ []) }
+    ensures unchanged { OnErr result (numbers.new.items ≡ numbers.old.items) }
+{
+    numbers.push(number)?;
+    Ok(())
+}
+
+#[inline]
 fn push_number(numbers: &mut Vec<i64>, number: i64) -> Result<(), AllocError>
     ensures pushed { OnOk result (numbers.new.items ≡ numbers.old.items ++ number ∷ []) }
     ensures unchanged { OnErr result (numbers.new.items ≡ numbers.old.items) }
@@ -604,6 +723,17 @@ fn push_tagged(
         left.move_to(cells)?;
     }
     Ok(())
+}
+
+// Numbers of 32 bits in 64 bits, with the same capacity.
+fn wide_of(alloc: Global, numbers: &Vec<i32>) -> Result<Vec<i64>, AllocError>
+    ensures { IfOk result (λ wide. wide.items ≡ numbers.now.items) }
+{
+    let mut wide = Vec::with_capacity(alloc, numbers.capacity())?;
+    for number in numbers.as_slice() {
+        wide.push(i64::from(*number))?;
+    }
+    Ok(wide)
 }
 
 // Numbers in the layout that admits null, with capacity for all of them. So are the next four.

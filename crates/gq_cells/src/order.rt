@@ -7,6 +7,13 @@ ghost use Rattle.gq_cells.specs.Cells.{number_cell};
 
 use std::cmp::Ordering;
 
+/// The order of two lists of numbers of 32 bits, as of keys.
+pub(crate) fn compare_narrow(a: &[i32], b: &[i32]) -> Ordering
+    ensures { result ≡ compare_keys (map Int a.now) (map Int b.now) }
+{
+    compare_each(a, b)
+}
+
 /// The order of two lists of numbers, as of keys.
 pub(crate) fn compare_numbers(a: &[i64], b: &[i64]) -> Ordering
     ensures { result ≡ compare_keys (map Int a.now) (map Int b.now) }

@@ -20,6 +20,7 @@ pub struct RowRef<'a> {
 // A range of a list of values, borrowed; the variant says how all of them are stored.
 #[derive(Clone, Copy)]
 pub(crate) enum CellSlice<'a> {
+    Narrow(&'a [i32]),
     Numbers(&'a [i64]),
     Nullable(&'a [Option<i64>]),
     Values(&'a [Value]),
@@ -57,6 +58,7 @@ impl<'a> RowRef<'a> {
         ensures { result ≡ length self.now }
     {
         match self.cells {
+            CellSlice::Narrow(numbers) => numbers.len(),
             CellSlice::Numbers(numbers) => numbers.len(),
             CellSlice::Nullable(numbers) => numbers.len(),
             CellSlice::Values(values) => values.len(),
@@ -78,6 +80,7 @@ impl<'a> RowRef<'a> {
         ensures { value_of result ≡ cell self.now position }
     {
         match self.cells {
+            CellSlice::Narrow(numbers) => CellRef::Int(i64::from(*at(numbers, position))),
             CellSlice::Numbers(numbers) => CellRef::Int(*at(numbers, position)),
             CellSlice::Nullable(numbers) => CellRef::of_number(*at(numbers, position)),
             CellSlice::Values(values) => CellRef::of(at(values, position)),

@@ -13,8 +13,8 @@ use std::marker::Model;
 use std::mem;
 
 /// Rows of one width, seen as the list of rows. Their cells are stored by columns: a row takes no more than its
-/// cells, and a column of numbers, or of texts of up to seven bytes, a quarter of what it takes as values; numbers
-/// with nulls take half.
+/// cells, and a column of numbers of 32 bits an eighth of what it takes as values; one of other numbers, or of texts of
+/// up to seven bytes, a quarter, and of numbers with nulls half.
 #[derive(Drop)]
 pub struct ColumnStore {
     columns: Vec<Cells>,
@@ -210,7 +210,7 @@ fn no_cells(alloc: Global, columns: usize) -> Result<Vec<Cells>, AllocError>
 {
     let mut made = Vec::with_capacity(alloc, columns)?;
     for _ in 0..columns {
-        made.push(Cells::new(alloc))?;
+        made.push(Cells::with_narrow_numbers(alloc))?;
     }
     Ok(made)
 }
